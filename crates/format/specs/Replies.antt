@@ -1,0 +1,56 @@
+-- Replies by number: the refusals, and the values of each answer of the public jobs.
+use Prim.Native.Nat.{ℕ}
+use Rattle.format.specs.declared.Refusal.{Refusal}
+use Rattle.format.specs.declared.Refusal.the-variants as R
+use Rattle.format.specs.declared.ReadAnswer.{ReadAnswer}
+use Rattle.format.specs.declared.ReadAnswer.the-variants as Read
+use Rattle.format.specs.declared.RowAnswer.{RowAnswer}
+use Rattle.format.specs.declared.RowAnswer.the-variants as Row
+use Rattle.format.specs.declared.TidyAnswer.{TidyAnswer}
+use Rattle.format.specs.declared.TidyAnswer.the-variants as Tidy
+
+-- the number of each refusal
+abbrev pub numberOf : Refusal → ℕ
+numberOf R.TooLarge = 1
+numberOf R.CutShort = 2
+numberOf R.UnknownKind = 3
+numberOf R.NotTaken = 4
+numberOf R.WrongPlace = 5
+numberOf R.BadVersion = 6
+numberOf R.BadLength = 7
+numberOf R.BadText = 8
+numberOf R.BadCount = 9
+numberOf R.BadType = 10
+numberOf R.BadValue = 11
+numberOf R.BadId = 12
+numberOf R.NoLibrary = 13
+numberOf R.NoClass = 14
+numberOf R.TooDeep = 15
+numberOf R.NoRoom = 16
+numberOf R.Trailing = 17
+numberOf R.NoRoot = 18
+numberOf R.NoObject = 19
+numberOf R.OutFull = 20
+numberOf R.NoSuchRow = 21
+
+-- what an answer says: 0 or the refusal's number, its place, and the value: how many rows, how long the copy is or would be
+pub record Reply : Type 0 where
+  pub number : ℕ
+  pub place : ℕ
+  pub value : ℕ
+
+abbrev pub reply : ℕ → ℕ → ℕ → Reply
+reply n p v = record { number = n; place = p; value = v }
+
+abbrev pub readReply : ReadAnswer → Reply
+readReply (Read.Accepted rows) = reply 0 0 rows
+readReply (Read.Refused r place) = reply (numberOf r) place 0
+
+abbrev pub rowReply : RowAnswer → Reply
+rowReply Row.HasText = reply 0 0 0
+rowReply Row.NoSuchRow = reply (numberOf R.NoSuchRow) 0 0
+
+abbrev pub tidyReply : TidyAnswer → Reply
+tidyReply (Tidy.Written length) = reply 0 0 length
+tidyReply (Tidy.Refused r place) = reply (numberOf r) place 0
+tidyReply (Tidy.OutFull needed) = reply (numberOf R.OutFull) 0 needed
