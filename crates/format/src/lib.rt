@@ -2,7 +2,9 @@
 // counts, rows, frames, and what the readers of fields answer. The definitions that use them stand in specs/, in the order of the
 // format: replies, numbers, prefix, text, values, types, rows, records, machine, view, contents, grammar, says, tidy.
 ghost use mathlib.Core.Path.{_≡_};
+ghost use lib.ListN.{replicate};
 ghost use Rattle.format.specs.Replies.{numberOf};
+ghost use Rattle.format.specs.Machine.{topLevel};
 
 // ---- replies
 
@@ -174,4 +176,127 @@ pub struct Utf8 {
     pub need: u8,
     pub lo: u8,
     pub hi: u8,
+}
+
+// The lengths of an array: their exact product, and the place after the last.
+pub enum Slots {
+    Product(u32, usize),
+    Fault(Refusal),
+}
+
+// ---- rows
+
+// A row of the table: kind; offset; offset after its own bytes; id; owner, a row number plus 1; first slot filled; link, a row number
+// plus 1; count. While a stream is read the link of a class's row is the place of its type bytes.
+pub struct Row {
+    pub kind: u32,
+    pub offset: u32,
+    pub end: u32,
+    pub id: u32,
+    pub owner: u32,
+    pub slot: u32,
+    pub link: u32,
+    pub count: u32,
+}
+
+// ---- records
+
+// Where a kind byte stands: at the start, at top level, or in a slot that takes strings, objects, or neither.
+pub enum Where {
+    Start,
+    Top,
+    StringSlot,
+    ObjectSlot,
+    ArraySlot,
+}
+
+// What a kind byte says where it stands.
+pub enum Kind {
+    Taken(u8),
+    Wrong(Refusal),
+}
+
+// What a record's fields say: its id, the place after them, its count, how many slots wait to be filled, the type of the first of
+// them, and the link word.
+pub struct Head {
+    pub id: u32,
+    pub end: usize,
+    pub count: u32,
+    pub slots: u32,
+    pub first: Typed,
+    pub link: u32,
+}
+
+pub enum Heading {
+    Fields(Head),
+    Bad(Refusal),
+}
+
+// ---- the machine
+
+// An object that is open: the number of its row plus 1, how many slots it has, how many are left, and the type of the next one. The
+// top level is such a frame too, with no slots.
+pub struct Frame {
+    pub owner: u32,
+    pub count: u32,
+    pub left: u32,
+    pub typed: Typed,
+}
+
+// A null run over slots: the type of the slot after it, or it meets a primitive slot.
+pub enum Passed {
+    Over(Typed),
+    Crossed,
+}
+
+// The reader between two records: the place, how many rows there are, how many frames are saved below the innermost object, and its
+// frame.
+pub struct Reader {
+    pub at: usize,
+    pub rows: usize,
+    pub depth: usize,
+    pub top: Frame,
+}
+
+impl Reader {
+    // A stream has at most so many bytes.
+    pub const LIMIT: usize = 16777216;
+    // So many objects may be open.
+    pub const OPEN: usize = 64;
+    // The rank of a rectangular array.
+    pub const LEAST_RANK: u32 = 2;
+
+    pub const MOST_RANK: u32 = 32;
+    // An array has at most so many slots.
+    pub const MOST_SLOTS: u32 = 2147483647;
+    // The words of the saved frames, six to a frame.
+    pub const WORDS: usize = 384;
+
+    // At the start, with nothing read and nothing open.
+    pub fn fresh() -> Reader
+        ensures { λ r. ⌜ r ≡ record { at = 0; rows = 0; depth = 0; top = topLevel } ⌝ }
+    {
+        Reader {
+            at: 0,
+            rows: 0,
+            depth: 0,
+            top: Frame {
+                owner: 0,
+                count: 0,
+                left: 0,
+                typed: Typed {
+                    slot: SlotType::Object,
+                    types: 0,
+                    infos: 0,
+                },
+            },
+        }
+    }
+
+    // Room for the frames of as many objects as may be open.
+    pub fn frames() -> [u32; Reader::WORDS]
+        ensures { λ r. ⌜ r ≡ replicate 384 0 ⌝ }
+    {
+        [0; Reader::WORDS]
+    }
 }

@@ -1,0 +1,341 @@
+-- The grammar (2.3 to 2.7 as 01 settles them): header, objects and libraries at top level, the end. An object is its record and its slots; a slot
+-- holds what its type allows; the room for nesting falls. Records are data, their bytes come from the encoder; nothing here reads a stream.
+use Prim.Native.Nat.{ℕ, zero, suc, _+_, _*_, _≤_, _<_}
+use mathlib.Core.Path.{_≡_}
+use mathlib.Core.Bool.{Bool, true, false, _||_}
+use mathlib.Core.List.{List, [], _∷_, _++_, map}
+use lib.ListN.{length, getD, take, drop, replicate}
+use lib.Dec.{eqb}
+use Rattle.format.specs.declared.PrimitiveCode.{PrimitiveCode}
+use Rattle.format.specs.declared.PrimitiveCode.the-variants as C
+use Rattle.format.specs.declared.SlotType.{SlotType}
+use Rattle.format.specs.declared.SlotType.the-variants as S
+use Rattle.format.specs.declared.Row.{Row}
+use Rattle.format.specs.Bytes.{pick}
+use Rattle.format.specs.Numbers.{le}
+use Rattle.format.specs.Prefix.{prefixBytes}
+use Rattle.format.specs.Text.{needOf, wellFormed}
+use Rattle.format.specs.Values.{decimal, dateTime, sizeOf}
+use Rattle.format.specs.Types.{positive, isPrimitive}
+use Rattle.format.specs.Rows.{linked}
+use Rattle.format.specs.Contents.{Detail, primitive, text, object, system, class, objects, texts, primitives, Member, slotFor, Rec, header, classById, systemClass, libraryClass, string, array, typedPrimitive, reference, null, nulls, manyNulls, end, library, primitiveArray, objectArray, stringArray, value, enc, encs}
+
+-- ---- fields
+
+-- a name or a text
+pub record Name (t : List ℕ) : Type 0 where
+  pub good : wellFormed t ≡ true
+  pub short : length t < 2147483648
+
+-- the bytes of one value of a code
+pub data Value : PrimitiveCode → List ℕ → Type 0 where
+  number : {c : PrimitiveCode} {v : List ℕ} → 0 < sizeOf c → length v ≡ sizeOf c → Value c v
+  boolean : {b : ℕ} → b ≤ 1 → Value C.Boolean (b ∷ [])
+  scalar : {v : List ℕ} → wellFormed v ≡ true → needOf (getD v 0 0) < 4 → length v ≡ needOf (getD v 0 0) + 1 → Value C.Char v
+  exact : {v : List ℕ} (t : List ℕ) → decimal t ≡ true → length t < 2147483648 → v ≡ prefixBytes (length t) ++ t → Value C.Decimal v
+  moment : {v : List ℕ} → length v ≡ 8 → dateTime (le v) ≡ true → Value C.DateTime v
+
+-- the bytes of n values, one after the other
+pub data Values : PrimitiveCode → ℕ → List ℕ → Type 0 where
+  none : {c : PrimitiveCode} → Values c zero []
+  more : {c : PrimitiveCode} {n : ℕ} {v vs all : List ℕ} → Value c v → Values c n vs → all ≡ v ++ vs → Values c (suc n) all
+
+-- ---- what is known from earlier records
+
+pub data Entry : Type 0 where
+  -- a record of kind 4 or 5, the number of its row plus 1, and the types of its members
+  aClass : (id row : ℕ) (types : List SlotType) → Entry
+  -- any other object
+  another : (id : ℕ) → Entry
+  aLibrary : (id : ℕ) → Entry
+
+-- whether an ObjectId was used
+abbrev pub used : ℕ → List Entry → Bool
+used i [] = false
+used i (aClass j r ts ∷ es) = pick (eqb j i) true (used i es)
+used i (another j ∷ es) = pick (eqb j i) true (used i es)
+used i (aLibrary j ∷ es) = used i es
+
+-- whether a library is known
+abbrev pub known : ℕ → List Entry → Bool
+known i [] = false
+known i (aClass j r ts ∷ es) = known i es
+known i (another j ∷ es) = known i es
+known i (aLibrary j ∷ es) = pick (eqb j i) true (known i es)
+
+-- the class of an ObjectId
+pub data Classed : Type 0 where
+  classed : (row : ℕ) (types : List SlotType) → Classed
+  unknown : Classed
+
+abbrev pub classOf : ℕ → List Entry → Classed
+classOf i [] = unknown
+classOf i (aClass j r ts ∷ es) = pick (eqb j i) (classed r ts) (classOf i es)
+classOf i (another j ∷ es) = classOf i es
+classOf i (aLibrary j ∷ es) = classOf i es
+
+-- an ObjectId of a class, and one of an array or a string
+pub record ClassId (i : ℕ) (es : List Entry) : Type 0 where
+  pub apart : eqb i 0 ≡ false
+  pub bits : i < 4294967296
+  pub fresh : used i es ≡ false
+
+pub record ObjectId (i : ℕ) (es : List Entry) : Type 0 where
+  pub sign : positive i ≡ true
+  pub fresh : used i es ≡ false
+
+-- a LibraryId that is used
+pub record LibraryId (i : ℕ) (es : List Entry) : Type 0 where
+  pub sign : positive i ≡ true
+  pub there : known i es ≡ true
+
+-- ---- types
+
+abbrev pub GoodDetail : List Entry → Detail ℕ → Type 0
+GoodDetail es (primitive c) = Unit {0}
+GoodDetail es text = Unit {0}
+GoodDetail es object = Unit {0}
+GoodDetail es (system n) = Name n
+GoodDetail es (class n l) = Name n × LibraryId l es
+GoodDetail es objects = Unit {0}
+GoodDetail es texts = Unit {0}
+GoodDetail es (primitives c) = Unit {0}
+
+pub data Members (es : List Entry) : List (Member ℕ) → Type 0 where
+  no-more : Members es []
+  member : {m : Member ℕ} {ms : List (Member ℕ)} → Name (m .name) → GoodDetail es (m .type) → Members es ms → Members es (m ∷ ms)
+
+abbrev pub typesOf : List (Member ℕ) → List SlotType
+typesOf [] = []
+typesOf (m ∷ ms) = slotFor (m .type) ∷ typesOf ms
+
+-- a class's name and members
+pub record ClassInfo (es : List Entry) (name : List ℕ) (ms : List (Member ℕ)) : Type 0 where
+  pub named : Name name
+  pub counted : length ms < 2147483648
+  pub members : Members es ms
+
+-- slots that take objects of classes and typed primitives, and slots that take strings
+abbrev pub takesObjects : SlotType → Bool
+takesObjects (S.Primitive c) = false
+takesObjects S.Text = false
+takesObjects S.Object = true
+takesObjects S.SystemClass = true
+takesObjects S.Class = true
+takesObjects S.ObjectArray = false
+takesObjects S.StringArray = false
+takesObjects (S.PrimitiveArray c) = false
+
+abbrev pub takesStrings : SlotType → Bool
+takesStrings (S.Primitive c) = false
+takesStrings S.Text = true
+takesStrings S.Object = true
+takesStrings S.SystemClass = true
+takesStrings S.Class = true
+takesStrings S.ObjectArray = false
+takesStrings S.StringArray = false
+takesStrings (S.PrimitiveArray c) = false
+
+abbrev pub somePrimitive : List SlotType → Bool
+somePrimitive [] = false
+somePrimitive (t ∷ ts) = pick (isPrimitive t) true (somePrimitive ts)
+
+-- ---- lengths
+
+abbrev pub product : List ℕ → ℕ
+product [] = 1
+product (n ∷ ns) = n * product ns
+
+pub data Lengths : List ℕ → Type 0 where
+  no-length : Lengths []
+  length-of : {n : ℕ} {ns : List ℕ} → n < 2147483648 → Lengths ns → Lengths (n ∷ ns)
+
+-- array types 0 and 1 have one length, type 2 has 2 to 32
+pub data Ranked : ℕ → ℕ → Type 0 where
+  single : Ranked 0 1
+  jagged : Ranked 1 1
+  rectangular : {rank : ℕ} → 2 ≤ rank → rank ≤ 32 → Ranked 2 rank
+
+pub record Shape (type : ℕ) (ns : List ℕ) : Type 0 where
+  pub ranked : Ranked type (length ns)
+  pub lengths : Lengths ns
+  pub small : product ns ≤ 2147483647
+
+-- ---- rows
+
+-- what is still to be read: the place, the number of rows before, what is known, the records, and the rows that show them
+pub data Cur : Type 0 where
+  cur : (at row : ℕ) (es : List Entry) (rs : List Rec) (is : List Row) → Cur
+
+abbrev pub size : Rec → ℕ
+size r = length (enc r)
+
+-- the row of a record at a place; the links of references and of the header are made at the end
+abbrev pub rowOf : ℕ → ℕ → Rec → ℕ → ℕ → ℕ → ℕ → ℕ → Row
+rowOf kind at r id own slot link count =
+    record { kind = kind; offset = at; end = at + size r; id = id; owner = own; slot = slot; link = link; count = count }
+
+-- ---- objects and slots
+
+mutual
+  -- an object of a class. room: how many more objects may be open; own and slot: whose slot it fills
+  pub data Object : (room own slot : ℕ) → Cur → Cur → Type 0 where
+    system-class : {room own slot at row i : ℕ} {n : List ℕ} {ms : List (Member ℕ)} {es : List Entry} {rs : List Rec} {it : Row} {is : List Row} {c : Cur}
+        → ClassId i es → ClassInfo es n ms → it ≡ rowOf 4 at (systemClass i n ms) i own slot 0 (length ms)
+        → Body room (suc row) (typesOf ms) (cur (at + size (systemClass i n ms)) (suc row) (es ++ (aClass i (suc row) (typesOf ms) ∷ [])) rs is) c
+        → Object room own slot (cur at row es (systemClass i n ms ∷ rs) (it ∷ is)) c
+    library-class : {room own slot at row i l : ℕ} {n : List ℕ} {ms : List (Member ℕ)} {es : List Entry} {rs : List Rec} {it : Row} {is : List Row} {c : Cur}
+        → ClassId i es → ClassInfo es n ms → LibraryId l es → it ≡ rowOf 5 at (libraryClass i n ms l) i own slot 0 (length ms)
+        → Body room (suc row) (typesOf ms) (cur (at + size (libraryClass i n ms l)) (suc row) (es ++ (aClass i (suc row) (typesOf ms) ∷ [])) rs is) c
+        → Object room own slot (cur at row es (libraryClass i n ms l ∷ rs) (it ∷ is)) c
+    -- of a class that an earlier record of kind 4 or 5 has, which may be open still
+    class-by-id : {room own slot at row i k r : ℕ} {ts : List SlotType} {es : List Entry} {rs : List Rec} {it : Row} {is : List Row} {c : Cur}
+        → ClassId i es → k < 4294967296 → classOf k es ≡ classed r ts → it ≡ rowOf 1 at (classById i k) i own slot r (length ts)
+        → Body room (suc row) ts (cur (at + size (classById i k)) (suc row) (es ++ (another i ∷ [])) rs is) c
+        → Object room own slot (cur at row es (classById i k ∷ rs) (it ∷ is)) c
+
+  -- the slots after an object's record: an object without slots is never open
+  pub data Body : (room row : ℕ) → List SlotType → Cur → Cur → Type 0 where
+    hollow : {room row : ℕ} {c : Cur} → Body room row [] c c
+    filled : {room row : ℕ} {t : SlotType} {ts : List SlotType} {c c₁ : Cur} → Slots room row 0 (t ∷ ts) c c₁ → Body (suc room) row (t ∷ ts) c c₁
+
+  -- slots of these types, from this number on, of the object with this row
+  pub data Slots : (room own slot : ℕ) → List SlotType → Cur → Cur → Type 0 where
+    full : {room own slot : ℕ} {c : Cur} → Slots room own slot [] c c
+    -- a primitive member takes its value at once
+    member-value : {room own slot at row : ℕ} {b : PrimitiveCode} {v : List ℕ} {ts : List SlotType} {es : List Entry} {rs : List Rec} {it : Row} {is : List Row} {c : Cur}
+        → Value b v → it ≡ rowOf 32 at (value v) 0 own slot 0 0
+        → Slots room own (slot + 1) ts (cur (at + length v) (suc row) es rs is) c
+        → Slots room own slot (S.Primitive b ∷ ts) (cur at row es (value v ∷ rs) (it ∷ is)) c
+    an-object : {room own slot : ℕ} {t : SlotType} {ts : List SlotType} {c c₁ c₂ : Cur}
+        → takesObjects t ≡ true → Object room own slot c c₁ → Slots room own (slot + 1) ts c₁ c₂ → Slots room own slot (t ∷ ts) c c₂
+    a-string : {room own slot at row i : ℕ} {x : List ℕ} {t : SlotType} {ts : List SlotType} {es : List Entry} {rs : List Rec} {it : Row} {is : List Row} {c : Cur}
+        → takesStrings t ≡ true → ObjectId i es → Name x → it ≡ rowOf 6 at (string i x) i own slot 0 0
+        → Slots room own (slot + 1) ts (cur (at + size (string i x)) (suc row) (es ++ (another i ∷ [])) rs is) c
+        → Slots room own slot (t ∷ ts) (cur at row es (string i x ∷ rs) (it ∷ is)) c
+    a-typed-primitive : {room own slot at row : ℕ} {b : PrimitiveCode} {v : List ℕ} {t : SlotType} {ts : List SlotType} {es : List Entry} {rs : List Rec} {it : Row} {is : List Row} {c : Cur}
+        → takesObjects t ≡ true → Value b v → it ≡ rowOf 8 at (typedPrimitive b v) 0 own slot 0 0
+        → Slots room own (slot + 1) ts (cur (at + size (typedPrimitive b v)) (suc row) es rs is) c
+        → Slots room own slot (t ∷ ts) (cur at row es (typedPrimitive b v ∷ rs) (it ∷ is)) c
+    -- a reference may name an object anywhere in the stream
+    a-reference : {room own slot at row i : ℕ} {t : SlotType} {ts : List SlotType} {es : List Entry} {rs : List Rec} {it : Row} {is : List Row} {c : Cur}
+        → isPrimitive t ≡ false → positive i ≡ true → it ≡ rowOf 9 at (reference i) i own slot 0 0
+        → Slots room own (slot + 1) ts (cur (at + size (reference i)) (suc row) es rs is) c
+        → Slots room own slot (t ∷ ts) (cur at row es (reference i ∷ rs) (it ∷ is)) c
+    a-null : {room own slot at row : ℕ} {t : SlotType} {ts : List SlotType} {es : List Entry} {rs : List Rec} {it : Row} {is : List Row} {c : Cur}
+        → isPrimitive t ≡ false → it ≡ rowOf 10 at null 0 own slot 0 1
+        → Slots room own (slot + 1) ts (cur (at + 1) (suc row) es rs is) c
+        → Slots room own slot (t ∷ ts) (cur at row es (null ∷ rs) (it ∷ is)) c
+    -- a null run fills slots of this object, none of them primitive; a run of 0 fills none
+    a-run : {room own slot at row k : ℕ} {t : SlotType} {ts us : List SlotType} {es : List Entry} {rs : List Rec} {it : Row} {is : List Row} {c : Cur}
+        → isPrimitive t ≡ false → k < 256 → k ≤ length (t ∷ ts) → somePrimitive (take k (t ∷ ts)) ≡ false → us ≡ drop k (t ∷ ts)
+        → it ≡ rowOf 13 at (nulls k) 0 own slot 0 k
+        → Slots room own (slot + k) us (cur (at + 2) (suc row) es rs is) c
+        → Slots room own slot (t ∷ ts) (cur at row es (nulls k ∷ rs) (it ∷ is)) c
+    a-long-run : {room own slot at row k : ℕ} {t : SlotType} {ts us : List SlotType} {es : List Entry} {rs : List Rec} {it : Row} {is : List Row} {c : Cur}
+        → isPrimitive t ≡ false → positive k ≡ true → k ≤ length (t ∷ ts) → somePrimitive (take k (t ∷ ts)) ≡ false → us ≡ drop k (t ∷ ts)
+        → it ≡ rowOf 14 at (manyNulls k) 0 own slot 0 k
+        → Slots room own (slot + k) us (cur (at + size (manyNulls k)) (suc row) es rs is) c
+        → Slots room own slot (t ∷ ts) (cur at row es (manyNulls k ∷ rs) (it ∷ is)) c
+    -- a library stands wherever a kind byte is expected
+    a-library : {room own slot at row i : ℕ} {n : List ℕ} {t : SlotType} {ts : List SlotType} {es : List Entry} {rs : List Rec} {it : Row} {is : List Row} {c : Cur}
+        → isPrimitive t ≡ false → positive i ≡ true → known i es ≡ false → Name n → it ≡ rowOf 12 at (library i n) i 0 0 0 0
+        → Slots room own slot (t ∷ ts) (cur (at + size (library i n)) (suc row) (es ++ (aLibrary i ∷ [])) rs is) c
+        → Slots room own slot (t ∷ ts) (cur at row es (library i n ∷ rs) (it ∷ is)) c
+
+-- ---- the top level: objects, arrays, strings and libraries, then the end and nothing after it
+
+-- an array's record: the types of its slots, or its items inside it
+pub data Array (es : List Entry) : Rec → (kind id count : ℕ) → List SlotType → Type 0 where
+  of-objects : {i n : ℕ} → n < 2147483648 → Array es (objectArray i n) 16 i n (replicate n S.Object)
+  of-strings : {i n : ℕ} → n < 2147483648 → Array es (stringArray i n) 17 i n (replicate n S.Text)
+  of-primitives : {i n : ℕ} {b : PrimitiveCode} {vs : List ℕ} → n < 2147483648 → Values b n vs → Array es (primitiveArray i n b vs) 15 i n []
+  of-any : {i type n : ℕ} {ns : List ℕ} {d : Detail ℕ} {ts : List SlotType}
+      → Shape type ns → n ≡ product ns → GoodDetail es d → isPrimitive (slotFor d) ≡ false → ts ≡ replicate n (slotFor d)
+      → Array es (array i type ns d []) 7 i n ts
+  of-values : {i type n : ℕ} {ns : List ℕ} {b : PrimitiveCode} {vs : List ℕ}
+      → Shape type ns → n ≡ product ns → Values b n vs → Array es (array i type ns (primitive b) vs) 7 i n []
+
+pub data Objects : Cur → Type 0 where
+  the-end : {at row : ℕ} {es : List Entry} {it : Row} → it ≡ rowOf 11 at end 0 0 0 0 0 → Objects (cur at row es (end ∷ []) (it ∷ []))
+  one-object : {c c₁ : Cur} → Object 64 0 0 c c₁ → Objects c₁ → Objects c
+  one-string : {at row i : ℕ} {x : List ℕ} {es : List Entry} {rs : List Rec} {it : Row} {is : List Row}
+      → ObjectId i es → Name x → it ≡ rowOf 6 at (string i x) i 0 0 0 0
+      → Objects (cur (at + size (string i x)) (suc row) (es ++ (another i ∷ [])) rs is)
+      → Objects (cur at row es (string i x ∷ rs) (it ∷ is))
+  one-array : {at row kind i n : ℕ} {r : Rec} {ts : List SlotType} {es : List Entry} {rs : List Rec} {it : Row} {is : List Row} {c : Cur}
+      → ObjectId i es → Array es r kind i n ts → it ≡ rowOf kind at r i 0 0 0 n
+      → Body 64 (suc row) ts (cur (at + size r) (suc row) (es ++ (another i ∷ [])) rs is) c
+      → Objects c → Objects (cur at row es (r ∷ rs) (it ∷ is))
+  one-library : {at row i : ℕ} {n : List ℕ} {es : List Entry} {rs : List Rec} {it : Row} {is : List Row}
+      → positive i ≡ true → known i es ≡ false → Name n → it ≡ rowOf 12 at (library i n) i 0 0 0 0
+      → Objects (cur (at + size (library i n)) (suc row) (es ++ (aLibrary i ∷ [])) rs is)
+      → Objects (cur at row es (library i n ∷ rs) (it ∷ is))
+
+-- ---- the whole stream
+
+-- the ObjectIds of records, and the IdRefs
+abbrev pub idOf : Rec → List ℕ
+idOf (header r h) = []
+idOf (classById i k) = i ∷ []
+idOf (systemClass i n ms) = i ∷ []
+idOf (libraryClass i n ms l) = i ∷ []
+idOf (string i x) = i ∷ []
+idOf (array i t ns d vs) = i ∷ []
+idOf (typedPrimitive b v) = []
+idOf (reference i) = []
+idOf null = []
+idOf (nulls k) = []
+idOf (manyNulls k) = []
+idOf end = []
+idOf (library i n) = []
+idOf (primitiveArray i n b vs) = i ∷ []
+idOf (objectArray i n) = i ∷ []
+idOf (stringArray i n) = i ∷ []
+idOf (value v) = []
+
+abbrev pub refOf : Rec → List ℕ
+refOf (header r h) = []
+refOf (classById i k) = []
+refOf (systemClass i n ms) = []
+refOf (libraryClass i n ms l) = []
+refOf (string i x) = []
+refOf (array i t ns d vs) = []
+refOf (typedPrimitive b v) = []
+refOf (reference i) = i ∷ []
+refOf null = []
+refOf (nulls k) = []
+refOf (manyNulls k) = []
+refOf end = []
+refOf (library i n) = []
+refOf (primitiveArray i n b vs) = []
+refOf (objectArray i n) = []
+refOf (stringArray i n) = []
+refOf (value v) = []
+
+abbrev pub idsOf : List Rec → List ℕ
+idsOf [] = []
+idsOf (r ∷ rs) = idOf r ++ idsOf rs
+
+abbrev pub refsOf : List Rec → List ℕ
+refsOf [] = []
+refsOf (r ∷ rs) = refOf r ++ refsOf rs
+
+abbrev pub among : ℕ → List ℕ → Bool
+among i [] = false
+among i (j ∷ js) = eqb i j || among i js
+
+-- a reading of a stream, with the rows that show it
+pub record Reading (s : List ℕ) (rows : List Row) : Type 0 where
+  pub root : ℕ
+  pub header-id : ℕ
+  pub rs : List Rec
+  pub is : List Row
+  pub root-bits : root < 4294967296
+  pub header-bits : header-id < 4294967296
+  pub bytes-are : s ≡ enc (header root header-id) ++ encs rs
+  pub small : length s ≤ 16777216
+  pub objects-are : Objects (cur 17 1 [] rs is)
+  pub rooted : among root (idsOf rs) ≡ true
+  pub targets : (i : ℕ) → among i (refsOf rs) ≡ true → among i (idsOf rs) ≡ true
+  pub rows-are : rows ≡ linked (rowOf 0 0 (header root header-id) root 0 0 0 0 ∷ is)
