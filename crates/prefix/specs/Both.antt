@@ -2,33 +2,33 @@
 -- what the reader takes is what the writer writes.
 use Prim.Native.Nat.{ℕ, zero, suc, _+_, _-_, _*_, _/_, _%_, _^_, _≤_, _<_}
 use mathlib.Core.Path.{_≡_, refl, ap, ap₂, _∙_}
-use mathlib.Core.List.{List, [], _∷_, _++_}
+use mathlib.Core.List.{List, _∷_, _++_}
 use native.Mathlib.Omega.{arith}
 use native.Mathlib.Nat.{pow-suc}
 use native.Mathlib.Numerals.{add-one}
 use native.Mathlib.Decide.{decLt}
-use lib.ListN.{length, getD, take, drop, length-append, length-drop}
+use lib.ListN.{length, getD, drop, length-append, length-drop}
 use lib.Seq.{drop-cons, take-at}
 use Rattle.format.specs.declared.Prefix.the-variants as P
 use Rattle.format.specs.Bytes.{part}
 use Rattle.format.specs.Prefix.{prefixIn, prefixAt, groupsOf, prefixBytes}
-use Rattle.prefix.specs.Laws.{every, moves, fifth, last, more}
+use Rattle.prefix.specs.Laws.{One, On, every, moves, fifth, last, more}
 use Rattle.prefix.specs.Groups.{groups-last, groups-more}
 
 -- what stands at p, where the rest of the stream from p is known
-record Head (s : List ℕ) (p b : ℕ) (l : List ℕ) : Type 0 where
-  inside : p < length s
-  byte : getD s p 0 ≡ b
-  rest : drop (p + 1) s ≡ l
+pub record Head (s : List ℕ) (p b : ℕ) (l : List ℕ) : Type 0 where
+  pub inside : p < length s
+  pub byte : getD s p 0 ≡ b
+  pub rest : drop (p + 1) s ≡ l
 
-head-at : (s : List ℕ) (p b : ℕ) (l : List ℕ) → drop p s ≡ b ∷ l → Head s p b l
+pub head-at : (s : List ℕ) (p b : ℕ) (l : List ℕ) → drop p s ≡ b ∷ l → Head s p b l
 head-at s p b l e =
     let h : p < length s = omega (arith, simp length-drop at (ap length e)) in
     let d = drop-cons s p 0 h in
     record { inside = h; byte = cc; rest = rw add-one (cc) }
 
 -- ---- only the bytes that are taken
-part-cons : (s : List ℕ) (p e : ℕ) → p < length s → p < e → part s p (e - p) ≡ getD s p 0 ∷ part s (p + 1) (e - (p + 1))
+pub part-cons : (s : List ℕ) (p e : ℕ) → p < length s → p < e → part s p (e - p) ≡ getD s p 0 ∷ part s (p + 1) (e - (p + 1))
 part-cons s p e i h =
     let d : e - p ≡ suc (e - (p + 1)) = omega arith in
     rw (d, drop-cons s p 0 i, add-one p)
@@ -42,7 +42,7 @@ module _ (s t rest : List ℕ) where
   stands : (p e q : ℕ) → p < length s → p < e → drop q t ≡ part s p (e - p) ++ rest → Head t q (getD s p 0) (part s (p + 1) (e - (p + 1)) ++ rest)
   stands p e q i h d = head-at t q (getD s p 0) (part s (p + 1) (e - (p + 1)) ++ rest) (d ∙ rw (part-cons s p e i h))
 
-  alike-one : (k least p : ℕ) → p < length s → least ≤ getD s p 0 → getD s p 0 < 128 → (k ≡ 0 → getD s p 0 < 8) → Alike k least p (getD s p 0) (p + 1)
+  alike-one : One s Alike
   alike-one k least p i l h f = record { after = omega arith; same = λ q d. go k f q (stands p (p + 1) q i (omega arith) d) }
     where
       go : (k : ℕ) → (k ≡ 0 → getD s p 0 < 8) → (q : ℕ) → Head t q (getD s p 0) (part s (p + 1) (p + 1 - (p + 1)) ++ rest)
@@ -52,7 +52,7 @@ module _ (s t rest : List ℕ) where
       go (suc k) f q b =
           last least t q (b .inside) (rw (b .byte) l) (suc k) (omega arith) (rw (b .byte) h) ∙ ap₂ P.Length (b .byte) (omega arith)
 
-  alike-on : (k least p m e : ℕ) → p < length s → least ≤ getD s p 0 → 128 ≤ getD s p 0 → Alike k 1 (p + 1) m e → Alike (suc k) least p (getD s p 0 % 128 + 128 * m) e
+  alike-on : On s Alike
   alike-on k least p m e i l h a = record { after = omega (arith, a .after); same = go }
     where
       go : (q : ℕ) → drop q t ≡ part s p (e - p) ++ rest → prefixIn (suc k) least t q ≡ P.Length (getD s p 0 % 128 + 128 * m) (q + (e - p))
@@ -111,10 +111,10 @@ module _ (s : List ℕ) (byte : (i : ℕ) → getD s i 0 < 256) where
     enough : least ≤ 1 → least ≤ n
     bytes : drop p s ≡ groupsOf k n ++ drop e s
 
-  took-one : (k least p : ℕ) → p < length s → least ≤ getD s p 0 → getD s p 0 < 128 → (k ≡ 0 → getD s p 0 < 8) → Took k least p (getD s p 0) (p + 1)
+  took-one : One s Took
   took-one k least p i l h f = record { enough = λ u. l; bytes = rw (drop-cons s p 0 i, ← add-one p, groups-last k (getD s p 0) h) }
 
-  took-on : (k least p m e : ℕ) → p < length s → least ≤ getD s p 0 → 128 ≤ getD s p 0 → Took k 1 (p + 1) m e → Took (suc k) least p (getD s p 0 % 128 + 128 * m) e
+  took-on : On s Took
   took-on k least p m e i l h t =
       let n = getD s p 0 % 128 + 128 * m in
       let u = t .enough (omega arith) in

@@ -66,47 +66,56 @@ holds-onto : (A B : ℕ → ℕ → Type 0) (g : ℕ) (r : Prefix) → ((m e : �
 holds-onto A B g (P.Length m e) f a = f m e a
 holds-onto A B g (P.Fault x) f a = tt
 
--- Q speaks of k, least, the place, the number and the place after it: it holds if it does for a last group, and for a group before
--- those it holds for.
-module _ (s : List ℕ) (Q : ℕ → ℕ → ℕ → ℕ → ℕ → Type 0)
-    (one : (k least p : ℕ) → p < length s → least ≤ getD s p 0 → getD s p 0 < 128 → (k ≡ 0 → getD s p 0 < 8) → Q k least p (getD s p 0) (p + 1))
-    (on : (k least p m e : ℕ) → p < length s → least ≤ getD s p 0 → 128 ≤ getD s p 0 → Q k 1 (p + 1) m e → Q (suc k) least p (getD s p 0 % 128 + 128 * m) e)
-  where
-    pub every : (k least p : ℕ) → Holds (Q k least p) (prefixIn k least s p)
-    unfolding prefixIn
-    every zero least p =
-        let H = Holds (Q 0 least p) in
-        cases H (ltb p (length s))
-        (λ i. cases H (leb least (getD s p 0))
-        (λ l. cases H (ltb (getD s p 0) 8)
-        (λ h.
-        let b = ltb-true (getD s p 0) 8 h in
-        one 0 least p (ltb-true p (length s) i) (leb-true least (getD s p 0) l) (omega arith) (λ z. b))
-        (λ h. tt))
-        (λ l. tt))
-        (λ i. tt)
-    every (suc k) least p =
-        let H = Holds (Q (suc k) least p) in
-        cases H (ltb p (length s))
-        (λ i. cases H (leb least (getD s p 0))
-        (λ l. cases H (ltb (getD s p 0) 128)
-        (λ h. one (suc k) least p (ltb-true p (length s) i) (leb-true least (getD s p 0) l) (ltb-true (getD s p 0) 128 h) (λ z. absurd (omega arith)))
-        (λ h.
-        holds-onto (Q k 1 (p + 1)) (Q (suc k) least p) (getD s p 0 % 128) (prefixIn k 1 s (p + 1))
-        (λ m e. on k least p m e (ltb-true p (length s) i) (leb-true least (getD s p 0) l) (ltb-false (getD s p 0) 128 h))
-        (every k 1 (p + 1))))
-        (λ l. tt))
-        (λ i. tt)
+-- Q speaks of k, least, the place, the number and the place after it. It holds for a last group:
+abbrev pub One : List ℕ → (ℕ → ℕ → ℕ → ℕ → ℕ → Type 0) → Type 0
+One s Q = (k least p : ℕ) → p < length s → least ≤ getD s p 0 → getD s p 0 < 128 → (k ≡ 0 → getD s p 0 < 8) → Q k least p (getD s p 0) (p + 1)
+
+-- and for a group before those that it holds for:
+abbrev pub On : List ℕ → (ℕ → ℕ → ℕ → ℕ → ℕ → Type 0) → Type 0
+On s Q =
+    (k least p m e : ℕ) → p < length s → least ≤ getD s p 0 → 128 ≤ getD s p 0 → Q k 1 (p + 1) m e
+    → Q (suc k) least p (getD s p 0 % 128 + 128 * m) e
+
+-- then for every number that is read.
+module _ (s : List ℕ) (Q : ℕ → ℕ → ℕ → ℕ → ℕ → Type 0) (one : One s Q) (on : On s Q) where
+  pub every : (k least p : ℕ) → Holds (Q k least p) (prefixIn k least s p)
+  unfolding prefixIn
+  every zero least p =
+      let H = Holds (Q 0 least p) in
+      cases H (ltb p (length s))
+      (λ i. cases H (leb least (getD s p 0))
+      (λ l. cases H (ltb (getD s p 0) 8)
+      (λ h.
+      let b = ltb-true (getD s p 0) 8 h in
+      one 0 least p (ltb-true p (length s) i) (leb-true least (getD s p 0) l) (omega arith) (λ z. b))
+      (λ h. tt))
+      (λ l. tt))
+      (λ i. tt)
+  every (suc k) least p =
+      let H = Holds (Q (suc k) least p) in
+      cases H (ltb p (length s))
+      (λ i. cases H (leb least (getD s p 0))
+      (λ l. cases H (ltb (getD s p 0) 128)
+      (λ h. one (suc k) least p (ltb-true p (length s) i) (leb-true least (getD s p 0) l) (ltb-true (getD s p 0) 128 h) (λ z. absurd (omega arith)))
+      (λ h.
+      holds-onto (Q k 1 (p + 1)) (Q (suc k) least p) (getD s p 0 % 128) (prefixIn k 1 s (p + 1))
+      (λ m e. on k least p m e (ltb-true p (length s) i) (leb-true least (getD s p 0) l) (ltb-false (getD s p 0) 128 h))
+      (every k 1 (p + 1))))
+      (λ l. tt))
+      (λ i. tt)
 
 -- ---- the number: with k bytes after the first it is below 8 * 128 ^ k
 pub bounded : (k least : ℕ) (s : List ℕ) (p : ℕ) → Holds (λ n e. n < 8 * 128 ^ k) (prefixIn k least s p)
-bounded k least s p = every s (λ k least p n e. n < 8 * 128 ^ k) one on k least p
+bounded k least s p = every s Q one on k least p
   where
-    one : (k least p : ℕ) → p < length s → least ≤ getD s p 0 → getD s p 0 < 128 → (k ≡ 0 → getD s p 0 < 8) → getD s p 0 < 8 * 128 ^ k
+    Q : ℕ → ℕ → ℕ → ℕ → ℕ → Type 0
+    Q k least p n e = n < 8 * 128 ^ k
+
+    one : One s Q
     one zero least p i l h f = f refl
     one (suc k) least p i l h f = rw pow-suc (omega (arith, one-le-pow k 128 (omega arith)))
 
-    on : (k least p m e : ℕ) → p < length s → least ≤ getD s p 0 → 128 ≤ getD s p 0 → m < 8 * 128 ^ k → getD s p 0 % 128 + 128 * m < 8 * 128 ^ suc k
+    on : On s Q
     on k least p m e i l h b = rw pow-suc (omega arith)
 
 -- the number is below m, where there is one
