@@ -1,74 +1,99 @@
--- Tables of worked examples: a stream, a table size in words, an output size, and what must come, as numbers. The fact that no entry fails is
--- computed; where one fails, the refusal names it.
-use Prim.Native.Nat.{ℕ, zero, suc, _+_, _-_, _/_}
+-- Tables of worked examples: a stream, the sizes of the lent table and output, and what must come of reading and tidying. That no entry fails is
+-- one computed fact; where one fails, the refusal of that fact names it.
+use Prim.Native.Nat.{ℕ, zero, suc, _-_, _/_, _%_}
 use mathlib.Core.Bool.{Bool, true, false, _&&_}
 use mathlib.Core.List.{List, [], _∷_, _++_}
-use lib.ListN.{length, take, replicate}
+use lib.ListN.{length, replicate}
 use lib.Dec.{eqb}
-use Rattle.format.specs.Bytes.{pick, sameBytes}
-use Rattle.format.specs.Replies.{Reply, readReply, tidyReply}
-use Rattle.format.specs.Machine.{Outcome, accepted, refused, readOf, readAnswer, tableWords}
+use Rattle.format.specs.Bytes.{pick, sameBytes, laid}
+use Rattle.format.specs.Replies.{Reply, reply, readReply, tidyReply}
+use Rattle.format.specs.Machine.{Outcome, readOf, readAnswer, tableWords}
 use Rattle.format.specs.Tidy.{tidyAnswer, tidyOutput, tidyTable}
+
+-- n bytes, written as one number in base 16
+unfoldable pub hexOnto : ℕ → ℕ → List ℕ → List ℕ
+hexOnto zero x l = l
+hexOnto (suc n) x l = hexOnto n (x / 256) ((x % 256) ∷ l)
+
+abbrev pub hex : ℕ → ℕ → List ℕ
+hex n x = hexOnto n x []
+
+pub data ToRead : Type 0 where
+  accepts : (words : List ℕ) → ToRead
+  refuses : (number place : ℕ) → ToRead
+
+pub data ToTidy : Type 0 where
+  writes : (copy : List ℕ) → ToTidy
+  -- the reading is refused
+  as-read : ToTidy
+  -- number 20, with the needed length
+  needs : (length : ℕ) → ToTidy
+  -- runs too long to be spread
+  uncomputed : ToTidy
 
 pub record Example : Type 0 where
   pub stream : List ℕ
   pub words : ℕ
   pub out : ℕ
-  -- accepted: 0, how many rows, their words; refused: 1, number, place
-  pub read : List ℕ
-  -- written: 0, the length, the copy; refused: 1, number, place, the needed length or 0. Empty where it is not computed
-  pub tidy : List ℕ
+  pub read : ToRead
+  pub tidy : ToTidy
 
-abbrev pub entry : List ℕ → ℕ → ℕ → List ℕ → List ℕ → Example
+abbrev pub entry : List ℕ → ℕ → ℕ → ToRead → ToTidy → Example
 entry s n o r t = record { stream = s; words = n; out = o; read = r; tidy = t }
 
--- a reply, and what comes with it
-abbrev pub shown : Reply → List ℕ → List ℕ
-shown r with = pick (eqb (r .number) 0) (0 ∷ r .value ∷ with) (1 ∷ r .number ∷ r .place ∷ r .value ∷ [])
+abbrev pub sameReply : Reply → Reply → Bool
+sameReply a b = eqb (a .number) (b .number) && (eqb (a .place) (b .place) && eqb (a .value) (b .value))
 
--- every word of a table of this size: the rows' and zeros after them, or all zeros
-abbrev pub wordsHold : ℕ → List ℕ → List ℕ → Bool
-wordsHold n table [] = false
-wordsHold n table (zero ∷ []) = false
-wordsHold n table (zero ∷ rows ∷ ws) = sameBytes table (ws ++ replicate (n - length ws) 0)
-wordsHold n table (suc k ∷ l) = sameBytes table (replicate n 0)
+-- the reply and every word of the table after reading
+abbrev pub readReplyOf : ToRead → Reply
+readReplyOf (accepts ws) = reply 0 0 (length ws / 8)
+readReplyOf (refuses n p) = reply n p 0
 
--- the reply alone: number, place and value
-abbrev pub answerPart : List ℕ → List ℕ
-answerPart [] = []
-answerPart (zero ∷ []) = []
-answerPart (zero ∷ rows ∷ ws) = 0 ∷ rows ∷ []
-answerPart (suc k ∷ l) = take 4 ((suc k ∷ l) ++ (0 ∷ []))
+abbrev pub wordsOf : ℕ → ToRead → List ℕ
+wordsOf n (accepts ws) = ws ++ replicate (n - length ws) 0
+wordsOf n (refuses k p) = replicate n 0
 
 abbrev pub readHolds : Example → Outcome → Bool
-readHolds e o = sameBytes (shown (readReply (readAnswer o)) []) (answerPart (e .read)) && wordsHold (e .words) (tableWords (e .words) o) (e .read)
+readHolds e o = sameReply (readReply (readAnswer o)) (readReplyOf (e .read)) && sameBytes (tableWords (e .words) o) (wordsOf (e .words) (e .read))
 
--- the output was full of 170 before
+-- the reply, every byte of the output and every word of the table after tidying; the output was full of AA before
 abbrev pub before : Example → List ℕ
-before e = replicate (e .out) 170
+before e = replicate (e .out) 0xAA
 
-abbrev pub outputHolds : List ℕ → List ℕ → List ℕ → Bool
-outputHolds given left [] = false
-outputHolds given left (zero ∷ []) = false
-outputHolds given left (zero ∷ n ∷ copy) = sameBytes left (copy ++ replicate (length given - n) 170)
-outputHolds given left (suc k ∷ l) = sameBytes left given
+abbrev pub tidyReplyOf : Example → ToTidy → Reply
+tidyReplyOf e (writes c) = reply 0 0 (length c)
+tidyReplyOf e as-read = readReplyOf (e .read)
+tidyReplyOf e (needs n) = reply 20 0 n
+tidyReplyOf e uncomputed = reply 0 0 0
 
-abbrev pub tableHolds : Example → List ℕ → List ℕ → Bool
-tableHolds e table [] = false
-tableHolds e table (zero ∷ l) = wordsHold (e .words) table (e .read)
-tableHolds e table (suc k ∷ l) = sameBytes table (replicate (e .words) 0)
+abbrev pub outputOf : Example → ToTidy → List ℕ
+outputOf e (writes c) = laid c (before e)
+outputOf e as-read = before e
+outputOf e (needs n) = before e
+outputOf e uncomputed = []
 
-abbrev pub tidyHolds : Example → Outcome → List ℕ → Bool
-tidyHolds e o [] = true
-tidyHolds e o (k ∷ l) =
-    sameBytes (shown (tidyReply (tidyAnswer (e .stream) (before e) o)) []) (answerPart (k ∷ l))
-    && (outputHolds (before e) (tidyOutput (e .stream) (before e) o) (k ∷ l) && tableHolds e (tidyTable (e .words) (e .stream) (before e) o) (k ∷ l))
+abbrev pub tableOf : Example → ToTidy → List ℕ
+tableOf e (writes c) = wordsOf (e .words) (e .read)
+tableOf e as-read = replicate (e .words) 0
+tableOf e (needs n) = replicate (e .words) 0
+tableOf e uncomputed = []
 
-abbrev pub outcomeHolds : Example → Outcome → Bool
-outcomeHolds e o = readHolds e o && tidyHolds e o (e .tidy)
+abbrev pub tidyAs : Example → Outcome → ToTidy → Bool
+tidyAs e o t =
+    sameReply (tidyReply (tidyAnswer (e .stream) (before e) o)) (tidyReplyOf e t)
+    && (sameBytes (tidyOutput (e .stream) (before e) o) (outputOf e t) && sameBytes (tidyTable (e .words) (e .stream) (before e) o) (tableOf e t))
+
+abbrev pub tidyHolds : Example → Outcome → ToTidy → Bool
+tidyHolds e o (writes c) = tidyAs e o (writes c)
+tidyHolds e o as-read = tidyAs e o as-read
+tidyHolds e o (needs n) = tidyAs e o (needs n)
+tidyHolds e o uncomputed = true
+
+abbrev pub bothHold : Example → Outcome → Bool
+bothHold e o = readHolds e o && tidyHolds e o (e .tidy)
 
 unfoldable pub holds : Example → Bool
-holds e = outcomeHolds e (readOf (e .stream) (e .words / 8))
+holds e = bothHold e (readOf (e .stream) (e .words / 8))
 
 -- the numbers, from k on, of the entries that fail
 unfoldable pub failing : ℕ → List Example → List ℕ

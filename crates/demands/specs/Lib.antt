@@ -1,0 +1,2 @@
+-- What a user can be taught to trust.
+pub mod CounterExamples

@@ -1,0 +1,2 @@
+// The demands as theorems about the definitions that the promises cite. They stand in specs/.
+pub fn nothing() {}

@@ -1,0 +1,2 @@
+// The definitions, computed on streams whose outcomes an independent reader and tidier computed (tests/). The facts stand in specs/.
+pub fn nothing() {}

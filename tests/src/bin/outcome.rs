@@ -1,0 +1,141 @@
+//! Prints what the listing program prints for standard input or for each file
+//! named; with `--tidy` also the tidy copy in hex; with `--corpus DIR` holds a
+//! folder of lists against its expected.tsv.
+
+use independent_reader::{read, tidy, Refusal};
+use std::io::Read;
+use std::path::Path;
+use std::process::ExitCode;
+
+const LISTING_BYTES: usize = 65_535;
+const LISTING_ROWS: usize = 1_024;
+const TIDY_ROWS: usize = 1_048_576;
+const TIDY_BYTES: usize = 16_777_216;
+
+fn main() -> ExitCode {
+    let mut arguments: Vec<String> = std::env::args().skip(1).collect();
+    if arguments.first().is_some_and(|first| first == "--corpus") {
+        return match arguments.get(1) {
+            Some(folder) => corpus(Path::new(folder)),
+            None => fail("--corpus needs a folder"),
+        };
+    }
+    let with_tidy = arguments.iter().any(|argument| argument == "--tidy");
+    arguments.retain(|argument| argument != "--tidy");
+    if arguments.is_empty() {
+        let mut stream = Vec::new();
+        return match std::io::stdin().read_to_end(&mut stream) {
+            Ok(_) => show(&stream, with_tidy),
+            Err(error) => fail(&error.to_string()),
+        };
+    }
+    for name in &arguments {
+        match std::fs::read(name) {
+            Ok(stream) => drop(show(&stream, with_tidy)),
+            Err(error) => return fail(&format!("{name}: {error}")),
+        }
+    }
+    ExitCode::SUCCESS
+}
+
+fn fail(why: &str) -> ExitCode {
+    eprintln!("{why}");
+    ExitCode::FAILURE
+}
+
+fn show(stream: &[u8], with_tidy: bool) -> ExitCode {
+    print!("{}", listing(stream));
+    if with_tidy {
+        println!("{}", tidy_line(stream));
+    }
+    ExitCode::SUCCESS
+}
+
+fn listing(stream: &[u8]) -> String {
+    if stream.len() > LISTING_BYTES {
+        return "refused 1 at 0\n".to_string();
+    }
+    let mut table = vec![0; LISTING_ROWS * 8];
+    match read(stream, &mut table) {
+        Ok(rows) => format!("accepted {rows}\n{}", row_lines(&table[..rows * 8])),
+        Err(refusal) => format!("{}\n", refused(&refusal)),
+    }
+}
+
+fn row_lines(words: &[u32]) -> String {
+    let line = |row: &[u32]| row.iter().map(u32::to_string).collect::<Vec<_>>().join(" ") + "\n";
+    words.chunks(8).map(line).collect()
+}
+
+fn refused(refusal: &Refusal) -> String {
+    format!("refused {} at {}", refusal.number, refusal.place)
+}
+
+fn tidy_line(stream: &[u8]) -> String {
+    let mut table = vec![0; TIDY_ROWS * 8];
+    let mut out = vec![0; TIDY_BYTES];
+    match tidy(stream, &mut table, &mut out) {
+        Ok(length) => out[..length].iter().map(|byte| format!("{byte:02X}")).collect(),
+        Err(refusal) => format!("tidy {}", refused(&refusal)),
+    }
+}
+
+fn corpus(folder: &Path) -> ExitCode {
+    let Ok(expected) = std::fs::read_to_string(folder.join("expected.tsv")) else {
+        return fail("no expected.tsv there");
+    };
+    let (mut agreements, mut lines) = (0, 0);
+    for line in expected.lines() {
+        let Some((name, wanted)) = line.split_once('\t') else {
+            return fail(&format!("no tab in: {line}"));
+        };
+        lines += 1;
+        let found = match std::fs::read(folder.join(name)) {
+            Ok(stream) => corpus_outcome(&stream),
+            Err(error) => error.to_string(),
+        };
+        if found == wanted {
+            agreements += 1;
+        } else {
+            println!("{name}\n  wanted {wanted}\n  found  {found}");
+        }
+    }
+    println!("{agreements} of {lines} agree");
+    if agreements == lines {
+        ExitCode::SUCCESS
+    } else {
+        ExitCode::FAILURE
+    }
+}
+
+fn corpus_outcome(stream: &[u8]) -> String {
+    format!("{} {}", corpus_reading(stream), corpus_tidy(stream))
+}
+
+fn corpus_reading(stream: &[u8]) -> String {
+    let mut table = vec![0; LISTING_ROWS * 8];
+    match read(stream, &mut table) {
+        Ok(rows) => {
+            let words = table[..rows * 8].iter().flat_map(|word| word.to_le_bytes());
+            format!("accepted {rows} {:016x}", fnv_1a(words))
+        }
+        Err(refusal) => refused(&refusal),
+    }
+}
+
+fn corpus_tidy(stream: &[u8]) -> String {
+    let mut table = vec![0; TIDY_ROWS * 8];
+    let mut out = vec![0; TIDY_BYTES];
+    match tidy(stream, &mut table, &mut out) {
+        Ok(length) => format!("tidy {length} {:016x}", fnv_1a(out[..length].iter().copied())),
+        Err(refusal) => format!("tidy {}", refused(&refusal)),
+    }
+}
+
+fn fnv_1a(bytes: impl Iterator<Item = u8>) -> u64 {
+    let mut hash = 0xcbf2_9ce4_8422_2325_u64;
+    for byte in bytes {
+        hash = (hash ^ u64::from(byte)).wrapping_mul(0x0100_0000_01b3);
+    }
+    hash
+}

@@ -1,0 +1,19 @@
+//! A second reader and tidier of parts lists, written from the paper alone, so
+//! that the proved one can be compared with something that shares no thought
+//! with it.
+
+pub mod by_hand;
+pub mod generate;
+pub mod reader;
+pub mod same;
+pub mod stream;
+pub mod tidy;
+
+pub use reader::{read, row_answer, row_text, Refusal};
+pub use same::same;
+pub use tidy::tidy;
+
+#[cfg(test)]
+mod counter_examples;
+#[cfg(test)]
+mod repacking;
