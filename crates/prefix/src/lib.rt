@@ -1,0 +1,60 @@
+// The length prefix of a text: reading it, its length, and writing it.
+use format::Prefix;
+use format::Refusal;
+ghost use mathlib.Core.Path.{_≡_};
+ghost use Prim.Native.Nat.{_+_, _≤_, _<_, _%_};
+ghost use Rattle.format.specs.Prefix.{prefixIn, prefixAt, onto};
+ghost use Rattle.prefix.specs.Laws.{Below};
+
+// ---- reading
+
+// A last group.
+fn last_group(b: u8, next: usize) -> Prefix
+    ensures { λ r. ⌜ r ≡ Prefix.Length b next ⌝ }
+{
+    Prefix::Length(b as u32, next)
+}
+
+// A group that more follow, with what those say.
+fn onto_group(b: u8, rest: Prefix) -> Prefix
+    requires { ⌜ Below 16777216 rest ⌝ }
+    ensures { λ r. ⌜ r ≡ onto (b % 128) rest ⌝ }
+{
+    match rest {
+        Prefix::Length(n, next) => Prefix::Length(((b % 128) as u32) + 128 * n, next),
+        Prefix::Fault(f) => Prefix::Fault(f),
+    }
+}
+
+// The groups from `at`: at most `k` bytes may follow the first, which is at least `least` if it is the last.
+fn groups(s: &[u8], at: usize, k: u8, least: u8) -> Prefix
+    requires { ⌜ k ≤ 4 ⌝ }
+    requires { ⌜ least ≤ 1 ⌝ }
+    ensures { λ r. ⌜ r ≡ prefixIn k least (now (s .entry)) at ⌝ }
+{
+    if s.len() <= at {
+        return Prefix::Fault(Refusal::CutShort);
+    }
+    let b = s[at];
+    if b < least {
+        return Prefix::Fault(Refusal::BadLength);
+    }
+    if k == 0 {
+        if 8 <= b {
+            return Prefix::Fault(Refusal::BadLength);
+        }
+        return last_group(b, at + 1);
+    }
+    if b < 128 {
+        return last_group(b, at + 1);
+    }
+    onto_group(b, groups(s, at + 1, k - 1, 1))
+}
+
+// The length prefix at a place. A prefix that the stream ends in is cut short, unless a byte before the end already shows that
+// its length is bad.
+pub fn prefix_at(s: &[u8], at: usize) -> Prefix
+    ensures { λ r. ⌜ r ≡ prefixAt (now (s .entry)) at ⌝ }
+{
+    groups(s, at, 4, 0)
+}
