@@ -1,0 +1,2 @@
+-- The laws of compared bytes.
+pub mod Laws

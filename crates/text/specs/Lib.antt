@@ -1,0 +1,3 @@
+-- The laws of text, for its loop and for callers.
+pub mod Run
+pub mod Laws
