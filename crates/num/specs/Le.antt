@@ -1,15 +1,15 @@
 -- The number that bytes say and the bytes that say a number: each undoes the other.
 use Prim.Native.Nat.{ℕ, zero, suc, _+_, _-_, _*_, _/_, _%_, _^_, _≤_, _<_}
-use mathlib.Core.Path.{_≡_, refl, ap, ap₂}
+use mathlib.Core.Path.{_≡_, refl, ap}
 use mathlib.Core.List.{List, [], _∷_, _++_}
 use native.Mathlib.Omega.{arith}
 use native.Mathlib.Nat.{pow-suc, mul-comm, mul-assoc}
-use native.Mathlib.Numerals.{add-one}
 use native.Mathlib.Decide.{decLt}
-use lib.ListN.{length, getD, take, drop, length-take, length-drop, List·getD-eq-default}
-use lib.Seq.{length-take-le, take-add, drop-drop, drop-cons, getD-take, getD-drop}
+use lib.ListN.{length, getD, take, drop, length-take, List·getD-eq-default}
+use lib.Seq.{getD-take, getD-drop}
 use Rattle.format.specs.Bytes.{part}
 use Rattle.format.specs.Numbers.{le, leBytes}
+use Rattle.fields.specs.Parts.{length-part, part-cons, part-add}
 
 -- a list of bytes
 abbrev pub Bytes : List ℕ → Type 0
@@ -24,13 +24,6 @@ bytes-part s at n b i = go (decLt i n)
         let g : length (part s at n) ≤ i = simp length-take (omega arith) in
         rw (List·getD-eq-default (part s at n) 0 g) (omega arith)
 
--- a part, byte by byte
-pub part-cons : (s : List ℕ) (at n : ℕ) → at < length s → part s at (suc n) ≡ getD s at 0 ∷ part s (at + 1) n
-part-cons s at n h = rw (add-one, drop-cons s at 0)
-
-pub length-part : (s : List ℕ) (at n : ℕ) → at + n ≤ length s → length (part s at n) ≡ n
-length-part s at n h = length-take-le n (drop at s) (simp length-drop (omega arith))
-
 -- what two parts say, one after the other
 pub le-append : (l m : List ℕ) → le (l ++ m) ≡ le l + 256 ^ length l * le m
 unfolding le
@@ -40,7 +33,7 @@ le-append (x ∷ l) m = rw (le-append l m, pow-suc 256 (length l), mul-comm (256
 pub le-join : (s : List ℕ) (at j k : ℕ) → at + j ≤ length s → le (part s at (j + k)) ≡ le (part s at j) + 256 ^ j * le (part s (at + j) k)
 le-join s at j k h =
     let n = length-part s at j h in
-    rw (take-add j k (drop at s), drop-drop j at s, le-append (part s at j) (part s (at + j) k), n)
+    rw (part-add s at j k, le-append (part s at j) (part s (at + j) k), n)
 
 pub le-byte : (s : List ℕ) (at : ℕ) → at < length s → le (part s at 1) ≡ getD s at 0
 unfolding le

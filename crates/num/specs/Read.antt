@@ -1,11 +1,10 @@
 -- What is read at a place, whatever the width: one record says it, and the laws of the three widths cite it.
-use Prim.Native.Nat.{ℕ, suc, _+_, _-_, _*_, _^_, _≤_, _<_}
-use mathlib.Core.Path.{_≡_, refl, sym, ap, ap₂, _∙_}
-use mathlib.Core.Bool.{Bool, true, false}
-use mathlib.Core.List.{List, [], _∷_, _++_}
+use Prim.Native.Nat.{ℕ, _+_, _^_, _≤_, _<_}
+use mathlib.Core.Path.{_≡_, refl, sym}
+use mathlib.Core.Bool.{true}
+use mathlib.Core.List.{List, _++_}
 use native.Mathlib.Omega.{arith}
-use lib.ListN.{length, getD, take, drop, length-append, length-drop}
-use lib.Seq.{take-at}
+use lib.ListN.{length, drop}
 use lib.Dec.{leb}
 use borrow.Author.Tests.{le-leb, lt-leb, leb-true}
 use Rattle.format.specs.declared.Number16.{Number16}
@@ -16,7 +15,9 @@ use Rattle.format.specs.declared.Number64.{Number64}
 use Rattle.format.specs.declared.Number64.the-variants as N64
 use Rattle.format.specs.Bytes.{pick, part}
 use Rattle.format.specs.Numbers.{le, leBytes, u16At, u32At, u64At}
-use Rattle.num.specs.Le.{Bytes, bytes-part, length-part, le-below, length-leBytes, le-leBytes}
+use Rattle.fields.specs.Parts.{length-part, stands, there}
+use Rattle.fields.specs.Judged.{told}
+use Rattle.num.specs.Le.{Bytes, bytes-part, le-below, length-leBytes, le-leBytes}
 
 -- the k bytes at p say v, and e is the place after them
 pub record Says (s : List ℕ) (p k v e : ℕ) : Type 0 where
@@ -31,27 +32,21 @@ below s p k v e b w =
     let l = length-part s p k (w .within) in
     rw (w .value) (rw l at (le-below (part s p k) (bytes-part s p k b)))
 
--- the bytes b stand at q, with the rest after them
-pub stands : (t b rest : List ℕ) (q k : ℕ) → length b ≡ k → drop q t ≡ b ++ rest → 0 < k → (q + k ≤ length t) × (part t q k ≡ b)
-stands t b rest q k l e z = (omega (arith, simp (length-drop, length-append) at (ap length e)), rw e (take-at b rest k l))
-
 -- the number depends only on its bytes
 pub only : (s t rest : List ℕ) (p q k v e : ℕ) → Says s p k v e → 0 < k → drop q t ≡ part s p k ++ rest → Says t q k v (q + k)
 only s t rest p q k v e w z d =
-    let h = stands t (part s p k) rest q k (length-part s p k (w .within)) d z in
-    record { within = h .0; next = refl; value = rw (h .1) (w .value) }
+    let l = length-part s p k (w .within) in
+    let h = stands t (part s p k) rest q k l (there t (part s p k) rest q (rw l z) d) d in
+    record { within = h .room; next = refl; value = rw (h .same) (w .value) }
 
 -- a number that is written is read
 pub written : (s rest : List ℕ) (p k n : ℕ) → n < 256 ^ k → 0 < k → drop p s ≡ leBytes k n ++ rest → Says s p k n (p + k)
 written s rest p k n b z d =
-    let h = stands s (leBytes k n) rest p k (length-leBytes k n) d z in
-    record { within = h .0; next = refl; value = rw (h .1) (sym (le-leBytes k n b)) }
+    let l = length-leBytes k n in
+    let h = stands s (leBytes k n) rest p k l (there s (leBytes k n) rest p (rw l z) d) d in
+    record { within = h .room; next = refl; value = rw (h .same) (sym (le-leBytes k n b)) }
 
 -- ---- two, four and eight bytes
-
-told : {A : Type 0} (t : Bool) (a b c : A) → pick t a b ≡ c → (b ≡ c → ⊥) → (t ≡ true) × (a ≡ c)
-told true a b c e n = (refl, e)
-told false a b c e n = absurd (n e)
 
 module _ {A : Type 0} (answer : ℕ → ℕ → A) (none : A) (s : List ℕ) (p k : ℕ) where
   abbrev numberAt : A
