@@ -99,3 +99,17 @@ module _ (f : List ℕ → ℕ → Field) where
   pub times-local : Local f → (n : ℕ) → Local (λ s p. times (f s) (suc n) p)
   unfolding times
   times-local u n = then-local f (λ s p. times (f s) n p) u (times-kept (kept f u) n)
+
+-- ---- for a loop: no field is left, or one more is read
+
+pub times-none : (f : ℕ → Field) (n p : ℕ) → n ≤ 0 → times f n p ≡ F.End p
+unfolding times
+times-none f zero p h = refl
+times-none f (suc n) p h = absurd (omega arith)
+
+pub times-step : (f : ℕ → Field) (n p : ℕ) → 0 < n → times f n p ≡ onEnd (times f (n - 1)) (f p)
+unfolding times
+times-step f zero p h = absurd (omega arith)
+times-step f (suc n) p h =
+    let d : suc n - 1 ≡ n = omega arith in
+    rw d
