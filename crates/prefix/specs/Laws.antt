@@ -7,7 +7,7 @@ use native.Mathlib.Omega.{arith}
 use native.Mathlib.Nat.{pow-suc, one-le-pow, pow-le-pow-right}
 use lib.ListN.{length, getD}
 use lib.Dec.{leb, ltb}
-use borrow.Author.Tests.{ltb-true, le-leb, lt-leb, lt-ltb, le-ltb}
+use borrow.Author.Tests.{ltb-true, ltb-false, leb-true, le-leb, lt-leb, lt-ltb, le-ltb}
 use Rattle.format.specs.declared.Refusal.the-variants as R
 use Rattle.format.specs.declared.Prefix.{Prefix}
 use Rattle.format.specs.declared.Prefix.the-variants as P
@@ -51,42 +51,80 @@ module _ (least : ℕ) (s : List ℕ) (p : ℕ) where
           let d : suc k - 1 ≡ k = omega arith in
           simp (lt-ltb, le-leb, le-ltb, d)
 
--- ---- the number: with k bytes after the first it is below 8 * 128 ^ k
+-- ---- a property of every number that is read
 
--- the number is below m, where there is one
-abbrev pub Below : ℕ → Prefix → Type 0
-Below m (P.Length n next) = n < m
-Below m (P.Fault f) = Unit {0}
+-- Q holds of the number and the place after it, where the answer has them
+abbrev pub Holds : (ℕ → ℕ → Type 0) → Prefix → Type 0
+Holds Q (P.Length n e) = Q n e
+Holds Q (P.Fault f) = Unit {0}
 
 cases : (Q : Prefix → Type 0) (t : Bool) {a b : Prefix} → (t ≡ true → Q a) → (t ≡ false → Q b) → Q (pick t a b)
 cases Q true f g = f refl
 cases Q false f g = g refl
 
-below-onto : (m g : ℕ) (r : Prefix) → g < 128 → Below m r → Below (128 * m) (onto g r)
-below-onto m g (P.Length n next) h l = omega arith
-below-onto m g (P.Fault f) h l = tt
+holds-onto : (A B : ℕ → ℕ → Type 0) (g : ℕ) (r : Prefix) → ((m e : ℕ) → A m e → B (g + 128 * m) e) → Holds A r → Holds B (onto g r)
+holds-onto A B g (P.Length m e) f a = f m e a
+holds-onto A B g (P.Fault x) f a = tt
+
+-- Q speaks of k, least, the place, the number and the place after it. It holds for a last group:
+abbrev pub One : List ℕ → (ℕ → ℕ → ℕ → ℕ → ℕ → Type 0) → Type 0
+One s Q = (k least p : ℕ) → p < length s → least ≤ getD s p 0 → getD s p 0 < 128 → (k ≡ 0 → getD s p 0 < 8) → Q k least p (getD s p 0) (p + 1)
+
+-- and for a group before those that it holds for:
+abbrev pub On : List ℕ → (ℕ → ℕ → ℕ → ℕ → ℕ → Type 0) → Type 0
+On s Q =
+    (k least p m e : ℕ) → p < length s → least ≤ getD s p 0 → 128 ≤ getD s p 0 → Q k 1 (p + 1) m e
+    → Q (suc k) least p (getD s p 0 % 128 + 128 * m) e
+
+-- then for every number that is read.
+module _ (s : List ℕ) (Q : ℕ → ℕ → ℕ → ℕ → ℕ → Type 0) (one : One s Q) (on : On s Q) where
+  pub every : (k least p : ℕ) → Holds (Q k least p) (prefixIn k least s p)
+  unfolding prefixIn
+  every zero least p =
+      let H = Holds (Q 0 least p) in
+      cases H (ltb p (length s))
+      (λ i. cases H (leb least (getD s p 0))
+      (λ l. cases H (ltb (getD s p 0) 8)
+      (λ h.
+      let b = ltb-true (getD s p 0) 8 h in
+      one 0 least p (ltb-true p (length s) i) (leb-true least (getD s p 0) l) (omega arith) (λ z. b))
+      (λ h. tt))
+      (λ l. tt))
+      (λ i. tt)
+  every (suc k) least p =
+      let H = Holds (Q (suc k) least p) in
+      cases H (ltb p (length s))
+      (λ i. cases H (leb least (getD s p 0))
+      (λ l. cases H (ltb (getD s p 0) 128)
+      (λ h. one (suc k) least p (ltb-true p (length s) i) (leb-true least (getD s p 0) l) (ltb-true (getD s p 0) 128 h) (λ z. absurd (omega arith)))
+      (λ h.
+      holds-onto (Q k 1 (p + 1)) (Q (suc k) least p) (getD s p 0 % 128) (prefixIn k 1 s (p + 1))
+      (λ m e. on k least p m e (ltb-true p (length s) i) (leb-true least (getD s p 0) l) (ltb-false (getD s p 0) 128 h))
+      (every k 1 (p + 1))))
+      (λ l. tt))
+      (λ i. tt)
+
+-- ---- the number: with k bytes after the first it is below 8 * 128 ^ k
+pub bounded : (k least : ℕ) (s : List ℕ) (p : ℕ) → Holds (λ n e. n < 8 * 128 ^ k) (prefixIn k least s p)
+bounded k least s p = every s Q one on k least p
+  where
+    Q : ℕ → ℕ → ℕ → ℕ → ℕ → Type 0
+    Q k least p n e = n < 8 * 128 ^ k
+
+    one : One s Q
+    one zero least p i l h f = f refl
+    one (suc k) least p i l h f = rw pow-suc (omega (arith, one-le-pow k 128 (omega arith)))
+
+    on : On s Q
+    on k least p m e i l h b = rw pow-suc (omega arith)
+
+-- the number is below m, where there is one
+abbrev pub Below : ℕ → Prefix → Type 0
+Below m = Holds (λ n e. n < m)
 
 below-mono : (a b : ℕ) (r : Prefix) → a ≤ b → Below a r → Below b r
 below-mono a b (P.Length n next) h l = omega arith
 below-mono a b (P.Fault f) h l = tt
-
-pub bounded : (k least : ℕ) (s : List ℕ) (p : ℕ) → Below (8 * 128 ^ k) (prefixIn k least s p)
-unfolding prefixIn
-bounded zero least s p =
-    cases (Below 8) (ltb p (length s))
-    (λ i. cases (Below 8) (leb least (getD s p 0)) (λ l. cases (Below 8) (ltb (getD s p 0) 8) (ltb-true (getD s p 0) 8) (λ h. tt)) (λ l. tt))
-    (λ i. tt)
-bounded (suc k) least s p =
-    let Q = Below (8 * 128 ^ suc k) in
-    let e : 8 * 128 ^ suc k ≡ 128 * (8 * 128 ^ k) = rw pow-suc (omega arith) in
-    let o : 1 ≤ 128 ^ k = one-le-pow k 128 (omega arith) in
-    cases Q (ltb p (length s))
-    (λ i. cases Q (leb least (getD s p 0))
-    (λ l. cases Q (ltb (getD s p 0) 128)
-    (λ h. omega (arith, ltb-true (getD s p 0) 128 h))
-    (λ h. rw e (below-onto (8 * 128 ^ k) (getD s p 0 % 128) (prefixIn k 1 s (p + 1)) (omega arith) (bounded k 1 s (p + 1)))))
-    (λ l. tt))
-    (λ i. tt)
 
 -- what follows a first group leaves room for it in a u32
 pub small : (k least : ℕ) (s : List ℕ) (p : ℕ) → k ≤ 3 → Below 16777216 (prefixIn k least s p)
@@ -94,33 +132,10 @@ small k least s p h =
     let b : 128 ^ k ≤ 2097152 = pow-le-pow-right (omega arith) h in
     below-mono (8 * 128 ^ k) 16777216 (prefixIn k least s p) (omega arith) (bounded k least s p)
 
--- ---- the place after it
-
--- it ends after p, within a stream of l bytes, after at most m bytes
-abbrev pub Within : ℕ → ℕ → ℕ → Prefix → Type 0
-Within p l m (P.Length n next) = (p < next) × (next ≤ l) × (next ≤ p + m)
-Within p l m (P.Fault f) = Unit {0}
-
-within-onto : (p l m g : ℕ) (r : Prefix) → Within (p + 1) l m r → Within p l (suc m) (onto g r)
-within-onto p l m g (P.Length n next) w = omega arith
-within-onto p l m g (P.Fault f) w = tt
-
-pub within : (k least : ℕ) (s : List ℕ) (p : ℕ) → Within p (length s) (suc k) (prefixIn k least s p)
-unfolding prefixIn
-within zero least s p =
-    let Q = Within p (length s) 1 in
-    cases Q (ltb p (length s))
-    (λ i. cases Q (leb least (getD s p 0)) (λ l. cases Q (ltb (getD s p 0) 8) (λ h. omega (arith, ltb-true p (length s) i)) (λ h. tt)) (λ l. tt))
-    (λ i. tt)
-within (suc k) least s p =
-    let Q = Within p (length s) (suc (suc k)) in
-    cases Q (ltb p (length s))
-    (λ i. cases Q (leb least (getD s p 0))
-    (λ l. cases Q (ltb (getD s p 0) 128)
-    (λ h. omega (arith, ltb-true p (length s) i))
-    (λ h. within-onto p (length s) (suc k) (getD s p 0 % 128) (prefixIn k 1 s (p + 1)) (within k 1 s (p + 1))))
-    (λ l. tt))
-    (λ i. tt)
+-- ---- the place after it: k + 1 bytes at most, within the stream
+pub within : (k least : ℕ) (s : List ℕ) (p : ℕ) → Holds (λ n e. (p < e) × (e ≤ length s) × (e ≤ p + suc k)) (prefixIn k least s p)
+within k least s p =
+    every s (λ k least p n e. (p < e) × (e ≤ length s) × (e ≤ p + suc k)) (λ k least p i l h f. omega arith) (λ k least p m e i l h w. omega arith) k least p
 
 -- ---- for a caller that has matched on the answer
 pub moves : (s : List ℕ) (p n e : ℕ) → prefixAt s p ≡ P.Length n e → (p < e) × (e ≤ length s) × (e ≤ p + 5)

@@ -1,1 +1,4 @@
 pub mod Laws
+pub mod Groups
+pub mod Writing
+pub mod Both

@@ -2,8 +2,10 @@
 use format::Prefix;
 use format::Refusal;
 ghost use mathlib.Core.Path.{_≡_};
-ghost use Prim.Native.Nat.{_+_, _≤_, _<_, _%_};
-ghost use Rattle.format.specs.Prefix.{prefixIn, prefixAt, onto};
+ghost use Prim.Native.Nat.{_+_, _≤_, _<_, _%_, _^_};
+ghost use lib.ListN.{length};
+ghost use Rattle.format.specs.Bytes.{laid, Written};
+ghost use Rattle.format.specs.Prefix.{prefixIn, prefixAt, onto, groupsOf, prefixBytes};
 ghost use Rattle.prefix.specs.Laws.{Below};
 
 // ---- reading
@@ -57,4 +59,42 @@ pub fn prefix_at(s: &[u8], at: usize) -> Prefix
     ensures { λ r. ⌜ r ≡ prefixAt (now (s .entry)) at ⌝ }
 {
     groups(s, at, 4, 0)
+}
+
+// ---- writing
+
+// How many bytes the prefix of n takes: one for each seven bits up to the highest one bit, and one for 0.
+pub fn prefix_len(n: u32) -> usize
+    ensures { λ r. ⌜ r ≡ length (prefixBytes n) ⌝ }
+{
+    if n == 0 {
+        return 1;
+    }
+    ((32 - u32::leading_zeros(n) + 6) / 7) as usize
+}
+
+// The groups of n, of which at most k follow the first, at the front of `out`.
+fn put_groups(out: &mut [u8], n: u32, k: u8)
+    requires { ⌜ n < 128 ^ (k + 1) ⌝ }
+    requires { ⌜ length (groupsOf k n) ≤ length (now out) ⌝ }
+    ensures { λ _. ⌜ now (out .exit) ≡ laid (groupsOf k n) (now (out .entry)) ⌝ }
+{
+    if n < 128 {
+        out[0] = n as u8;
+        return;
+    }
+    out[0] = (128 + n % 128) as u8;
+    put_groups(&mut out[1..], n / 128, k - 1)
+}
+
+// The prefix of n at the front of `out`, or nothing where it does not fit; the answer is its length either way.
+pub fn put_prefix(out: &mut [u8], n: u32) -> usize
+    ensures { λ r. ⌜ Written (prefixBytes n) (now (out .entry)) (now (out .exit)) r ⌝ }
+{
+    let len = prefix_len(n);
+    if out.len() < len {
+        return len;
+    }
+    put_groups(out, n, 4);
+    len
 }
