@@ -135,8 +135,15 @@ saved-same : (f e : List ℕ) (d : ℕ) → ((j : ℕ) → j < 6 * d → getD e 
 unfolding saved frameAt
 saved-same f e zero h = refl
 saved-same f e (suc d) h =
-    rw (h (6 * d) (omega arith), h (6 * d + 1) (omega arith), h (6 * d + 2) (omega arith), h (6 * d + 3) (omega arith),
-    h (6 * d + 4) (omega arith), h (6 * d + 5) (omega arith), saved-same f e d (λ j l. h j (omega arith)))
+    rw (
+      h (6 * d) (omega arith),
+      h (6 * d + 1) (omega arith),
+      h (6 * d + 2) (omega arith),
+      h (6 * d + 3) (omega arith),
+      h (6 * d + 4) (omega arith),
+      h (6 * d + 5) (omega arith),
+      saved-same f e d (λ j l. h j (omega arith)),
+    )
 
 -- a frame's words
 abbrev wordsOf : Frame → List ℕ
@@ -148,8 +155,17 @@ saved-sets f d g z =
     let e : List ℕ = sets f (6 * d) (wordsOf g) in
     let w : (i : ℕ) → i < 6 → getD e (6 * d + i) 0 ≡ getD (wordsOf g) i 0 = λ i h. sets-word (wordsOf g) f (6 * d) i h z in
     let w0 : getD e (6 * d) 0 ≡ g .owner = ap (λ (j : ℕ). getD e j 0) (let y : 6 * d ≡ 6 * d + 0 = omega arith in y) ∙ w 0 (omega arith) in
-    rw (add-one d, w0, w 1 (omega arith), w 2 (omega arith), w 3 (omega arith), w 4 (omega arith), w 5 (omega arith),
-    slot-back (g .typed .slot), saved-same f e d (λ j l. sets-before (wordsOf g) f (6 * d) j l))
+    rw (
+      add-one d,
+      w0,
+      w 1 (omega arith),
+      w 2 (omega arith),
+      w 3 (omega arith),
+      w 4 (omega arith),
+      w 5 (omega arith),
+      slot-back (g .typed .slot),
+      saved-same f e d (λ j l. sets-before (wordsOf g) f (6 * d) j l),
+    )
 
 -- six stores at index d make the last of d + 1 frames
 pub save-at : (f : List ℕ) (d : ℕ) (g : Frame) (k : ℕ) → d < 64 → length f ≡ 384 → k ≡ slotCode (g .typed .slot)

@@ -120,8 +120,17 @@ pub fn frame_at(frames: &[u32; 384], d: usize) -> Frame
 {
     let b = 6 * d;
     let slot = slot_from(frames[b + 3]);
-    let typed = Typed { slot, types: frames[b + 4], infos: frames[b + 5] };
-    Frame { owner: frames[b], count: frames[b + 1], left: frames[b + 2], typed }
+    let typed = Typed {
+        slot,
+        types: frames[b + 4],
+        infos: frames[b + 5],
+    };
+    Frame {
+        owner: frames[b],
+        count: frames[b + 1],
+        left: frames[b + 2],
+        typed,
+    }
 }
 
 // ---- the open objects
@@ -145,12 +154,22 @@ pub fn settle(frames: &[u32; 384], m: Reader) -> Reader
     let mut top = m.top;
     while depth != 0 {
         if top.left != 0 {
-            return Reader { at: m.at, rows: m.rows, depth, top };
+            return Reader {
+                at: m.at,
+                rows: m.rows,
+                depth,
+                top,
+            };
         }
         depth -= 1;
         top = frame_at(frames, depth);
     }
-    Reader { at: m.at, rows: m.rows, depth, top }
+    Reader {
+        at: m.at,
+        rows: m.rows,
+        depth,
+        top,
+    }
 }
 
 // k slots of the innermost object are filled; the next one has the type t.
@@ -162,7 +181,20 @@ pub fn fill(frames: &[u32; 384], m: Reader, k: u32, t: Typed) -> Reader
     let count = m.top.count;
     let left = m.top.left;
     let rest = less(left, k);
-    settle(frames, Reader { at: m.at, rows: m.rows, depth: m.depth, top: Frame { owner, count, left: rest, typed: t } })
+    settle(
+        frames,
+        Reader {
+            at: m.at,
+            rows: m.rows,
+            depth: m.depth,
+            top: Frame {
+                owner,
+                count,
+                left: rest,
+                typed: t,
+            },
+        },
+    )
 }
 
 // An object is opened in the next slot; the slot after it has the type t. `row` is the number of its row plus 1.
@@ -174,8 +206,27 @@ pub fn open_object(frames: &mut [u32; 384], m: Reader, row: u32, h: Head, t: Typ
     let count = m.top.count;
     let left = m.top.left;
     let rest = less(left, 1);
-    save(frames, m.depth, Frame { owner, count, left: rest, typed: t });
+    save(
+        frames,
+        m.depth,
+        Frame {
+            owner,
+            count,
+            left: rest,
+            typed: t,
+        },
+    );
     let slots = h.slots;
     let first = h.first;
-    Reader { at: m.at, rows: m.rows, depth: m.depth + 1, top: Frame { owner: row, count: slots, left: slots, typed: first } }
+    Reader {
+        at: m.at,
+        rows: m.rows,
+        depth: m.depth + 1,
+        top: Frame {
+            owner: row,
+            count: slots,
+            left: slots,
+            typed: first,
+        },
+    }
 }

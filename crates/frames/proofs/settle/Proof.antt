@@ -1,42 +1,18 @@
+-- The loop keeps what closing the full objects will leave; each end of it is one law of `close`.
+use mathlib.Core.Path.{_≡_, refl, sym, _∙_}
+use Prim.Native.Nat.{_≤_}
+use native.Mathlib.Omega.{arith}
+use Rattle.format.specs.Machine.{close}
+use Rattle.frames.specs.Frames.{saved}
+use Rattle.frames.specs.Laws.{close-end, close-stop, close-pop}
 use Rattle.frames.proofs.settle.Statement.{statement}
 use Rattle.frames.proofs.settle.Tie as tie
-use Rattle.frames.proofs.settle.Reads as reads
-use Rattle.frames.proofs.settle.Lts as lts
-use Rattle.frames.proofs.frame_at.Reads as frame-at-reads
 
 abbrev Inv-loop : tie.InvT-loop
-Inv-loop frames m depth₀ top₀ depth top = ?
+Inv-loop frames m depth₀ top₀ depth top = (depth ≤ m .depth) × (close (m .top) (saved frames (m .depth)) ≡ close top (saved frames depth))
 
 abbrev μ-loop : tie.MeasureT-loop
-μ-loop frames m depth₀ top₀ depth top = ?
-
--- src/lib.rt:146:5
-loop-holds : tie.Need-loop-holds Inv-loop μ-loop
-loop-holds c = ?
-
--- src/lib.rt:148:13
-returns : tie.Need-returns Inv-loop μ-loop
-returns c = ?
-
--- src/lib.rt:150:9
-sub-depth : tie.Need-sub-depth Inv-loop μ-loop
-sub-depth c = ?
-
--- src/lib.rt:151:9
-frame-at-requires : tie.Need-frame-at-requires Inv-loop μ-loop
-frame-at-requires c κs = ?
-
--- src/lib.rt:146:5
-loop-less : tie.Need-loop-less Inv-loop μ-loop
-loop-less c = ?
-
--- src/lib.rt:146:5
-loop-again : tie.Need-loop-again Inv-loop μ-loop
-loop-again c = ?
-
--- src/lib.rt:140:1
-returns-2 : tie.Need-returns-2 Inv-loop μ-loop
-returns-2 c = ?
+μ-loop frames m depth₀ top₀ depth top = depth
 
 pub settle-spec : {M : Type 1} → statement M
 settle-spec =
@@ -44,10 +20,26 @@ settle-spec =
     (tie.spec
     Inv-loop
     μ-loop
-    loop-holds
-    returns
-    sub-depth
-    frame-at-requires
-    loop-less
-    loop-again
-    returns-2)
+    (λ c. (omega arith, refl))
+    (λ c.
+    let v = c .before .before .before .loop in
+    record {
+      stack = close-stop (v .top) _ (v .depth) (c .if1 .taken) ∙ sym (v .inv .1);
+      place = refl;
+      rows = refl;
+      shallow = v .inv .0;
+    })
+    (λ c. omega arith)
+    (λ c κs. (omega arith, c .before .before .before .before .before .pre .1))
+    (λ c. omega arith)
+    (λ c.
+    let v = c .before .before .before .before .loop in
+    (omega arith, v .inv .1 ∙ close-pop (v .top) _ _ (v .depth) (c .before .before .before .loop-test .taken) (c .before .if1 .left) (c .frame-at .ensures)))
+    (λ c.
+    let v = c .before .loop in
+    record {
+      stack = close-end (v .top) _ (v .depth) (c .loop-test .left) ∙ sym (v .inv .1);
+      place = refl;
+      rows = refl;
+      shallow = v .inv .0;
+    }))

@@ -1,67 +1,34 @@
+-- The tests of the definition are those of the code, in its order.
+use borrow.Author.Tests.{lt-ltb, le-ltb, ne-eqb}
 use borrow.Author.Needs.{needs}
+use Rattle.frames.specs.Frames.{slotFrom}
 use Rattle.frames.proofs.slot_from.Statement.{statement}
 use Rattle.frames.proofs.slot_from.Tie as tie
-use Rattle.frames.proofs.slot_from.Reads as reads
-use Rattle.frames.proofs.slot_from.Lts as lts
-use Rattle.frames.proofs.code_from.Reads as code-from-reads
-use Rattle.frames.proofs.less.Reads as less-reads
-
--- src/lib.rt:84:36
-code-from-requires : tie.Need-code-from-requires
-code-from-requires c κs = search needs
-
--- src/lib.rt:84:9
-returns : tie.Need-returns
-returns c = ?
-
--- src/lib.rt:93:49
-less-requires : tie.Need-less-requires
-less-requires c κs = search needs
-
--- src/lib.rt:93:39
-code-from-requires-2 : tie.Need-code-from-requires-2
-code-from-requires-2 c κs = search needs
-
--- src/lib.rt:80:1
-returns-2 : tie.Need-returns-2
-returns-2 c = ?
-
--- src/lib.rt:80:1
-returns-3 : tie.Need-returns-3
-returns-3 c = ?
-
--- src/lib.rt:80:1
-returns-4 : tie.Need-returns-4
-returns-4 c = ?
-
--- src/lib.rt:80:1
-returns-5 : tie.Need-returns-5
-returns-5 c = ?
-
--- src/lib.rt:80:1
-returns-6 : tie.Need-returns-6
-returns-6 c = ?
-
--- src/lib.rt:80:1
-returns-7 : tie.Need-returns-7
-returns-7 c = ?
-
--- src/lib.rt:80:1
-returns-8 : tie.Need-returns-8
-returns-8 c = ?
 
 pub slot-from-spec : {M : Type 1} → statement M
+unfolding slotFrom
 slot-from-spec =
     tie.close
     (tie.spec
-    code-from-requires
-    returns
-    less-requires
-    code-from-requires-2
-    returns-2
-    returns-3
-    returns-4
-    returns-5
-    returns-6
-    returns-7
-    returns-8)
+    (λ c κs. search needs)
+    (λ c. rw (c .code-from .ensures, lt-ltb _ _ (c .before .if1 .taken)))
+    (λ c κs. search needs)
+    (λ c κs. search needs)
+    (λ c. rw (c .match .keys1))
+    (λ c. rw (c .match .keys2))
+    (λ c. rw (c .match .keys3))
+    (λ c. rw (c .match .keys4))
+    (λ c. rw (c .match .keys5))
+    (λ c. rw (c .match .keys6))
+    (λ c.
+    rw (
+      c .code-from2 .ensures,
+      c .before .less .ensures,
+      le-ltb _ _ (c .before .before .before .if1 .left),
+      ne-eqb _ _ (c .before .before .match .rest .0 .0 .0 .0 .0 .1),
+      ne-eqb _ _ (c .before .before .match .rest .0 .0 .0 .0 .1),
+      ne-eqb _ _ (c .before .before .match .rest .0 .0 .0 .1),
+      ne-eqb _ _ (c .before .before .match .rest .0 .0 .1),
+      ne-eqb _ _ (c .before .before .match .rest .0 .1),
+      ne-eqb _ _ (c .before .before .match .rest .1),
+    )))
