@@ -1,0 +1,198 @@
+-- The laws of the saved frames: slot types come back from their words, the depth is the number of frames below, and each way a full
+-- object is closed, a slot filled, an object opened.
+use mathlib.Core.Path.{_≡_, refl, ap, _∙_}
+use mathlib.Core.List.{List, [], _∷_}
+use Prim.Native.Nat.{ℕ, zero, suc, _+_, _-_, _*_, _≤_, _<_}
+use native.Mathlib.Omega.{arith}
+use native.Mathlib.Numerals.{add-one, add-two, add-three, add-four, add-five}
+use borrow.Author.Tests.{eq-eqb, ne-eqb}
+use lib.ListN.{length, getD, set, length-set}
+use lib.Seq.{getD-set-other, getD-set-same, sets}
+use Rattle.format.specs.declared.PrimitiveCode.{PrimitiveCode}
+use Rattle.format.specs.declared.PrimitiveCode.the-variants as C
+use Rattle.format.specs.declared.SlotType.{SlotType}
+use Rattle.format.specs.declared.SlotType.the-variants as S
+use Rattle.format.specs.declared.Where.{Where}
+use Rattle.format.specs.declared.Where.the-variants as W
+use Rattle.format.specs.declared.Typed.{Typed}
+use Rattle.format.specs.declared.Head.{Head}
+use Rattle.format.specs.declared.Frame.{Frame}
+use Rattle.format.specs.declared.Reader.{Reader}
+use Rattle.format.specs.Types.{codeNumber, primitiveOf}
+use Rattle.format.specs.Machine.{Open, close, filled, opened, whereIn, topLevel, start}
+use Rattle.frames.specs.Frames.{slotCode, slotFrom, frameAt, saved, openOf}
+
+-- ---- slot types
+
+pub code-small : (c : PrimitiveCode) → codeNumber c ≤ 16
+code-small C.Boolean = omega arith
+code-small C.Byte = omega arith
+code-small C.Char = omega arith
+code-small C.Decimal = omega arith
+code-small C.Double = omega arith
+code-small C.Int16 = omega arith
+code-small C.Int32 = omega arith
+code-small C.Int64 = omega arith
+code-small C.SByte = omega arith
+code-small C.Single = omega arith
+code-small C.TimeSpan = omega arith
+code-small C.DateTime = omega arith
+code-small C.UInt16 = omega arith
+code-small C.UInt32 = omega arith
+code-small C.UInt64 = omega arith
+
+-- a primitive code comes back from both its words
+both-back : (c : PrimitiveCode) → (slotFrom (codeNumber c) ≡ S.Primitive c) × (slotFrom (32 + codeNumber c) ≡ S.PrimitiveArray c)
+unfolding slotFrom primitiveOf
+both-back C.Boolean = (refl, refl)
+both-back C.Byte = (refl, refl)
+both-back C.Char = (refl, refl)
+both-back C.Decimal = (refl, refl)
+both-back C.Double = (refl, refl)
+both-back C.Int16 = (refl, refl)
+both-back C.Int32 = (refl, refl)
+both-back C.Int64 = (refl, refl)
+both-back C.SByte = (refl, refl)
+both-back C.Single = (refl, refl)
+both-back C.TimeSpan = (refl, refl)
+both-back C.DateTime = (refl, refl)
+both-back C.UInt16 = (refl, refl)
+both-back C.UInt32 = (refl, refl)
+both-back C.UInt64 = (refl, refl)
+
+pub slot-back : (t : SlotType) → slotFrom (slotCode t) ≡ t
+unfolding slotFrom
+slot-back (S.Primitive c) = both-back c .0
+slot-back S.Text = refl
+slot-back S.Object = refl
+slot-back S.SystemClass = refl
+slot-back S.Class = refl
+slot-back S.ObjectArray = refl
+slot-back S.StringArray = refl
+slot-back (S.PrimitiveArray c) = both-back c .1
+
+-- ---- the depth
+
+pub length-saved : (f : List ℕ) (d : ℕ) → length (saved f d) ≡ d
+unfolding saved
+length-saved f zero = refl
+length-saved f (suc d) = ap suc (length-saved f d)
+
+pub depth-below : (f : List ℕ) (m : Reader) → length (openOf f m .below) ≡ m .depth
+depth-below f m = length-saved f (m .depth)
+
+pub where-top : (f : List ℕ) (d : ℕ) (w : Where) → d ≡ 0 → whereIn (saved f d) w ≡ W.Top
+unfolding saved
+where-top f d w e = rw e
+
+pub where-inside : (f : List ℕ) (d : ℕ) (w : Where) → (d ≡ 0 → ⊥) → whereIn (saved f d) w ≡ w
+unfolding saved
+where-inside f zero w n = absurd (n refl)
+where-inside f (suc d) w n = refl
+
+-- nothing is open at the start, whatever the words
+pub fresh-open : (f : List ℕ) → openOf f (record { at = 0; rows = 0; depth = 0; top = topLevel }) ≡ start .stack
+unfolding saved
+fresh-open f = refl
+
+-- ---- full objects are closed
+
+module _ (g : Frame) (f : List ℕ) where
+  pub close-end : (d : ℕ) → d ≡ 0 → record { cur = g; below = saved f d } ≡ close g (saved f d)
+  unfolding saved close
+  close-end d e = rw e
+
+  pub close-stop : (d : ℕ) → (g .left ≡ 0 → ⊥) → record { cur = g; below = saved f d } ≡ close g (saved f d)
+  unfolding saved close
+  close-stop zero h = refl
+  close-stop (suc d) h = rw (ne-eqb _ _ h)
+
+  pub close-pop : (h : Frame) (d : ℕ) → (d ≡ 0 → ⊥) → g .left ≡ 0 → h ≡ frameAt f (d - 1)
+      → close g (saved f d) ≡ close h (saved f (d - 1))
+  unfolding saved close
+  close-pop h zero n e q = absurd (n refl)
+  close-pop h (suc d) n e q = let p : suc d - 1 ≡ d = omega arith in rw (eq-eqb _ _ e, q, p)
+
+-- ---- a frame is saved
+
+-- words before the stores stay
+sets-before : (vs l : List ℕ) (b j : ℕ) → j < b → getD (sets l b vs) j 0 ≡ getD l j 0
+sets-before [] l b j h = refl
+sets-before (a ∷ vs) l b j h = sets-before vs (set l b a) (suc b) j (omega arith) ∙ getD-set-other l b j a 0 (omega arith)
+
+-- a word that was stored is there
+sets-word : (vs l : List ℕ) (b i : ℕ) → i < length vs → b + length vs ≤ length l → getD (sets l b vs) (b + i) 0 ≡ getD vs i 0
+sets-word [] l b i h z = absurd (omega arith)
+sets-word (a ∷ vs) l b zero h z =
+    let e : b + 0 ≡ b = omega arith in
+    rw e (sets-before vs (set l b a) (suc b) b (omega arith) ∙ getD-set-same l b a 0 (omega arith))
+sets-word (a ∷ vs) l b (suc i) h z =
+    let e : b + suc i ≡ suc b + i = omega arith in
+    let s : length (set l b a) ≡ length l = length-set l b a in
+    rw e (sets-word vs (set l b a) (suc b) i (omega arith) (omega arith))
+
+-- frames whose words are the same are the same
+saved-same : (f e : List ℕ) (d : ℕ) → ((j : ℕ) → j < 6 * d → getD e j 0 ≡ getD f j 0) → saved e d ≡ saved f d
+unfolding saved frameAt
+saved-same f e zero h = refl
+saved-same f e (suc d) h =
+    rw (
+      h (6 * d) (omega arith),
+      h (6 * d + 1) (omega arith),
+      h (6 * d + 2) (omega arith),
+      h (6 * d + 3) (omega arith),
+      h (6 * d + 4) (omega arith),
+      h (6 * d + 5) (omega arith),
+      saved-same f e d (λ j l. h j (omega arith)),
+    )
+
+-- a frame's words
+abbrev wordsOf : Frame → List ℕ
+wordsOf g = g .owner ∷ g .count ∷ g .left ∷ slotCode (g .typed .slot) ∷ g .typed .types ∷ g .typed .infos ∷ []
+
+saved-sets : (f : List ℕ) (d : ℕ) (g : Frame) → 6 * d + 6 ≤ length f → saved (sets f (6 * d) (wordsOf g)) (d + 1) ≡ g ∷ saved f d
+unfolding saved frameAt
+saved-sets f d g z =
+    let e : List ℕ = sets f (6 * d) (wordsOf g) in
+    let w : (i : ℕ) → i < 6 → getD e (6 * d + i) 0 ≡ getD (wordsOf g) i 0 = λ i h. sets-word (wordsOf g) f (6 * d) i h z in
+    let b : 6 * d + 0 ≡ 6 * d = omega arith in
+    let w0 : getD e (6 * d) 0 ≡ g .owner = rw b at (w 0 (omega arith)) in
+    rw (
+      add-one d,
+      w0,
+      w 1 (omega arith),
+      w 2 (omega arith),
+      w 3 (omega arith),
+      w 4 (omega arith),
+      w 5 (omega arith),
+      slot-back (g .typed .slot),
+      saved-same f e d (λ j l. sets-before (wordsOf g) f (6 * d) j l),
+    )
+
+-- six stores at index d, k being the word of the slot type
+abbrev pub stored : List ℕ → ℕ → Frame → ℕ → List ℕ
+stored f d g k =
+    set (set (set (set (set (set f (6 * d) (g .owner)) (6 * d + 1) (g .count)) (6 * d + 2) (g .left)) (6 * d + 3) k)
+    (6 * d + 4) (g .typed .types)) (6 * d + 5) (g .typed .infos)
+
+-- they make the last of d + 1 frames
+pub save-at : (f : List ℕ) (d : ℕ) (g : Frame) (k : ℕ) → d < 64 → length f ≡ 384 → k ≡ slotCode (g .typed .slot)
+    → saved (stored f d g k) (d + 1) ≡ g ∷ saved f d
+save-at f d g k h z q =
+    let b : ℕ = 6 * d in
+    simp (q, add-one b, add-two b, add-three b, add-four b, add-five b) (saved-sets f d g (omega arith))
+
+-- ---- slots are filled, an object is opened
+
+pub fill-at : (f : List ℕ) (m : Reader) (k rest : ℕ) (t : Typed) → rest ≡ m .top .left - k
+    → close (record { owner = m .top .owner; count = m .top .count; left = rest; typed = t }) (saved f (m .depth))
+    ≡ filled (openOf f m) k t
+unfolding filled
+fill-at f m k rest t e = rw e
+
+pub open-at : (f e : List ℕ) (m : Reader) (row rest : ℕ) (h : Head) (t : Typed) → rest ≡ m .top .left - 1
+    → saved e (m .depth + 1) ≡ record { owner = m .top .owner; count = m .top .count; left = rest; typed = t } ∷ saved f (m .depth)
+    → record { cur = record { owner = row; count = h .slots; left = h .slots; typed = h .first }; below = saved e (m .depth + 1) }
+    ≡ opened (openOf f m) row h t
+unfolding opened
+open-at f e m row rest h t q s = rw (s, q)

@@ -1,0 +1,232 @@
+// The open objects as the reader holds them: the frame of the innermost one is the reader's `top`, the frames around it lie in a lent
+// array of words, six to a frame, the outermost one first. An object is opened, its slots are filled, full objects are closed.
+use format::Frame;
+use format::Head;
+use format::PrimitiveCode;
+use format::Reader;
+use format::SlotType;
+use format::Typed;
+ghost use mathlib.Core.Path.{_≡_};
+ghost use mathlib.Core.List.{_∷_};
+ghost use Prim.Native.Nat.{_+_, _-_, _≤_, _<_};
+ghost use lib.ListN.{length};
+ghost use Rattle.format.specs.Types.{codeNumber, primitiveOf, coded};
+ghost use Rattle.format.specs.Machine.{close, filled, opened};
+ghost use Rattle.frames.specs.Frames.{slotCode, slotFrom, frameAt, saved, openOf, Holds, Deeper};
+
+// ---- a slot type as a word
+
+pub fn code_number(c: PrimitiveCode) -> u32
+    ensures { λ r. ⌜ r ≡ codeNumber c ⌝ }
+{
+    match c {
+        PrimitiveCode::Boolean => 1,
+        PrimitiveCode::Byte => 2,
+        PrimitiveCode::Char => 3,
+        PrimitiveCode::Decimal => 5,
+        PrimitiveCode::Double => 6,
+        PrimitiveCode::Int16 => 7,
+        PrimitiveCode::Int32 => 8,
+        PrimitiveCode::Int64 => 9,
+        PrimitiveCode::SByte => 10,
+        PrimitiveCode::Single => 11,
+        PrimitiveCode::TimeSpan => 12,
+        PrimitiveCode::DateTime => 13,
+        PrimitiveCode::UInt16 => 14,
+        PrimitiveCode::UInt32 => 15,
+        PrimitiveCode::UInt64 => 16,
+    }
+}
+
+// The primitive code of a number; Byte for a number that is none.
+fn code_from(k: u32) -> PrimitiveCode
+    ensures { λ r. ⌜ r ≡ coded (primitiveOf k) ⌝ }
+{
+    match k {
+        1 => PrimitiveCode::Boolean,
+        2 => PrimitiveCode::Byte,
+        3 => PrimitiveCode::Char,
+        5 => PrimitiveCode::Decimal,
+        6 => PrimitiveCode::Double,
+        7 => PrimitiveCode::Int16,
+        8 => PrimitiveCode::Int32,
+        9 => PrimitiveCode::Int64,
+        10 => PrimitiveCode::SByte,
+        11 => PrimitiveCode::Single,
+        12 => PrimitiveCode::TimeSpan,
+        13 => PrimitiveCode::DateTime,
+        14 => PrimitiveCode::UInt16,
+        15 => PrimitiveCode::UInt32,
+        16 => PrimitiveCode::UInt64,
+        _ => PrimitiveCode::Byte,
+    }
+}
+
+pub fn slot_code(t: SlotType) -> u32
+    ensures { λ r. ⌜ r ≡ slotCode t ⌝ }
+{
+    match t {
+        SlotType::Primitive(c) => code_number(c),
+        SlotType::Text => 20,
+        SlotType::Object => 21,
+        SlotType::SystemClass => 22,
+        SlotType::Class => 23,
+        SlotType::ObjectArray => 24,
+        SlotType::StringArray => 25,
+        SlotType::PrimitiveArray(c) => 32 + code_number(c),
+    }
+}
+
+pub fn slot_from(k: u32) -> SlotType
+    ensures { λ r. ⌜ r ≡ slotFrom k ⌝ }
+{
+    if k < 20 {
+        return SlotType::Primitive(code_from(k));
+    }
+    match k {
+        20 => SlotType::Text,
+        21 => SlotType::Object,
+        22 => SlotType::SystemClass,
+        23 => SlotType::Class,
+        24 => SlotType::ObjectArray,
+        25 => SlotType::StringArray,
+        _ => SlotType::PrimitiveArray(code_from(less(k, 32))),
+    }
+}
+
+// ---- the saved frames
+
+// The frame is saved at index d; the frames below it stay.
+pub fn save(frames: &mut [u32; 384], d: usize, g: Frame)
+    requires { ⌜ (d < 64) × (length (now frames) ≡ 384) ⌝ }
+    ensures { λ _. ⌜ (length (now (frames .exit)) ≡ 384) × (saved (now (frames .exit)) (d + 1) ≡ g ∷ saved (now (frames .entry)) d) ⌝ }
+{
+    let t = g.typed;
+    let slot = t.slot;
+    let code = slot_code(slot);
+    let b = 6 * d;
+    frames[b] = g.owner;
+    frames[b + 1] = g.count;
+    frames[b + 2] = g.left;
+    frames[b + 3] = code;
+    frames[b + 4] = t.types;
+    frames[b + 5] = t.infos;
+}
+
+// The frame saved at index d.
+pub fn frame_at(frames: &[u32; 384], d: usize) -> Frame
+    requires { ⌜ (d < 64) × (length (now frames) ≡ 384) ⌝ }
+    ensures { λ r. ⌜ r ≡ frameAt (now (frames .entry)) d ⌝ }
+{
+    let b = 6 * d;
+    let slot = slot_from(frames[b + 3]);
+    let typed = Typed {
+        slot,
+        types: frames[b + 4],
+        infos: frames[b + 5],
+    };
+    Frame {
+        owner: frames[b],
+        count: frames[b + 1],
+        left: frames[b + 2],
+        typed,
+    }
+}
+
+// ---- the open objects
+
+// The difference, or 0 where b is greater.
+pub fn less(a: u32, b: u32) -> u32
+    ensures { λ r. ⌜ r ≡ a - b ⌝ }
+{
+    if a < b {
+        return 0;
+    }
+    a - b
+}
+
+// Objects that are full are closed.
+pub fn settle(frames: &[u32; 384], m: Reader) -> Reader
+    requires { ⌜ (m .depth ≤ 64) × (length (now frames) ≡ 384) ⌝ }
+    ensures { λ r. ⌜ Holds (now (frames .entry)) m r (close (m .top) (saved (now (frames .entry)) (m .depth))) ⌝ }
+{
+    let mut depth = m.depth;
+    let mut top = m.top;
+    while depth != 0 {
+        if top.left != 0 {
+            return Reader {
+                at: m.at,
+                rows: m.rows,
+                depth,
+                top,
+            };
+        }
+        depth -= 1;
+        top = frame_at(frames, depth);
+    }
+    Reader {
+        at: m.at,
+        rows: m.rows,
+        depth,
+        top,
+    }
+}
+
+// k slots of the innermost object are filled; the next one has the type t.
+pub fn fill(frames: &[u32; 384], m: Reader, k: u32, t: Typed) -> Reader
+    requires { ⌜ (m .depth ≤ 64) × (length (now frames) ≡ 384) ⌝ }
+    ensures { λ r. ⌜ Holds (now (frames .entry)) m r (filled (openOf (now (frames .entry)) m) k t) ⌝ }
+{
+    let owner = m.top.owner;
+    let count = m.top.count;
+    let left = m.top.left;
+    let rest = less(left, k);
+    settle(
+        frames,
+        Reader {
+            at: m.at,
+            rows: m.rows,
+            depth: m.depth,
+            top: Frame {
+                owner,
+                count,
+                left: rest,
+                typed: t,
+            },
+        },
+    )
+}
+
+// An object is opened in the next slot; the slot after it has the type t. `row` is the number of its row plus 1.
+pub fn open_object(frames: &mut [u32; 384], m: Reader, row: u32, h: Head, t: Typed) -> Reader
+    requires { ⌜ (m .depth < 64) × (length (now frames) ≡ 384) ⌝ }
+    ensures { λ r. ⌜ Deeper (now (frames .exit)) m r (opened (openOf (now (frames .entry)) m) row h t) ⌝ }
+{
+    let owner = m.top.owner;
+    let count = m.top.count;
+    let left = m.top.left;
+    let rest = less(left, 1);
+    save(
+        frames,
+        m.depth,
+        Frame {
+            owner,
+            count,
+            left: rest,
+            typed: t,
+        },
+    );
+    let slots = h.slots;
+    let first = h.first;
+    Reader {
+        at: m.at,
+        rows: m.rows,
+        depth: m.depth + 1,
+        top: Frame {
+            owner: row,
+            count: slots,
+            left: slots,
+            typed: first,
+        },
+    }
+}
