@@ -1,13 +1,13 @@
 -- The laws of the saved frames: slot types come back from their words, the depth is the number of frames below, and each way a full
 -- object is closed, a slot filled, an object opened.
-use mathlib.Core.Path.{_≡_, refl, sym, ap, _∙_}
+use mathlib.Core.Path.{_≡_, refl, ap, _∙_}
 use mathlib.Core.List.{List, [], _∷_}
 use Prim.Native.Nat.{ℕ, zero, suc, _+_, _-_, _*_, _≤_, _<_}
 use native.Mathlib.Omega.{arith}
 use native.Mathlib.Numerals.{add-one, add-two, add-three, add-four, add-five}
 use borrow.Author.Tests.{eq-eqb, ne-eqb}
 use lib.ListN.{length, getD, set, length-set}
-use lib.Seq.{getD-set-other, getD-set-same, sets, length-sets}
+use lib.Seq.{getD-set-other, getD-set-same, sets}
 use Rattle.format.specs.declared.PrimitiveCode.{PrimitiveCode}
 use Rattle.format.specs.declared.PrimitiveCode.the-variants as C
 use Rattle.format.specs.declared.SlotType.{SlotType}
@@ -19,7 +19,7 @@ use Rattle.format.specs.declared.Head.{Head}
 use Rattle.format.specs.declared.Frame.{Frame}
 use Rattle.format.specs.declared.Reader.{Reader}
 use Rattle.format.specs.Types.{codeNumber, primitiveOf}
-use Rattle.format.specs.Machine.{Open, close, filledBy, filled, opened, whereIn, topLevel, start}
+use Rattle.format.specs.Machine.{Open, close, filled, opened, whereIn, topLevel, start}
 use Rattle.frames.specs.Frames.{slotCode, slotFrom, frameAt, saved, openOf}
 
 -- ---- slot types
@@ -107,7 +107,8 @@ module _ (g : Frame) (f : List ℕ) where
   close-stop zero h = refl
   close-stop (suc d) h = rw (ne-eqb _ _ h)
 
-  pub close-pop : (h : Frame) (d : ℕ) → (d ≡ 0 → ⊥) → g .left ≡ 0 → h ≡ frameAt f (d - 1) → close g (saved f d) ≡ close h (saved f (d - 1))
+  pub close-pop : (h : Frame) (d : ℕ) → (d ≡ 0 → ⊥) → g .left ≡ 0 → h ≡ frameAt f (d - 1)
+      → close g (saved f d) ≡ close h (saved f (d - 1))
   unfolding saved close
   close-pop h zero n e q = absurd (n refl)
   close-pop h (suc d) n e q = let p : suc d - 1 ≡ d = omega arith in rw (eq-eqb _ _ e, q, p)
@@ -154,7 +155,8 @@ unfolding saved frameAt
 saved-sets f d g z =
     let e : List ℕ = sets f (6 * d) (wordsOf g) in
     let w : (i : ℕ) → i < 6 → getD e (6 * d + i) 0 ≡ getD (wordsOf g) i 0 = λ i h. sets-word (wordsOf g) f (6 * d) i h z in
-    let w0 : getD e (6 * d) 0 ≡ g .owner = ap (λ (j : ℕ). getD e j 0) (let y : 6 * d ≡ 6 * d + 0 = omega arith in y) ∙ w 0 (omega arith) in
+    let b : 6 * d + 0 ≡ 6 * d = omega arith in
+    let w0 : getD e (6 * d) 0 ≡ g .owner = rw b at (w 0 (omega arith)) in
     rw (
       add-one d,
       w0,
@@ -167,9 +169,15 @@ saved-sets f d g z =
       saved-same f e d (λ j l. sets-before (wordsOf g) f (6 * d) j l),
     )
 
--- six stores at index d make the last of d + 1 frames
+-- six stores at index d, k being the word of the slot type
+abbrev pub stored : List ℕ → ℕ → Frame → ℕ → List ℕ
+stored f d g k =
+    set (set (set (set (set (set f (6 * d) (g .owner)) (6 * d + 1) (g .count)) (6 * d + 2) (g .left)) (6 * d + 3) k)
+    (6 * d + 4) (g .typed .types)) (6 * d + 5) (g .typed .infos)
+
+-- they make the last of d + 1 frames
 pub save-at : (f : List ℕ) (d : ℕ) (g : Frame) (k : ℕ) → d < 64 → length f ≡ 384 → k ≡ slotCode (g .typed .slot)
-    → saved (set (set (set (set (set (set f (6 * d) (g .owner)) (6 * d + 1) (g .count)) (6 * d + 2) (g .left)) (6 * d + 3) k) (6 * d + 4) (g .typed .types)) (6 * d + 5) (g .typed .infos)) (d + 1) ≡ g ∷ saved f d
+    → saved (stored f d g k) (d + 1) ≡ g ∷ saved f d
 save-at f d g k h z q =
     let b : ℕ = 6 * d in
     simp (q, add-one b, add-two b, add-three b, add-four b, add-five b) (saved-sets f d g (omega arith))
@@ -177,12 +185,14 @@ save-at f d g k h z q =
 -- ---- slots are filled, an object is opened
 
 pub fill-at : (f : List ℕ) (m : Reader) (k rest : ℕ) (t : Typed) → rest ≡ m .top .left - k
-    → close (record { owner = m .top .owner; count = m .top .count; left = rest; typed = t }) (saved f (m .depth)) ≡ filled (openOf f m) k t
+    → close (record { owner = m .top .owner; count = m .top .count; left = rest; typed = t }) (saved f (m .depth))
+    ≡ filled (openOf f m) k t
 unfolding filled
 fill-at f m k rest t e = rw e
 
 pub open-at : (f e : List ℕ) (m : Reader) (row rest : ℕ) (h : Head) (t : Typed) → rest ≡ m .top .left - 1
     → saved e (m .depth + 1) ≡ record { owner = m .top .owner; count = m .top .count; left = rest; typed = t } ∷ saved f (m .depth)
-    → record { cur = record { owner = row; count = h .slots; left = h .slots; typed = h .first }; below = saved e (m .depth + 1) } ≡ opened (openOf f m) row h t
+    → record { cur = record { owner = row; count = h .slots; left = h .slots; typed = h .first }; below = saved e (m .depth + 1) }
+    ≡ opened (openOf f m) row h t
 unfolding opened
 open-at f e m row rest h t q s = rw (s, q)
