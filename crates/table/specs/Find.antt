@@ -2,18 +2,18 @@
 use mathlib.Core.Path.{_≡_, refl, sym, _∙_}
 use mathlib.Core.List.{List, [], _∷_}
 use mathlib.Core.Bool.{Bool, true, false, _&&_}
-use Prim.Native.Nat.{ℕ, zero, suc, _+_, _-_, _≤_, _<_}
+use Prim.Native.Nat.{ℕ, zero, suc, _+_, _-_, _*_, _≤_, _<_}
 use native.Mathlib.Omega.{arith}
 use native.Mathlib.Nat.{zero-add, sub-zero}
 use native.Mathlib.Numerals.{add-one}
-use borrow.Author.Tests.{eqb-true}
+use borrow.Author.Tests.{eq-eqb, ne-eqb, eqb-true}
 use lib.Dec.{eqb}
 use lib.ListN.{length, getD, drop, drop-of-length-le}
 use lib.Seq.{drop-cons}
 use Rattle.format.specs.declared.Row.{Row}
 use Rattle.format.specs.Bytes.{pick}
 use Rattle.format.specs.Rows.{blank, rowsOf, isObject, isClass, findFrom, objectRow, classRow, libraryRow}
-use Rattle.table.specs.Rows.{length-rowsOf}
+use Rattle.table.specs.Rows.{length-rowsOf, row-in}
 
 -- a row of one of these kinds and of this number
 abbrev pub named : (ℕ → Bool) → ℕ → Row → Bool
@@ -21,6 +21,22 @@ named kinds id r = kinds (r .kind) && eqb (r .id) id
 
 abbrev pub isLibrary : ℕ → Bool
 isLibrary kind = eqb kind 12
+
+-- what the id word and the kind word of row i say
+module _ (kinds : ℕ → Bool) (n i : ℕ) (t : List ℕ) (id : ℕ) (h : i < n) where
+  pub other-number : (getD t (8 * i + 3) 0 ≡ id → ⊥) → false ≡ named kinds id (getD (rowsOf n t) i blank)
+  other-number e = rw (← row-in n i t h, ne-eqb (getD t (8 * i + 3) 0) id e) (none (kinds (getD t (8 * i) 0)))
+    where
+      none : (a : Bool) → false ≡ (a && false)
+      none true = refl
+      none false = refl
+
+  pub this-number : getD t (8 * i + 3) 0 ≡ id → kinds (getD t (8 * i) 0) ≡ named kinds id (getD (rowsOf n t) i blank)
+  this-number e = rw (← row-in n i t h, eq-eqb (getD t (8 * i + 3) 0) id e) (all (kinds (getD t (8 * i) 0)))
+    where
+      all : (a : Bool) → a ≡ (a && true)
+      all true = refl
+      all false = refl
 
 -- ---- a scan over the first n rows
 

@@ -110,14 +110,28 @@ pub fn clear_after(table: &mut [u32], n: usize)
 pub fn is_object(kind: u32) -> bool
     ensures { λ r. ⌜ r ≡ isObject kind ⌝ }
 {
-    kind == 1 || kind == 4 || kind == 5 || kind == 6 || kind == 7 || kind == 15 || kind == 16 || kind == 17
+    match kind {
+        1 => true,
+        4 => true,
+        5 => true,
+        6 => true,
+        7 => true,
+        15 => true,
+        16 => true,
+        17 => true,
+        _ => false,
+    }
 }
 
 // Whether a row of this kind is a class that a kind 1 may name.
 pub fn is_class(kind: u32) -> bool
     ensures { λ r. ⌜ r ≡ isClass kind ⌝ }
 {
-    kind == 4 || kind == 5
+    match kind {
+        4 => true,
+        5 => true,
+        _ => false,
+    }
 }
 
 // Whether row i is the object of this number. The number is read first: it is the test that fails most.
@@ -162,6 +176,38 @@ pub fn find_object(table: &[u32], n: usize, id: ObjectNo) -> usize
     let mut i: usize = 0;
     while i < n {
         if names_object(table, n, i, wanted) {
+            return i + 1;
+        }
+        i += 1;
+    }
+    0
+}
+
+// The class of this number, likewise.
+pub fn find_class(table: &[u32], n: usize, id: ObjectNo) -> usize
+    requires { ⌜ n ≤ roomOf (now table) ⌝ }
+    ensures { λ r. ⌜ r ≡ classRow (id .0) (rowsOf n (now (table .entry))) ⌝ }
+{
+    let wanted = id.0;
+    let mut i: usize = 0;
+    while i < n {
+        if names_class(table, n, i, wanted) {
+            return i + 1;
+        }
+        i += 1;
+    }
+    0
+}
+
+// The library of this number, likewise.
+pub fn find_library(table: &[u32], n: usize, id: LibraryNo) -> usize
+    requires { ⌜ n ≤ roomOf (now table) ⌝ }
+    ensures { λ r. ⌜ r ≡ libraryRow (id .0) (rowsOf n (now (table .entry))) ⌝ }
+{
+    let wanted = id.0;
+    let mut i: usize = 0;
+    while i < n {
+        if names_library(table, n, i, wanted) {
             return i + 1;
         }
         i += 1;

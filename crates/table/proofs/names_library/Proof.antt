@@ -1,3 +1,6 @@
+-- The id word decides (`other-number`), then the kind word (`this-number`).
+use native.Mathlib.Omega.{arith}
+use Rattle.table.specs.Find.{isLibrary, other-number, this-number}
 use borrow.Author.Needs.{needs}
 use Rattle.table.proofs.names_library.Statement.{statement}
 use Rattle.table.proofs.names_library.Tie as tie
@@ -22,7 +25,9 @@ shared-slice-read-if1 c = search needs
 
 -- src/lib.rt:151:9
 returns : tie.Need-returns
-returns c = ?
+returns c =
+    let a = c .before .before .args in
+    other-number isLibrary (a .n) (a .i) (a .table .now) (a .id) (omega arith) (c .if1 .taken)
 
 -- src/lib.rt:153:11
 mul-result : tie.Need-mul-result
@@ -38,7 +43,9 @@ shared-slice-read-result c = search needs
 
 -- src/lib.rt:146:1
 returns-2 : tie.Need-returns-2
-returns-2 c = ?
+returns-2 c =
+    let a = c .before .before .before .args in
+    this-number isLibrary (a .n) (a .i) (a .table .now) (a .id) (omega arith) (c .before .if1 .left)
 
 pub names-library-spec : {M : Type 1} → statement M
 names-library-spec =

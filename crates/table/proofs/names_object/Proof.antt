@@ -1,3 +1,8 @@
+-- The id word decides (`other-number`), then the kind word (`this-number`).
+use mathlib.Core.Path.{_∙_}
+use native.Mathlib.Omega.{arith}
+use Rattle.format.specs.Rows.{isObject}
+use Rattle.table.specs.Find.{other-number, this-number}
 use borrow.Author.Needs.{needs}
 use Rattle.table.proofs.names_object.Statement.{statement}
 use Rattle.table.proofs.names_object.Tie as tie
@@ -23,7 +28,9 @@ shared-slice-read-if1 c = search needs
 
 -- src/lib.rt:129:9
 returns : tie.Need-returns
-returns c = ?
+returns c =
+    let a = c .before .before .before .args in
+    other-number isObject (a .n) (a .i) (a .table .now) (a .id) (omega arith) (c .if1 .taken)
 
 -- src/lib.rt:131:21
 mul-is-object : tie.Need-mul-is-object
@@ -43,7 +50,9 @@ is-object-requires c κs = search needs
 
 -- src/lib.rt:124:1
 returns-2 : tie.Need-returns-2
-returns-2 c = ?
+returns-2 c =
+    let a = c .before .before .before .before .before .args in
+    c .is-object .ensures ∙ this-number isObject (a .n) (a .i) (a .table .now) (a .id) (omega arith) (c .before .before .if1 .left)
 
 pub names-object-spec : {M : Type 1} → statement M
 names-object-spec =
