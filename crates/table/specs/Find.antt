@@ -1,0 +1,161 @@
+-- Lookups: the test that each one makes of a row, what a scan has left to do, and what an answer says of the row.
+use mathlib.Core.Path.{_≡_, refl, sym, _∙_}
+use mathlib.Core.List.{List, [], _∷_}
+use mathlib.Core.Bool.{Bool, true, false, _&&_}
+use Prim.Native.Nat.{ℕ, zero, suc, _+_, _-_, _*_, _≤_, _<_}
+use native.Mathlib.Omega.{arith}
+use native.Mathlib.Nat.{zero-add, sub-zero}
+use native.Mathlib.Numerals.{add-one}
+use borrow.Author.Tests.{eq-eqb, ne-eqb, eqb-true}
+use lib.Dec.{eqb}
+use lib.ListN.{length, getD, drop, drop-of-length-le}
+use lib.Seq.{drop-cons}
+use Rattle.format.specs.declared.Row.{Row}
+use Rattle.format.specs.Bytes.{pick}
+use Rattle.format.specs.Rows.{blank, rowsOf, isObject, isClass, findFrom, objectRow, classRow, libraryRow}
+use Rattle.table.specs.Rows.{length-rowsOf, row-in}
+
+-- a row of one of these kinds and of this number
+abbrev pub named : (ℕ → Bool) → ℕ → Row → Bool
+named kinds id r = kinds (r .kind) && eqb (r .id) id
+
+abbrev pub isLibrary : ℕ → Bool
+isLibrary kind = eqb kind 12
+
+-- what the id word and the kind word of row i say
+module _ (kinds : ℕ → Bool) (n i : ℕ) (t : List ℕ) (id : ℕ) (h : i < n) where
+  pub other-number : (getD t (8 * i + 3) 0 ≡ id → ⊥) → false ≡ named kinds id (getD (rowsOf n t) i blank)
+  other-number e = rw (← row-in n i t h, ne-eqb (getD t (8 * i + 3) 0) id e) (none (kinds (getD t (8 * i) 0)))
+    where
+      none : (a : Bool) → false ≡ (a && false)
+      none true = refl
+      none false = refl
+
+  pub this-number : getD t (8 * i + 3) 0 ≡ id → kinds (getD t (8 * i) 0) ≡ named kinds id (getD (rowsOf n t) i blank)
+  this-number e = rw (← row-in n i t h, eq-eqb (getD t (8 * i + 3) 0) id e) (all (kinds (getD t (8 * i) 0)))
+    where
+      all : (a : Bool) → a ≡ (a && true)
+      all true = refl
+      all false = refl
+
+-- ---- a scan over the first n rows
+
+-- what the rows from i on give
+unfoldable pub left : (Row → Bool) → List Row → ℕ → ℕ
+left p rows i = findFrom p i (drop i rows)
+
+module _ (p : Row → Bool) (n : ℕ) (t : List ℕ) where
+  pub left-start : findFrom p 0 (rowsOf n t) ≡ left p (rowsOf n t) 0
+  unfolding left
+  left-start = refl
+
+  pub left-end : (i : ℕ) → n ≤ i → left p (rowsOf n t) i ≡ 0
+  unfolding left findFrom
+  left-end i h =
+      let l : length (rowsOf n t) ≡ n = length-rowsOf n t in
+      rw (drop-of-length-le (rowsOf n t) {i = i} (omega arith))
+
+  pub left-hit : (i : ℕ) → i < n → p (getD (rowsOf n t) i blank) ≡ true → left p (rowsOf n t) i ≡ i + 1
+  unfolding left findFrom
+  left-hit i h e =
+      let l : length (rowsOf n t) ≡ n = length-rowsOf n t in
+      rw (drop-cons (rowsOf n t) i blank (omega arith), e)
+
+  pub left-miss : (i : ℕ) → i < n → p (getD (rowsOf n t) i blank) ≡ false → left p (rowsOf n t) i ≡ left p (rowsOf n t) (i + 1)
+  unfolding left findFrom
+  left-miss i h e =
+      let l : length (rowsOf n t) ≡ n = length-rowsOf n t in
+      rw (drop-cons (rowsOf n t) i blank (omega arith), e, add-one)
+
+-- ---- what an answer says
+
+le-from : (p : Row → Bool) (k : ℕ) (rows : List Row) → findFrom p k rows ≤ k + length rows
+unfolding findFrom
+le-from p k [] = omega arith
+le-from p k (r ∷ rows) = go (p r) (le-from p (k + 1) rows)
+  where
+    go : (b : Bool) → findFrom p (k + 1) rows ≤ k + 1 + length rows → pick b (k + 1) (findFrom p (k + 1) rows) ≤ k + suc (length rows)
+    go true h = omega arith
+    go false h = omega arith
+
+pub find-le : (p : Row → Bool) (rows : List Row) → findFrom p 0 rows ≤ length rows
+find-le p rows = rw zero-add at (le-from p 0 rows)
+
+-- row i passes, where the rows are numbered from k on
+abbrev Hit : (Row → Bool) → ℕ → List Row → ℕ → Type 0
+Hit p k rows i = (k ≤ i) × (i < k + length rows) × (p (getD rows (i - k) blank) ≡ true)
+
+hit-from : (p : Row → Bool) (k : ℕ) (rows : List Row) (i : ℕ) → findFrom p k rows ≡ suc i → Hit p k rows i
+unfolding findFrom
+hit-from p k [] i e = absurd (omega arith)
+hit-from p k (r ∷ rows) i e = go (p r) refl (hit-from p (k + 1) rows i) e
+  where
+    go : (b : Bool) → p r ≡ b → (findFrom p (k + 1) rows ≡ suc i → Hit p (k + 1) rows i) → pick b (k + 1) (findFrom p (k + 1) rows) ≡ suc i
+        → Hit p k (r ∷ rows) i
+    go true q again f =
+        let z : i - k ≡ 0 = omega arith in
+        (omega arith, omega arith, rw z q)
+    go false q again f =
+        let h = again f in
+        let z : i - k ≡ suc (i - (k + 1)) = omega (arith, h .0) in
+        (omega (arith, h .0), omega (arith, h .1), rw z (h .2))
+
+pub find-hit : (p : Row → Bool) (rows : List Row) (i : ℕ) → findFrom p 0 rows ≡ suc i → (i < length rows) × (p (getD rows i blank) ≡ true)
+find-hit p rows i e =
+    let h = hit-from p 0 rows i e in
+    (omega (arith, h .1), rw sub-zero at (h .2))
+
+-- no row passes where the answer is 0
+pub find-none : (p : Row → Bool) (k : ℕ) (rows : List Row) → findFrom p k rows ≡ 0 → (i : ℕ) → i < length rows → p (getD rows i blank) ≡ false
+unfolding findFrom
+find-none p k [] e i h = absurd (omega arith)
+find-none p k (r ∷ rows) e i h = go (p r) refl e i h (find-none p (k + 1) rows)
+  where
+    go : (b : Bool) → p r ≡ b → pick b (k + 1) (findFrom p (k + 1) rows) ≡ 0 → (i : ℕ) → i < suc (length rows)
+        → (findFrom p (k + 1) rows ≡ 0 → (j : ℕ) → j < length rows → p (getD rows j blank) ≡ false)
+        → p (getD (r ∷ rows) i blank) ≡ false
+    go true q f i l again = absurd (omega arith)
+    go false q f zero l again = q
+    go false q f (suc i) l again = again f i (omega arith)
+
+-- row i is there, is of one of these kinds, and has this number
+pub record Named (kinds : ℕ → Bool) (id : ℕ) (rows : List Row) (i : ℕ) : Type 0 where
+  pub inside : i < length rows
+  pub kind : kinds (getD rows i blank .kind) ≡ true
+  pub same : getD rows i blank .id ≡ id
+
+named-parts : (kinds : ℕ → Bool) (id : ℕ) (rows : List Row) (i : ℕ) → findFrom (named kinds id) 0 rows ≡ suc i → Named kinds id rows i
+named-parts kinds id rows i e =
+    let h = find-hit (named kinds id) rows i e in
+    let q = both (kinds (getD rows i blank .kind)) (eqb (getD rows i blank .id) id) (h .1) in
+    record { inside = h .0; kind = q .0; same = eqb-true _ _ (q .1) }
+  where
+    both : (a b : Bool) → (a && b) ≡ true → (a ≡ true) × (b ≡ true)
+    both true b e = (refl, e)
+    both false true e = (e, refl)
+    both false false e = (e, e)
+
+module _ (id : ℕ) (rows : List Row) where
+  pub object-le : objectRow id rows ≤ length rows
+  unfolding objectRow
+  object-le = find-le (named isObject id) rows
+
+  pub class-le : classRow id rows ≤ length rows
+  unfolding classRow
+  class-le = find-le (named isClass id) rows
+
+  pub library-le : libraryRow id rows ≤ length rows
+  unfolding libraryRow
+  library-le = find-le (named isLibrary id) rows
+
+  pub object-named : (i : ℕ) → objectRow id rows ≡ suc i → Named isObject id rows i
+  unfolding objectRow
+  object-named i e = named-parts isObject id rows i e
+
+  pub class-named : (i : ℕ) → classRow id rows ≡ suc i → Named isClass id rows i
+  unfolding classRow
+  class-named i e = named-parts isClass id rows i e
+
+  pub library-named : (i : ℕ) → libraryRow id rows ≡ suc i → Named isLibrary id rows i
+  unfolding libraryRow
+  library-named i e = named-parts isLibrary id rows i e
