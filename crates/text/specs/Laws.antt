@@ -12,7 +12,7 @@ use Rattle.format.specs.declared.Field.the-variants as F
 use Rattle.format.specs.Bytes.{pick, part}
 use Rattle.format.specs.Text.{needOf, wellFormed, textAt}
 use Rattle.format.specs.Local.{Local}
-use Rattle.text.specs.Judged.{picked, judgedAt, judged-short, judged-good, judged-bad, Taken, judged-taken, judged-only, judged-local}
+use Rattle.fields.specs.Judged.{picked, judgedAt, judged-short, judged-good, judged-bad, Taken, judged-taken, judged-only, judged-local}
 
 pub text-short : (s : List ℕ) (at n : ℕ) → length s < at + n → textAt s at n ≡ F.Fault R.CutShort
 unfolding textAt judgedAt
@@ -29,7 +29,7 @@ module _ (s : List ℕ) (at n : ℕ) (h : at + n ≤ length s) where
   text-bad g = judged-bad wellFormed R.BadText s at n h g
 
 -- what an end says: where it is, that the part is there, and that it is text
-pub text-taken : (s : List ℕ) (at n e : ℕ) → textAt s at n ≡ F.End e → Taken wellFormed R.BadText s at n e
+pub text-taken : (s : List ℕ) (at n e : ℕ) → textAt s at n ≡ F.End e → Taken wellFormed s at n e
 unfolding textAt judgedAt
 text-taken s at n e q = judged-taken wellFormed R.BadText s at n e q
 

@@ -1,5 +1,3 @@
--- The laws of text, for its loop and for callers; Parts and Judged serve any field.
+-- The laws of text, for its loop and for callers.
 pub mod Run
-pub mod Parts
-pub mod Judged
 pub mod Laws

@@ -1,0 +1,4 @@
+-- Parts of a stream, fields that judge their bytes, fields one after the other.
+pub mod Parts
+pub mod Judged
+pub mod Sequence

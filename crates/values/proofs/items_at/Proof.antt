@@ -1,0 +1,22 @@
+-- One law for each way; the product fits because no size is over 8.
+use borrow.Author.Needs.{needs}
+use mathlib.Core.Path.{sym, _∙_}
+use native.Mathlib.Omega.{arith}
+use Rattle.values.specs.Ends.{size-times, items-each, items-bytes}
+use Rattle.values.proofs.items_at.Statement.{statement}
+use Rattle.values.proofs.items_at.Tie as tie
+
+pub items-at-spec : {M : Type 1} → statement M
+items-at-spec =
+    tie.close
+    (tie.spec
+    (λ c κs. search needs)
+    (λ c κs. search needs)
+    (λ c. c .each-at .ensures ∙ sym (items-each _ _ _ _ (sym (c .before .before .size-of .ensures) ∙ c .before .if1 .taken)))
+    (λ c.
+    let a = c .before .before .before .args in
+    omega (arith, size-times (a .code) (c .before .size-of .result) (a .n) (c .before .size-of .ensures)))
+    (λ c κs. search needs)
+    (λ c.
+    let z = c .before .before .size-of .ensures in
+    rw (c .bytes-at .ensures, z) (sym (items-bytes _ _ _ _ (λ e. c .before .if1 .left (z ∙ e))))))

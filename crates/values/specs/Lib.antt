@@ -1,0 +1,2 @@
+-- Laws of primitive values.
+pub mod Ends
