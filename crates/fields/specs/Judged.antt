@@ -15,7 +15,7 @@ use Rattle.format.specs.declared.Field.{Field}
 use Rattle.format.specs.declared.Field.the-variants as F
 use Rattle.format.specs.Bytes.{pick, part}
 use Rattle.format.specs.Local.{Local}
-use Rattle.fields.specs.Parts.{length-part, part-first, stands, there}
+use Rattle.fields.specs.Parts.{length-part, part-first, stands-at, there}
 
 -- what holds of both choices holds of the pick
 pub picked : {A : Type 0} (P : A → Type 0) (t : Bool) {a b : A} → (t ≡ true → P a) → (t ≡ false → P b) → P (pick t a b)
@@ -39,7 +39,7 @@ module _ (test : List ℕ → Bool) where
 
   pub taken-only : (s t rest : List ℕ) (p q n e : ℕ) → Taken s p n e → q ≤ length t → drop q t ≡ part s p n ++ rest → Taken t q n (q + n)
   taken-only s t rest p q n e w h d =
-      let x = stands t (part s p n) rest q n (length-part s p n (w .room)) h d in
+      let x = stands-at t (part s p n) rest q n (length-part s p n (w .room)) h d in
       record { ends = refl; room = x .room; good = rw (x .same) (w .good) }
 
   -- a field of some bytes, how many its first byte tells, looks at no others
@@ -47,10 +47,10 @@ module _ (test : List ℕ → Bool) where
       → ((s : List ℕ) (p e : ℕ) → field s p ≡ F.End e → Taken s p (width (getD s p 0)) e)
       → ((s : List ℕ) (p e : ℕ) → Taken s p (width (getD s p 0)) e → field s p ≡ F.End e)
       → Local field
-  local-of width field some taken end =
+  local-of width field some reads end =
       record {
-        moves = λ s p e q. let w = taken s p e q in (omega arith, omega arith);
-        only = λ s t rest p q e h d. go s t rest p q e (taken s p e h) d;
+        moves = λ s p e q. let w = reads s p e q in (omega arith, omega arith);
+        only = λ s t rest p q e h d. go s t rest p q e (reads s p e h) d;
       }
     where
       go : (s t rest : List ℕ) (p q e : ℕ) → Taken s p (width (getD s p 0)) e → drop q t ≡ part s p (e - p) ++ rest
@@ -62,7 +62,7 @@ module _ (test : List ℕ → Bool) where
           let d2 : drop q t ≡ part s p n ++ rest = rw a at d in
           let l = length-part s p n (w .room) in
           let h = there t (part s p n) rest q (rw l i) d2 in
-          let x = stands t (part s p n) rest q n l h d2 in
+          let x = stands-at t (part s p n) rest q n l h d2 in
           let f : getD t q 0 ≡ getD s p 0 = sym (part-first t q n i) ∙ (ap (λ (r : List ℕ). getD r 0 0) (x .same) ∙ part-first s p n i) in
           rw a (end t q (q + n) (rw f (taken-only s t rest p q n e w h d2)))
 

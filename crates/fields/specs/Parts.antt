@@ -1,10 +1,10 @@
 -- Parts of a stream: their length, their first byte, two in a row, and what follows where one stands elsewhere.
 use Prim.Native.Nat.{ℕ, suc, _+_, _-_, _≤_, _<_}
-use mathlib.Core.Path.{_≡_, refl, sym, ap, _∙_}
-use mathlib.Core.List.{List, _∷_, _++_}
+use mathlib.Core.Path.{_≡_, sym, ap, _∙_}
+use mathlib.Core.List.{List, _∷_, _++_, append-assoc}
 use native.Mathlib.Omega.{arith}
 use native.Mathlib.Numerals.{add-one}
-use lib.ListN.{length, getD, take, drop, length-append, length-drop}
+use lib.ListN.{length, getD, drop, length-append, length-drop}
 use lib.Seq.{length-take-le, take-add, drop-drop, drop-cons, take-at, drop-at, getD-take, getD-drop}
 use Rattle.format.specs.Bytes.{part}
 
@@ -35,8 +35,8 @@ pub record Stands (t b rest : List ℕ) (q k : ℕ) : Type 0 where
   pub same : part t q k ≡ b
   pub after : drop (q + k) t ≡ rest
 
-pub stands : (t b rest : List ℕ) (q k : ℕ) → length b ≡ k → q ≤ length t → drop q t ≡ b ++ rest → Stands t b rest q k
-stands t b rest q k l h e =
+pub stands-at : (t b rest : List ℕ) (q k : ℕ) → length b ≡ k → q ≤ length t → drop q t ≡ b ++ rest → Stands t b rest q k
+stands-at t b rest q k l h e =
     record {
       room = omega (arith, simp (length-drop, length-append) at (ap length e));
       same = rw e (take-at b rest k l);
@@ -46,3 +46,8 @@ stands t b rest q k l h e =
 -- bytes stand within the stream
 pub there : (t b rest : List ℕ) (q : ℕ) → 0 < length b → drop q t ≡ b ++ rest → q ≤ length t
 there t b rest q h e = omega (arith, simp (length-drop, length-append) at (ap length e))
+
+-- where the bytes from p to e stand, those from p to m stand, and then those from m to e
+pub halves : (s t rest : List ℕ) (p m e q : ℕ) → p ≤ m → m ≤ e → drop q t ≡ part s p (e - p) ++ rest
+    → drop q t ≡ part s p (m - p) ++ (part s m (e - m) ++ rest)
+halves s t rest p m e q h g d = d ∙ (ap (λ (l : List ℕ). l ++ rest) (part-through s p m e h g) ∙ append-assoc (part s p (m - p)) (part s m (e - m)) rest)

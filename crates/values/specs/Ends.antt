@@ -1,22 +1,22 @@
 -- Primitive values at a place: one law for each answer.
 use Prim.Native.Nat.{ℕ, _+_, _-_, _*_, _/_, _%_, _≤_, _<_}
-use mathlib.Core.Path.{_≡_, refl}
+use mathlib.Core.Path.{_≡_}
 use mathlib.Core.Bool.{true, false}
 use mathlib.Core.List.{List}
 use native.Mathlib.Omega.{arith}
-use native.Mathlib.Nat.{add-sub-cancel-left, mul-le-mul-right}
+use native.Mathlib.Nat.{mul-le-mul-right}
 use lib.ListN.{length, getD}
 use borrow.Author.Tests.{lt-ltb, le-ltb, le-leb, lt-leb, eq-eqb, ne-eqb}
 use Rattle.format.specs.declared.Refusal.the-variants as R
 use Rattle.format.specs.declared.PrimitiveCode.{PrimitiveCode}
 use Rattle.format.specs.declared.PrimitiveCode.the-variants as C
-use Rattle.format.specs.declared.Field.{Field}
 use Rattle.format.specs.declared.Field.the-variants as F
 use Rattle.format.specs.Bytes.{part}
 use Rattle.format.specs.Text.{needOf, wellFormed}
 use Rattle.format.specs.declared.Number64.the-variants as N64
 use Rattle.format.specs.Numbers.{u64At}
 use Rattle.format.specs.Values.{bytesAt, booleanAt, scalarAt, charAt, decimal, decimalText, dateTimeAt, sizeOf, valueAt, times, itemsAt}
+use Rattle.fields.specs.Judged.{judgedAt, judged-short, judged-good, judged-bad}
 
 module _ (s : List ℕ) (p : ℕ) where
   module _ (n : ℕ) where
@@ -29,30 +29,30 @@ module _ (s : List ℕ) (p : ℕ) where
     bytes-end h = simp le-leb
 
     pub scalar-short : length s < p + n → scalarAt s p n ≡ F.Fault R.CutShort
-    unfolding scalarAt
-    scalar-short h = simp lt-leb
+    unfolding scalarAt judgedAt
+    scalar-short h = judged-short wellFormed R.BadValue s p n h
 
     pub decimal-short : length s < p + n → decimalText s p n ≡ F.Fault R.CutShort
-    unfolding decimalText
-    decimal-short h = simp lt-leb
+    unfolding decimalText judgedAt
+    decimal-short h = judged-short decimal R.BadValue s p n h
 
     -- the part as code has it, from p to p + n
     module _ (h : p + n ≤ length s) where
       pub scalar-end : wellFormed (part s p (p + n - p)) ≡ true → scalarAt s p n ≡ F.End (p + n)
-      unfolding scalarAt
-      scalar-end g = simp (le-leb, rw add-sub-cancel-left at g)
+      unfolding scalarAt judgedAt
+      scalar-end g = judged-good wellFormed R.BadValue s p n h g
 
       pub scalar-bad : wellFormed (part s p (p + n - p)) ≡ false → scalarAt s p n ≡ F.Fault R.BadValue
-      unfolding scalarAt
-      scalar-bad g = simp (le-leb, rw add-sub-cancel-left at g)
+      unfolding scalarAt judgedAt
+      scalar-bad g = judged-bad wellFormed R.BadValue s p n h g
 
       pub decimal-end : decimal (part s p (p + n - p)) ≡ true → decimalText s p n ≡ F.End (p + n)
-      unfolding decimalText
-      decimal-end g = simp (le-leb, rw add-sub-cancel-left at g)
+      unfolding decimalText judgedAt
+      decimal-end g = judged-good decimal R.BadValue s p n h g
 
       pub decimal-bad : decimal (part s p (p + n - p)) ≡ false → decimalText s p n ≡ F.Fault R.BadValue
-      unfolding decimalText
-      decimal-bad g = simp (le-leb, rw add-sub-cancel-left at g)
+      unfolding decimalText judgedAt
+      decimal-bad g = judged-bad decimal R.BadValue s p n h g
 
   pub boolean-short : length s ≤ p → booleanAt s p ≡ F.Fault R.CutShort
   unfolding booleanAt

@@ -33,17 +33,17 @@ pub fn boolean_at(s: &[u8], at: usize) -> Field
     Field::End(at + 1)
 }
 
-// A scalar of n bytes.
-fn scalar_at(s: &[u8], at: usize, n: usize) -> Field
-    ensures { λ r. ⌜ r ≡ scalarAt (now (s .entry)) at n ⌝ }
+// A scalar of so many bytes.
+fn scalar_at(s: &[u8], at: usize, size: usize) -> Field
+    ensures { λ r. ⌜ r ≡ scalarAt (now (s .entry)) at size ⌝ }
 {
     if s.len() < at {
         return Field::Fault(Refusal::CutShort);
     }
-    if s.len() - at < n {
+    if s.len() - at < size {
         return Field::Fault(Refusal::CutShort);
     }
-    let end = at + n;
+    let end = at + size;
     if text::well_formed(&s[at..end]) {
         Field::End(end)
     } else {
@@ -65,17 +65,17 @@ pub fn char_at(s: &[u8], at: usize) -> Field
     scalar_at(s, at, (more as usize) + 1)
 }
 
-// n bytes of Decimal text; they are never judged as UTF-8.
-fn decimal_text(s: &[u8], at: usize, n: usize) -> Field
-    ensures { λ r. ⌜ r ≡ decimalText (now (s .entry)) at n ⌝ }
+// So many bytes of Decimal text; they are never judged as UTF-8.
+fn decimal_text(s: &[u8], at: usize, count: usize) -> Field
+    ensures { λ r. ⌜ r ≡ decimalText (now (s .entry)) at count ⌝ }
 {
     if s.len() < at {
         return Field::Fault(Refusal::CutShort);
     }
-    if s.len() - at < n {
+    if s.len() - at < count {
         return Field::Fault(Refusal::CutShort);
     }
-    let end = at + n;
+    let end = at + count;
     if decimal::is_decimal(&s[at..end]) {
         Field::End(end)
     } else {
