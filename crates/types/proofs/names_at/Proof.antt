@@ -1,0 +1,35 @@
+-- The invariant: the names that are left, from p on, answer what all of them answer. The measure: how many are left.
+use borrow.Author.Needs.{needs}
+use mathlib.Core.Path.{_≡_, refl, sym, _∙_}
+use native.Mathlib.Omega.{arith}
+use Rattle.fields.specs.Sequence.{times-none, times-step}
+use Rattle.format.specs.Values.{times}
+use Rattle.format.specs.Types.{nameAt}
+use Rattle.types.proofs.names_at.Statement.{statement}
+use Rattle.types.proofs.names_at.Tie as tie
+
+abbrev Inv-loop : tie.InvT-loop
+Inv-loop s n at left₀ p₀ left p = times (nameAt s) n at ≡ times (nameAt s) left p
+
+abbrev μ-loop : tie.MeasureT-loop
+μ-loop s n at left₀ p₀ left p = left
+
+pub names-at-spec : {M : Type 1} → statement M
+names-at-spec =
+    tie.close
+    (tie.spec
+    Inv-loop
+    μ-loop
+    (λ c. refl)
+    (λ c κs. search needs)
+    (λ c. search needs)
+    (λ c. search needs)
+    (λ c.
+    let v = c .before .before .before in
+    sym (v .before .before .loop .inv ∙ (times-step _ _ _ (omega arith) ∙ rw (← v .name-at .ensures, c .before .f .given .1))))
+    (λ c. search needs)
+    (λ c. search needs)
+    (λ c.
+    let v = c .before .before .before in
+    v .before .before .loop .inv ∙ (times-step _ _ _ (omega arith) ∙ rw (← v .name-at .ensures, c .before .next .given .1)))
+    (λ c. sym (c .before .loop .inv ∙ times-none _ _ _ (omega arith))))

@@ -1,0 +1,47 @@
+-- The type of the next slot, and a null run over slots: one law for each way.
+use Prim.Native.Nat.{ℕ, zero, suc, _+_, _-_, _≤_, _<_}
+use mathlib.Core.Path.{_≡_, refl}
+use mathlib.Core.Bool.{true, false}
+use mathlib.Core.List.{List}
+use native.Mathlib.Omega.{arith}
+use lib.ListN.{length, getD}
+use borrow.Author.Tests.{eq-eqb, ne-eqb}
+use Rattle.format.specs.declared.Typed.{Typed}
+use Rattle.format.specs.declared.Passed.{Passed}
+use Rattle.format.specs.declared.Passed.the-variants as O
+use Rattle.format.specs.Types.{infoAt, typedAt, past, placeOr, moved, isPrimitive, passed, passedOf}
+
+module _ (s : List ℕ) (t : Typed) where
+  pub moved-alike : t .types ≡ 0 → moved s t ≡ t
+  unfolding moved
+  moved-alike e = rw (eq-eqb (t .types) 0 e)
+
+  pub moved-on : (t .types ≡ 0 → ⊥) → moved s t ≡ typedAt s (past (length s) (t .types)) (placeOr (t .infos) (infoAt s (getD s (t .types) 0) (t .infos)))
+  unfolding moved
+  moved-on e = rw (ne-eqb (t .types) 0 e)
+
+  module _ (n : ℕ) where
+    pub passed-alike : t .types ≡ 0 → passedOf s t n ≡ O.Over t
+    unfolding passedOf
+    passed-alike e = rw (eq-eqb (t .types) 0 e)
+
+    pub passed-walk : (t .types ≡ 0 → ⊥) → passedOf s t n ≡ passed s t n
+    unfolding passedOf
+    passed-walk e = rw (ne-eqb (t .types) 0 e)
+
+  pub passed-none : (n : ℕ) → n ≤ 0 → passed s t n ≡ O.Over t
+  unfolding passed
+  passed-none zero h = refl
+  passed-none (suc n) h = absurd (omega arith)
+
+  pub passed-crossed : (n : ℕ) → 0 < n → isPrimitive (t .slot) ≡ true → passed s t n ≡ O.Crossed
+  unfolding passed
+  passed-crossed zero h e = absurd (omega arith)
+  passed-crossed (suc n) h e = rw e
+
+  pub passed-step : (n : ℕ) → 0 < n → isPrimitive (t .slot) ≡ false → passed s t n ≡ passed s (moved s t) (n - 1)
+  unfolding passed
+  passed-step zero h e = absurd (omega arith)
+  passed-step (suc n) h e =
+      let d : suc n - 1 ≡ n = omega arith in
+      rw (e, d)
