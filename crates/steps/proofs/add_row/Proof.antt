@@ -1,0 +1,23 @@
+use mathlib.Core.Path.{_≡_, refl, sym, _∙_}
+use mathlib.Core.List.{List, []}
+use Prim.Native.Nat.{ℕ}
+use native.Mathlib.Omega.{arith}
+use Rattle.format.specs.Rows.{roomOf}
+use Rattle.steps.specs.Held.{stateOf}
+use Rattle.steps.specs.Laws.{add-room, add-full}
+use borrow.Author.Needs.{needs}
+use Rattle.steps.proofs.add_row.Statement.{statement}
+use Rattle.steps.proofs.add_row.Tie as tie
+
+pub add-row-spec : {M : Type 1} → statement M
+add-row-spec =
+    tie.close
+    (tie.spec
+    (λ c κs. search needs)
+    (λ c κs. search needs)
+    (λ c. search needs)
+    (λ c. search needs)
+    (λ c. search needs)
+    (λ c. λ f g. let a = c .before .before .before .before .before .before .before .before .before .before .args in let p = c .before .before .before .before .put-row in add-room (roomOf (a .table .now)) (a .table .now) (p .last .0) f g (a .m) (a .next) (a .r) (omega arith) (p .ensures))
+    (λ c. search needs)
+    (λ c. λ f g. let a = c .before .before .before .before .args in add-full (roomOf (a .table .now)) (a .table .now) [] f g (a .m) (a .next) (a .r) (omega arith)))

@@ -1,0 +1,19 @@
+use mathlib.Core.Path.{_≡_, refl, sym, _∙_}
+use mathlib.Core.List.{List, []}
+use Prim.Native.Nat.{ℕ}
+use native.Mathlib.Omega.{arith}
+use Rattle.format.specs.Rows.{roomOf}
+use Rattle.steps.specs.Held.{stateOf}
+use Rattle.steps.specs.Laws.{row-of}
+use borrow.Author.Needs.{needs}
+use Rattle.steps.proofs.row_in.Statement.{statement}
+use Rattle.steps.proofs.row_in.Tie as tie
+
+pub row-in-spec : {M : Type 1} → statement M
+row-in-spec =
+    tie.close
+    (tie.spec
+    (λ c κs. search needs)
+    (λ c. search needs)
+    (λ c. search needs)
+    (λ c. λ t f. let a = c .before .before .before .args in row-of t f (a .m) (a .kind) (a .h) _ (c .before .before .less .ensures)))

@@ -1,0 +1,3 @@
+-- How the code holds the machine's state, and the laws of each way a step goes.
+pub mod Held
+pub mod Laws
