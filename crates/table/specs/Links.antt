@@ -2,7 +2,7 @@
 use mathlib.Core.Path.{_≡_, refl, sym, ap, _∙_}
 use mathlib.Core.List.{List, [], _∷_, _++_, append-nil, append-assoc, map, map-append}
 use mathlib.Core.Bool.{Bool, true, false}
-use Prim.Native.Nat.{ℕ, suc, _+_, _≤_, _<_}
+use Prim.Native.Nat.{ℕ, zero, suc, _+_, _≤_, _<_}
 use native.Mathlib.Omega.{arith}
 use native.Mathlib.Numerals.{add-one}
 use borrow.Author.Tests.{eq-eqb, ne-eqb}
@@ -63,12 +63,12 @@ half-end n i t e =
 
 find-map : (id k : ℕ) (rows xs ys : List Row)
     → findFrom (named isObject id) k (map (withOwn rows) xs ++ ys) ≡ findFrom (named isObject id) k (xs ++ ys)
-unfolding findFrom
+unfolding findFrom named
 find-map id k rows [] ys = refl
 find-map id k rows (r ∷ xs) ys = rw (find-map id (k + 1) rows xs ys)
 
 object-half : (id i : ℕ) (rows : List Row) → objectRow id (half i rows) ≡ objectRow id rows
-unfolding objectRow half
+unfolding objectRow half named
 object-half id i rows = find-map id 0 rows (take i rows) (drop i rows) ∙ rw take-append-drop
 
 -- the links that the pass puts in change no lookup
@@ -107,3 +107,18 @@ half-step n i v t xs ys h e f g =
     let a : getD xs i blank ≡ getD (rowsOf n t) i blank = rw e (half-at (rowsOf n t) i (omega arith)) in
     let q : v ≡ linkOf (rowsOf n t) (getD (rowsOf n t) i blank) = f ∙ rw (a, e) (link-half i (rowsOf n t) (getD (rowsOf n t) i blank)) in
     g ∙ rw (a, q, e) (sym (half-next (rowsOf n t) i (omega arith)))
+
+-- ---- the rows with their links
+
+pub length-linked : (rows : List Row) → length (linked rows) ≡ length rows
+unfolding linked
+length-linked rows = length-map rows (withOwn rows)
+
+getD-map-in : (f : Row → Row) (rows : List Row) (i : ℕ) → i < length rows → getD (map f rows) i blank ≡ f (getD rows i blank)
+getD-map-in f [] i h = absurd (omega arith)
+getD-map-in f (r ∷ rows) zero h = refl
+getD-map-in f (r ∷ rows) (suc i) h = getD-map-in f rows i (omega arith)
+
+pub linked-at : (rows : List Row) (i : ℕ) → i < length rows → getD (linked rows) i blank ≡ withLink (getD rows i blank) (linkOf rows (getD rows i blank))
+unfolding linked
+linked-at rows i h = getD-map-in (withOwn rows) rows i h

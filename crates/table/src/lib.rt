@@ -49,6 +49,22 @@ pub fn row_at(table: &[u32], n: usize, i: usize) -> Row
     }
 }
 
+// The kind of row i alone.
+fn kind_at(table: &[u32], n: usize, i: usize) -> u32
+    requires { ⌜ (i < n) × (n ≤ roomOf (now table)) ⌝ }
+    ensures { λ r. ⌜ r ≡ getD (rowsOf n (now (table .entry))) i blank .kind ⌝ }
+{
+    table[8 * i]
+}
+
+// The id of row i alone.
+fn id_at(table: &[u32], n: usize, i: usize) -> u32
+    requires { ⌜ (i < n) × (n ≤ roomOf (now table)) ⌝ }
+    ensures { λ r. ⌜ r ≡ getD (rowsOf n (now (table .entry))) i blank .id ⌝ }
+{
+    table[8 * i + 3]
+}
+
 // Row i of the first n is r.
 pub fn put_at(table: &mut [u32], n: usize, i: usize, r: Row)
     requires { ⌜ (i < n) × (n ≤ roomOf (now table)) ⌝ }
@@ -134,15 +150,15 @@ pub fn is_class(kind: u32) -> bool
     }
 }
 
-// Whether row i is the object of this number. The number is read first: it is the test that fails most.
+// Whether row i is the object of this number. The number is tested first: it fails most.
 fn names_object(table: &[u32], n: usize, i: usize, id: u32) -> bool
     requires { ⌜ (i < n) × (n ≤ roomOf (now table)) ⌝ }
     ensures { λ r. ⌜ r ≡ named isObject id (getD (rowsOf n (now (table .entry))) i blank) ⌝ }
 {
-    if table[8 * i + 3] != id {
+    if id_at(table, n, i) != id {
         return false;
     }
-    is_object(table[8 * i])
+    is_object(kind_at(table, n, i))
 }
 
 // Whether row i is the class of this number.
@@ -150,10 +166,10 @@ fn names_class(table: &[u32], n: usize, i: usize, id: u32) -> bool
     requires { ⌜ (i < n) × (n ≤ roomOf (now table)) ⌝ }
     ensures { λ r. ⌜ r ≡ named isClass id (getD (rowsOf n (now (table .entry))) i blank) ⌝ }
 {
-    if table[8 * i + 3] != id {
+    if id_at(table, n, i) != id {
         return false;
     }
-    is_class(table[8 * i])
+    is_class(kind_at(table, n, i))
 }
 
 // Whether row i is the library of this number.
@@ -161,10 +177,10 @@ fn names_library(table: &[u32], n: usize, i: usize, id: u32) -> bool
     requires { ⌜ (i < n) × (n ≤ roomOf (now table)) ⌝ }
     ensures { λ r. ⌜ r ≡ named isLibrary id (getD (rowsOf n (now (table .entry))) i blank) ⌝ }
 {
-    if table[8 * i + 3] != id {
+    if id_at(table, n, i) != id {
         return false;
     }
-    table[8 * i] == 12
+    kind_at(table, n, i) == 12
 }
 
 // The object of this number among the first n rows: the number of its row plus 1; 0 if there is none.
