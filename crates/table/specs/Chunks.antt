@@ -53,7 +53,7 @@ module _ (w : ℕ) where
       let a : length (take w t) ≡ w = length-take-le w t (omega arith) in
       let rest : List ℕ = take (w * i) (drop w t) ++ (r ++ drop (w * i + w) (drop w t)) in
       let q : take (w * suc i) t ++ (r ++ drop (w * suc i + w) t) ≡ take w t ++ rest =
-          rw (more w i, take-add, append-assoc, drop-drop (w * i + w) w t, add-assoc) in
+      rw (more w i, take-add, append-assoc, drop-drop (w * i + w) w t, add-assoc) in
       rw (q, take-at (take w t) rest w a, drop-at (take w t) rest w a)
       (ap (λ (x : List (List ℕ)). take w t ∷ x) (chunk-over n i (drop w t) r e (omega arith) (omega arith)))
 
@@ -66,7 +66,8 @@ module _ (w : ℕ) where
   chunk-set (suc n) (suc i) k v t h l =
       let e : w * suc i + k ≡ w + (w * i + k) = rw (more w i, add-assoc) in
       rw (
-      e,
-      take-set-le w t (w + (w * i + k)) v (omega arith),
-      drop-set-add w t (w * i + k) v,
-      chunk-set n i k v (drop w t) (omega arith) l)
+        e,
+        take-set-le w t (w + (w * i + k)) v (omega arith),
+        drop-set-add w t (w * i + k) v,
+        chunk-set n i k v (drop w t) (omega arith) l,
+      )

@@ -94,9 +94,9 @@ module _ (rows : List Row) (i : ℕ) (h : i < length rows) where
   unfolding half
   half-next =
       let e : half (suc i) rows ≡ map (withOwn rows) (take i rows) ++ withOwn rows (getD rows i blank) ∷ drop (suc i) rows =
-          rw (take-suc rows i blank h, map-append, append-assoc) in
+      rw (take-suc rows i blank h, map-append, append-assoc) in
       let q : set (half i rows) i (withOwn rows (getD rows i blank)) ≡ map (withOwn rows) (take i rows) ++ withOwn rows (getD rows i blank) ∷ drop (suc i) rows =
-          rw half-split (set-at (map (withOwn rows) (take i rows)) (getD rows i blank) (drop (suc i) rows) (withOwn rows (getD rows i blank)) i front) in
+      rw half-split (set-at (map (withOwn rows) (take i rows)) (getD rows i blank) (drop (suc i) rows) (withOwn rows (getD rows i blank)) i front) in
       rw (add-one, q) e
 
 -- row i of xs gets its link

@@ -50,14 +50,15 @@ words-row (a ∷ b ∷ c ∷ d ∷ e ∷ f ∷ g ∷ h ∷ i ∷ l) q = absurd (
 row-take : (t : List ℕ) → rowOf (take 8 t) ≡ rowOf t
 row-take t =
     rw (
-    getD-take 8 t 0 0 (omega arith),
-    getD-take 8 t 1 0 (omega arith),
-    getD-take 8 t 2 0 (omega arith),
-    getD-take 8 t 3 0 (omega arith),
-    getD-take 8 t 4 0 (omega arith),
-    getD-take 8 t 5 0 (omega arith),
-    getD-take 8 t 6 0 (omega arith),
-    getD-take 8 t 7 0 (omega arith))
+      getD-take 8 t 0 0 (omega arith),
+      getD-take 8 t 1 0 (omega arith),
+      getD-take 8 t 2 0 (omega arith),
+      getD-take 8 t 3 0 (omega arith),
+      getD-take 8 t 4 0 (omega arith),
+      getD-take 8 t 5 0 (omega arith),
+      getD-take 8 t 6 0 (omega arith),
+      getD-take 8 t 7 0 (omega arith),
+    )
 
 pub words-rowsOf : (n : ℕ) (t : List ℕ) → 8 * n ≤ length t → words (rowsOf n t) ≡ take (8 * n) t
 unfolding words rowsOf
@@ -66,7 +67,7 @@ words-rowsOf (suc n) t h =
     let d : length (drop 8 t) ≡ length t - 8 = length-drop 8 t in
     let m : 8 * suc n ≡ 8 + 8 * n = omega arith in
     let f : words (rowOf t ∷ []) ≡ take 8 t =
-        ap (λ (r : Row). words (r ∷ [])) (sym (row-take t)) ∙ words-row (take 8 t) (length-take-le 8 t (omega arith)) in
+    ap (λ (r : Row). words (r ∷ [])) (sym (row-take t)) ∙ words-row (take 8 t) (length-take-le 8 t (omega arith)) in
     let r : words (rowsOf n (drop 8 t)) ≡ take (8 * n) (drop 8 t) = words-rowsOf n (drop 8 t) (omega arith) in
     ap (λ (l : List ℕ). words (rowOf t ∷ []) ++ l) r ∙ rw (m, take-add 8 (8 * n) t) (ap (λ (l : List ℕ). l ++ take (8 * n) (drop 8 t)) f)
 
@@ -97,15 +98,16 @@ rowAt t i =
 from-drop : (t : List ℕ) (i : ℕ) → rowOf (drop (8 * i) t) ≡ rowAt t i
 from-drop t i =
     rw (
-    getD-drop (8 * i) t 0 0,
-    getD-drop (8 * i) t 1 0,
-    getD-drop (8 * i) t 2 0,
-    getD-drop (8 * i) t 3 0,
-    getD-drop (8 * i) t 4 0,
-    getD-drop (8 * i) t 5 0,
-    getD-drop (8 * i) t 6 0,
-    getD-drop (8 * i) t 7 0,
-    add-zero)
+      getD-drop (8 * i) t 0 0,
+      getD-drop (8 * i) t 1 0,
+      getD-drop (8 * i) t 2 0,
+      getD-drop (8 * i) t 3 0,
+      getD-drop (8 * i) t 4 0,
+      getD-drop (8 * i) t 5 0,
+      getD-drop (8 * i) t 6 0,
+      getD-drop (8 * i) t 7 0,
+      add-zero,
+    )
 
 chunk-row : (n i : ℕ) (t : List ℕ) → getD (rowsOf n t) i blank ≡ rowOf (getD (chunks 8 n t) i [])
 chunk-row n i t = rw (rowsOf-chunks n t) (List·getD-map rowOf (chunks 8 n t) i [])
@@ -132,7 +134,7 @@ row-over n i t r h l =
     let b : ℕ = 8 * i in
     let e : sets t b (words (r ∷ [])) ≡ take b t ++ words (r ∷ []) ++ drop (b + 8) t = sets-eq (words (r ∷ [])) t b (omega arith) in
     let q : chunks 8 n (take b t ++ (words (r ∷ []) ++ drop (b + 8) t)) ≡ set (chunks 8 n t) i (words (r ∷ [])) =
-        chunk-over 8 n i t (words (r ∷ [])) refl h l in
+    chunk-over 8 n i t (words (r ∷ [])) refl h l in
     simp (add-one b, add-two b, add-three b, add-four b, add-five b, add-six b, add-seven b)
     (rw (e, rowsOf-chunks n (take b t ++ words (r ∷ []) ++ drop (b + 8) t), append-assoc (take b t) (words (r ∷ [])) (drop (b + 8) t), q, map-set, rowsOf-chunks))
 
@@ -142,7 +144,7 @@ row-more n t u r e =
     let k : length (rowsOf n t) ≡ n = length-rowsOf n t in
     let x : Row = rowOf (take 8 (drop (8 * n) t)) in
     let s : rowsOf (n + 1) t ≡ rowsOf n t ++ (x ∷ []) =
-        rw (add-one n, rowsOf-chunks (suc n) t, rowsOf-chunks n t, chunks-suc 8 n t) (map-append rowOf (chunks 8 n t) _) in
+    rw (add-one n, rowsOf-chunks (suc n) t, rowsOf-chunks n t, chunks-suc 8 n t) (map-append rowOf (chunks 8 n t) _) in
     e ∙ rw s (set-at (rowsOf n t) x [] r n k)
 
 -- a store to the link word of row i
@@ -154,7 +156,7 @@ link-set n i v t h l =
     let d : length (drop (8 * i) t) ≡ length t - 8 * i = length-drop (8 * i) t in
     let k : length (getD (chunks 8 n t) i []) ≡ 8 = rw (chunk-at 8 n i t h) (length-take-le 8 (drop (8 * i) t) (omega arith)) in
     let p : rowOf (set (getD (chunks 8 n t) i []) 6 v) ≡ withLink (rowOf (getD (chunks 8 n t) i [])) v =
-        ap (λ (x : List ℕ). rowOf (set x 6 v)) (sym (words-row (getD (chunks 8 n t) i []) k)) in
+    ap (λ (x : List ℕ). rowOf (set x 6 v)) (sym (words-row (getD (chunks 8 n t) i []) k)) in
     rw (rowsOf-chunks n (set t (8 * i + 6) v), chunk-set 8 n i 6 v t h (omega arith), map-set, chunk-row n i t, rowsOf-chunks n t, p)
 
 -- ---- clearing

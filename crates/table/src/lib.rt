@@ -93,7 +93,7 @@ pub fn put_row(table: &mut [u32], n: usize, r: Row)
 pub fn set_link(table: &mut [u32], n: usize, i: usize, link: u32)
     requires { ⌜ (i < n) × (n ≤ roomOf (now table)) ⌝ }
     ensures { λ _. ⌜ rowsOf n (now (table .exit)) ≡ set (rowsOf n (now (table .entry))) i
-                       (withLink (getD (rowsOf n (now (table .entry))) i blank) link) ⌝ }
+        (withLink (getD (rowsOf n (now (table .entry))) i blank) link) ⌝ }
 {
     table[8 * i + 6] = link;
 }

@@ -27,10 +27,10 @@ clear-spec =
     (λ c. omega arith)
     (λ c. omega arith)
     (λ c.
-        let v = c .before .loop in
-        (omega arith, simp length-set (v .inv .1), rw (v .inv .2) (fill-more (v .i) 0 _ (omega arith))))
+    let v = c .before .loop in
+    (omega arith, simp length-set (v .inv .1), rw (v .inv .2) (fill-more (v .i) 0 _ (omega arith))))
     (λ c. c .before .loop .inv .1)
     (λ c.
-        let v = c .before .loop in
-        let e : v .i ≡ length (c .before .before .args .table .now) = omega arith in
-        v .inv .2 ∙ rw (e, drop-length, append-nil)))
+    let v = c .before .loop in
+    let e : v .i ≡ length (c .before .before .args .table .now) = omega arith in
+    v .inv .2 ∙ rw (e, drop-length, append-nil)))

@@ -25,13 +25,13 @@ find-library-spec =
     (λ c κs. omega arith)
     (λ c. omega arith)
     (λ c.
-        let s = c .before .names-library in
-        let v = c .before .before .before .loop in
-        sym (v .inv .1 ∙ left-hit _ _ _ _ (c .before .before .loop-test .taken) (sym (s .ensures) ∙ c .if1 .taken)))
+    let s = c .before .names-library in
+    let v = c .before .before .before .loop in
+    sym (v .inv .1 ∙ left-hit _ _ _ _ (c .before .before .loop-test .taken) (sym (s .ensures) ∙ c .if1 .taken)))
     (λ c. omega arith)
     (λ c. omega arith)
     (λ c.
-        let s = c .before .names-library in
-        let v = c .before .before .before .loop in
-        (omega arith, v .inv .1 ∙ left-miss _ _ _ _ (c .before .before .loop-test .taken) (sym (s .ensures) ∙ c .if1 .left)))
+    let s = c .before .names-library in
+    let v = c .before .before .before .loop in
+    (omega arith, v .inv .1 ∙ left-miss _ _ _ _ (c .before .before .loop-test .taken) (sym (s .ensures) ∙ c .if1 .left)))
     (λ c. sym (c .before .loop .inv .1 ∙ left-end _ _ _ _ (c .loop-test .left))))

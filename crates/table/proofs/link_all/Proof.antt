@@ -26,13 +26,14 @@ link-all-spec =
     (λ c. omega arith)
     (λ c. omega arith)
     (λ c.
-        let s = c .before .before in
-        let l = s .before .before in
-        let t = l .before .before in
-        let v = t .before .loop in
-        let a = t .before .before .before .args in
-        (omega arith
-        , s .set-link .kept .0 ∙ v .inv .1
-        , half-step (a .n) (v .i) (l .link-of .result) (a .table .now) (rowsOf (a .n) (v .table)) _ (t .loop-test .taken) (v .inv .2) (l .link-of .ensures) (s .set-link .ensures)))
+    let s = c .before .before in
+    let l = s .before .before in
+    let t = l .before .before in
+    let v = t .before .loop in
+    let a = t .before .before .before .args in (
+      omega arith,
+      s .set-link .kept .0 ∙ v .inv .1,
+      half-step (a .n) (v .i) (l .link-of .result) (a .table .now) (rowsOf (a .n) (v .table)) _ (t .loop-test .taken) (v .inv .2) (l .link-of .ensures) (s .set-link .ensures),
+    ))
     (λ c. c .before .loop .inv .1)
     (λ c. c .before .loop .inv .2 ∙ half-end _ _ _ (omega arith)))

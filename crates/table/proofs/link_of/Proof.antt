@@ -17,12 +17,12 @@ link-of-spec =
     (λ c κs. search needs)
     (λ c κs. search needs)
     (λ c.
-        let a = c .before .before .before .before .args in
-        omega (arith, object-le (c .before .before .row-at .result .id) (rowsOf (a .n) (a .table .now)), length-rowsOf (a .n) (a .table .now)))
+    let a = c .before .before .before .before .args in
+    omega (arith, object-le (c .before .before .row-at .result .id) (rowsOf (a .n) (a .table .now)), length-rowsOf (a .n) (a .table .now)))
     (λ c κs. search needs)
     (λ c.
-        let a = c .before .before .before .before .args in
-        omega (arith, object-le (c .before .before .row-at .result .id) (rowsOf (a .n) (a .table .now)), length-rowsOf (a .n) (a .table .now)))
+    let a = c .before .before .before .before .args in
+    omega (arith, object-le (c .before .before .row-at .result .id) (rowsOf (a .n) (a .table .now)), length-rowsOf (a .n) (a .table .now)))
     (λ c. link-reference _ _ _ (c .before .before .row-at .ensures) _ (c .before .match .keys1) (c .find-object .ensures))
     (λ c. link-root _ _ _ (c .before .before .row-at .ensures) _ (c .before .match .keys2) (c .find-object2 .ensures))
     (λ c. link-kept _ _ _ (c .before .row-at .ensures) (c .match .keys3))

@@ -15,5 +15,5 @@ names-class-spec =
     (λ c κs. search needs)
     (λ c κs. search needs)
     (λ c.
-        c .is-class .ensures
-        ∙ this-number isClass _ _ _ (c .before .before .before .id-at .ensures) (c .before .before .if1 .left) _ (c .before .kind-at .ensures)))
+    c .is-class .ensures
+    ∙ this-number isClass _ _ _ (c .before .before .before .id-at .ensures) (c .before .before .if1 .left) _ (c .before .kind-at .ensures)))

@@ -15,5 +15,5 @@ names-object-spec =
     (λ c κs. search needs)
     (λ c κs. search needs)
     (λ c.
-        c .is-object .ensures
-        ∙ this-number isObject _ _ _ (c .before .before .before .id-at .ensures) (c .before .before .if1 .left) _ (c .before .kind-at .ensures)))
+    c .is-object .ensures
+    ∙ this-number isObject _ _ _ (c .before .before .before .id-at .ensures) (c .before .before .if1 .left) _ (c .before .kind-at .ensures)))
