@@ -1,5 +1,4 @@
 -- The row's kind decides (`lost-not`), then the lookup (`lost-if`).
-use native.Mathlib.Omega.{arith}
 use borrow.Author.Needs.{needs}
 use Rattle.table.specs.Links.{lost-not, lost-if}
 use Rattle.table.proofs.is_lost.Statement.{statement}

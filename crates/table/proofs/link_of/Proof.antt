@@ -1,7 +1,5 @@
 -- The row's kind picks the link, one law for each arm. A row number plus 1 is at most n, so it fits a word (`object-le`).
-use mathlib.Core.Path.{_≡_}
 use native.Mathlib.Omega.{arith}
-use lib.ListN.{length}
 use borrow.Author.Needs.{needs}
 use Rattle.format.specs.Rows.{rowsOf}
 use Rattle.table.specs.Rows.{length-rowsOf}
