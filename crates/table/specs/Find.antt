@@ -121,14 +121,14 @@ find-none p k (r ∷ rows) e i h = go (p r) refl e i h (find-none p (k + 1) rows
     go false q f (suc i) l again = again f i (omega arith)
 
 -- row i is there, is of one of these kinds, and has this number
-pub record Named (kinds : ℕ → Bool) (id : ℕ) (rows : List Row) (i : ℕ) : Type 0 where
+pub record Found (kinds : ℕ → Bool) (id : ℕ) (rows : List Row) (i : ℕ) : Type 0 where
   pub inside : i < length rows
   pub kind : kinds (getD rows i blank .kind) ≡ true
   pub same : getD rows i blank .id ≡ id
 
-named-parts : (kinds : ℕ → Bool) (id : ℕ) (rows : List Row) (i : ℕ) → findFrom (named kinds id) 0 rows ≡ suc i → Named kinds id rows i
+found-parts : (kinds : ℕ → Bool) (id : ℕ) (rows : List Row) (i : ℕ) → findFrom (named kinds id) 0 rows ≡ suc i → Found kinds id rows i
 unfolding named
-named-parts kinds id rows i e =
+found-parts kinds id rows i e =
     let h = find-hit (named kinds id) rows i e in
     let q = both (kinds (getD rows i blank .kind)) (eqb (getD rows i blank .id) id) (h .1) in
     record { inside = h .0; kind = q .0; same = eqb-true _ _ (q .1) }
@@ -151,14 +151,14 @@ module _ (id : ℕ) (rows : List Row) where
   unfolding libraryRow named
   library-le = find-le (named isLibrary id) rows
 
-  pub object-named : (i : ℕ) → objectRow id rows ≡ suc i → Named isObject id rows i
+  pub object-found : (i : ℕ) → objectRow id rows ≡ suc i → Found isObject id rows i
   unfolding objectRow named
-  object-named i e = named-parts isObject id rows i e
+  object-found i e = found-parts isObject id rows i e
 
-  pub class-named : (i : ℕ) → classRow id rows ≡ suc i → Named isClass id rows i
+  pub class-found : (i : ℕ) → classRow id rows ≡ suc i → Found isClass id rows i
   unfolding classRow named
-  class-named i e = named-parts isClass id rows i e
+  class-found i e = found-parts isClass id rows i e
 
-  pub library-named : (i : ℕ) → libraryRow id rows ≡ suc i → Named isLibrary id rows i
+  pub library-found : (i : ℕ) → libraryRow id rows ≡ suc i → Found isLibrary id rows i
   unfolding libraryRow named
-  library-named i e = named-parts isLibrary id rows i e
+  library-found i e = found-parts isLibrary id rows i e
