@@ -162,3 +162,13 @@ module _ (id : ℕ) (rows : List Row) where
   pub library-found : (i : ℕ) → libraryRow id rows ≡ suc i → Found isLibrary id rows i
   unfolding libraryRow named
   library-found i e = found-parts isLibrary id rows i e
+
+  -- the row of an answer above 0, as code finds it
+  pub object-at : 0 < objectRow id rows → Found isObject id rows (objectRow id rows - 1)
+  object-at h = object-found (objectRow id rows - 1) (omega arith)
+
+  pub class-at : 0 < classRow id rows → Found isClass id rows (classRow id rows - 1)
+  class-at h = class-found (classRow id rows - 1) (omega arith)
+
+  pub library-at : 0 < libraryRow id rows → Found isLibrary id rows (libraryRow id rows - 1)
+  library-at h = library-found (libraryRow id rows - 1) (omega arith)
