@@ -4,7 +4,6 @@ use mathlib.Core.List.{List, [], _∷_, _++_, append-assoc, map}
 use Prim.Native.Nat.{ℕ, zero, suc, _+_, _-_, _*_, _≤_, _<_}
 use native.Mathlib.Omega.{arith}
 use native.Mathlib.Nat.{mul-zero, mul-suc, add-comm, add-assoc, zero-add}
-use native.Mathlib.Numerals.{add-one}
 use lib.ListN.{length, getD, take, drop, set, length-drop}
 use lib.Seq.{drop-drop, take-at, drop-at, take-add, length-take-le, take-set-lt, take-set-le, drop-set-lt, drop-set-add}
 

@@ -1,8 +1,8 @@
 -- Lookups: the test that each one makes of a row, what a scan has left to do, and what an answer says of the row.
-use mathlib.Core.Path.{_≡_, refl, sym, _∙_}
+use mathlib.Core.Path.{_≡_, refl}
 use mathlib.Core.List.{List, [], _∷_}
 use mathlib.Core.Bool.{Bool, true, false, _&&_}
-use Prim.Native.Nat.{ℕ, zero, suc, _+_, _-_, _*_, _≤_, _<_}
+use Prim.Native.Nat.{ℕ, zero, suc, _+_, _-_, _≤_, _<_}
 use native.Mathlib.Omega.{arith}
 use native.Mathlib.Nat.{zero-add, sub-zero}
 use native.Mathlib.Numerals.{add-one}
@@ -13,26 +13,28 @@ use lib.Seq.{drop-cons}
 use Rattle.format.specs.declared.Row.{Row}
 use Rattle.format.specs.Bytes.{pick}
 use Rattle.format.specs.Rows.{blank, rowsOf, isObject, isClass, findFrom, objectRow, classRow, libraryRow}
-use Rattle.table.specs.Rows.{length-rowsOf, row-in}
+use Rattle.table.specs.Rows.{length-rowsOf}
 
 -- a row of one of these kinds and of this number
-abbrev pub named : (ℕ → Bool) → ℕ → Row → Bool
+unfoldable pub named : (ℕ → Bool) → ℕ → Row → Bool
 named kinds id r = kinds (r .kind) && eqb (r .id) id
 
 abbrev pub isLibrary : ℕ → Bool
 isLibrary kind = eqb kind 12
 
--- what the id word and the kind word of row i say
-module _ (kinds : ℕ → Bool) (n i : ℕ) (t : List ℕ) (id : ℕ) (h : i < n) where
-  pub other-number : (getD t (8 * i + 3) 0 ≡ id → ⊥) → false ≡ named kinds id (getD (rowsOf n t) i blank)
-  other-number e = rw (← row-in n i t h, ne-eqb (getD t (8 * i + 3) 0) id e) (none (kinds (getD t (8 * i) 0)))
+-- what a row's number w and its kind k say
+module _ (kinds : ℕ → Bool) (id : ℕ) (row : Row) (w : ℕ) (e : w ≡ row .id) where
+  pub other-number : (w ≡ id → ⊥) → false ≡ named kinds id row
+  unfolding named
+  other-number h = rw (← e, ne-eqb w id h) (none (kinds (row .kind)))
     where
       none : (a : Bool) → false ≡ (a && false)
       none true = refl
       none false = refl
 
-  pub this-number : getD t (8 * i + 3) 0 ≡ id → kinds (getD t (8 * i) 0) ≡ named kinds id (getD (rowsOf n t) i blank)
-  this-number e = rw (← row-in n i t h, eq-eqb (getD t (8 * i + 3) 0) id e) (all (kinds (getD t (8 * i) 0)))
+  pub this-number : w ≡ id → (k : ℕ) → k ≡ row .kind → kinds k ≡ named kinds id row
+  unfolding named
+  this-number h k q = rw (← e, eq-eqb w id h, ← q) (all (kinds k))
     where
       all : (a : Bool) → a ≡ (a && true)
       all true = refl
@@ -119,13 +121,14 @@ find-none p k (r ∷ rows) e i h = go (p r) refl e i h (find-none p (k + 1) rows
     go false q f (suc i) l again = again f i (omega arith)
 
 -- row i is there, is of one of these kinds, and has this number
-pub record Named (kinds : ℕ → Bool) (id : ℕ) (rows : List Row) (i : ℕ) : Type 0 where
+pub record Found (kinds : ℕ → Bool) (id : ℕ) (rows : List Row) (i : ℕ) : Type 0 where
   pub inside : i < length rows
   pub kind : kinds (getD rows i blank .kind) ≡ true
   pub same : getD rows i blank .id ≡ id
 
-named-parts : (kinds : ℕ → Bool) (id : ℕ) (rows : List Row) (i : ℕ) → findFrom (named kinds id) 0 rows ≡ suc i → Named kinds id rows i
-named-parts kinds id rows i e =
+found-parts : (kinds : ℕ → Bool) (id : ℕ) (rows : List Row) (i : ℕ) → findFrom (named kinds id) 0 rows ≡ suc i → Found kinds id rows i
+unfolding named
+found-parts kinds id rows i e =
     let h = find-hit (named kinds id) rows i e in
     let q = both (kinds (getD rows i blank .kind)) (eqb (getD rows i blank .id) id) (h .1) in
     record { inside = h .0; kind = q .0; same = eqb-true _ _ (q .1) }
@@ -137,25 +140,35 @@ named-parts kinds id rows i e =
 
 module _ (id : ℕ) (rows : List Row) where
   pub object-le : objectRow id rows ≤ length rows
-  unfolding objectRow
+  unfolding objectRow named
   object-le = find-le (named isObject id) rows
 
   pub class-le : classRow id rows ≤ length rows
-  unfolding classRow
+  unfolding classRow named
   class-le = find-le (named isClass id) rows
 
   pub library-le : libraryRow id rows ≤ length rows
-  unfolding libraryRow
+  unfolding libraryRow named
   library-le = find-le (named isLibrary id) rows
 
-  pub object-named : (i : ℕ) → objectRow id rows ≡ suc i → Named isObject id rows i
-  unfolding objectRow
-  object-named i e = named-parts isObject id rows i e
+  pub object-found : (i : ℕ) → objectRow id rows ≡ suc i → Found isObject id rows i
+  unfolding objectRow named
+  object-found i e = found-parts isObject id rows i e
 
-  pub class-named : (i : ℕ) → classRow id rows ≡ suc i → Named isClass id rows i
-  unfolding classRow
-  class-named i e = named-parts isClass id rows i e
+  pub class-found : (i : ℕ) → classRow id rows ≡ suc i → Found isClass id rows i
+  unfolding classRow named
+  class-found i e = found-parts isClass id rows i e
 
-  pub library-named : (i : ℕ) → libraryRow id rows ≡ suc i → Named isLibrary id rows i
-  unfolding libraryRow
-  library-named i e = named-parts isLibrary id rows i e
+  pub library-found : (i : ℕ) → libraryRow id rows ≡ suc i → Found isLibrary id rows i
+  unfolding libraryRow named
+  library-found i e = found-parts isLibrary id rows i e
+
+  -- the row of an answer above 0, as code finds it
+  pub object-at : 0 < objectRow id rows → Found isObject id rows (objectRow id rows - 1)
+  object-at h = object-found (objectRow id rows - 1) (omega arith)
+
+  pub class-at : 0 < classRow id rows → Found isClass id rows (classRow id rows - 1)
+  class-at h = class-found (classRow id rows - 1) (omega arith)
+
+  pub library-at : 0 < libraryRow id rows → Found isLibrary id rows (libraryRow id rows - 1)
+  library-at h = library-found (libraryRow id rows - 1) (omega arith)

@@ -2,3 +2,4 @@
 pub mod Chunks
 pub mod Rows
 pub mod Find
+pub mod Links

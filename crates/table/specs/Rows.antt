@@ -5,7 +5,7 @@ use Prim.Native.Nat.{ℕ, zero, suc, _+_, _-_, _*_, _≤_, _<_}
 use native.Mathlib.Omega.{arith}
 use native.Mathlib.Nat.{add-zero}
 use native.Mathlib.Numerals.{add-one, add-two, add-three, add-four, add-five, add-six, add-seven}
-use lib.ListN.{length, getD, take, drop, set, replicate, length-append, length-drop, length-map, List·getD-map, List·getD-eq-default}
+use lib.ListN.{length, getD, take, drop, set, replicate, length-drop, length-map, List·getD-map, List·getD-eq-default}
 use lib.Seq.{sets, sets-eq, getD-drop, getD-take, take-add, length-take-le, set-at, take-length, drop-length}
 use Rattle.format.specs.declared.Row.{Row}
 use Rattle.format.specs.Rows.{blank, roomOf, words, rowOf, rowsOf, withLink}
@@ -152,7 +152,6 @@ pub link-set : (n i v : ℕ) (t : List ℕ) → i < n → 8 * n ≤ length t
     → rowsOf n (set t (8 * i + 6) v) ≡ set (rowsOf n t) i (withLink (getD (rowsOf n t) i blank) v)
 unfolding words
 link-set n i v t h l =
-    let c : List ℕ = getD (chunks 8 n t) i [] in
     let d : length (drop (8 * i) t) ≡ length t - 8 * i = length-drop (8 * i) t in
     let k : length (getD (chunks 8 n t) i []) ≡ 8 = rw (chunk-at 8 n i t h) (length-take-le 8 (drop (8 * i) t) (omega arith)) in
     let p : rowOf (set (getD (chunks 8 n t) i []) 6 v) ≡ withLink (rowOf (getD (chunks 8 n t) i [])) v =
@@ -161,7 +160,7 @@ link-set n i v t h l =
 
 -- ---- clearing
 
--- the words from a on are zero
+-- a part that came back zero, behind the first n rows
 pub cleared : (n : ℕ) (t ys : List ℕ) → 8 * n ≤ length t → ys ≡ replicate (length (take (length t - 8 * n) (drop (8 * n) t))) 0
     → take (8 * n) t ++ (ys ++ drop (length t - 8 * n) (drop (8 * n) t)) ≡ words (rowsOf n t) ++ replicate (length t - 8 * n) 0
 cleared n t ys h e =

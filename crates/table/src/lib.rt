@@ -7,7 +7,7 @@ ghost use mathlib.Core.Path.{_≡_};
 ghost use mathlib.Core.List.{List, [], _∷_, _++_};
 ghost use Prim.Native.Nat.{_+_, _-_, _*_, _≤_, _<_};
 ghost use lib.ListN.{length, getD, set, replicate};
-ghost use Rattle.format.specs.Rows.{blank, roomOf, words, rowsOf, withLink, isObject, isClass, objectRow, classRow, libraryRow};
+ghost use Rattle.format.specs.Rows.{blank, roomOf, words, rowsOf, withLink, isObject, isClass, objectRow, classRow, libraryRow, findFrom, linkOf, linked, isLost};
 ghost use Rattle.table.specs.Find.{named, isLibrary};
 
 // How many whole rows the words have room for.
@@ -47,6 +47,22 @@ pub fn row_at(table: &[u32], n: usize, i: usize) -> Row
         link: table[b + 6],
         count: table[b + 7],
     }
+}
+
+// The kind of row i alone.
+fn kind_at(table: &[u32], n: usize, i: usize) -> u32
+    requires { ⌜ (i < n) × (n ≤ roomOf (now table)) ⌝ }
+    ensures { λ r. ⌜ r ≡ getD (rowsOf n (now (table .entry))) i blank .kind ⌝ }
+{
+    table[8 * i]
+}
+
+// The id of row i alone.
+fn id_at(table: &[u32], n: usize, i: usize) -> u32
+    requires { ⌜ (i < n) × (n ≤ roomOf (now table)) ⌝ }
+    ensures { λ r. ⌜ r ≡ getD (rowsOf n (now (table .entry))) i blank .id ⌝ }
+{
+    table[8 * i + 3]
 }
 
 // Row i of the first n is r.
@@ -134,15 +150,15 @@ pub fn is_class(kind: u32) -> bool
     }
 }
 
-// Whether row i is the object of this number. The number is read first: it is the test that fails most.
+// Whether row i is the object of this number. The number is tested first: it fails most.
 fn names_object(table: &[u32], n: usize, i: usize, id: u32) -> bool
     requires { ⌜ (i < n) × (n ≤ roomOf (now table)) ⌝ }
     ensures { λ r. ⌜ r ≡ named isObject id (getD (rowsOf n (now (table .entry))) i blank) ⌝ }
 {
-    if table[8 * i + 3] != id {
+    if id_at(table, n, i) != id {
         return false;
     }
-    is_object(table[8 * i])
+    is_object(kind_at(table, n, i))
 }
 
 // Whether row i is the class of this number.
@@ -150,10 +166,10 @@ fn names_class(table: &[u32], n: usize, i: usize, id: u32) -> bool
     requires { ⌜ (i < n) × (n ≤ roomOf (now table)) ⌝ }
     ensures { λ r. ⌜ r ≡ named isClass id (getD (rowsOf n (now (table .entry))) i blank) ⌝ }
 {
-    if table[8 * i + 3] != id {
+    if id_at(table, n, i) != id {
         return false;
     }
-    is_class(table[8 * i])
+    is_class(kind_at(table, n, i))
 }
 
 // Whether row i is the library of this number.
@@ -161,10 +177,10 @@ fn names_library(table: &[u32], n: usize, i: usize, id: u32) -> bool
     requires { ⌜ (i < n) × (n ≤ roomOf (now table)) ⌝ }
     ensures { λ r. ⌜ r ≡ named isLibrary id (getD (rowsOf n (now (table .entry))) i blank) ⌝ }
 {
-    if table[8 * i + 3] != id {
+    if id_at(table, n, i) != id {
         return false;
     }
-    table[8 * i] == 12
+    kind_at(table, n, i) == 12
 }
 
 // The object of this number among the first n rows: the number of its row plus 1; 0 if there is none.
@@ -213,4 +229,61 @@ pub fn find_library(table: &[u32], n: usize, id: LibraryNo) -> usize
         i += 1;
     }
     0
+}
+
+// ---- links
+
+// Whether row i is a reference with no target.
+fn is_lost(table: &[u32], n: usize, i: usize) -> bool
+    requires { ⌜ n ≤ roomOf (now table) ⌝ }
+    ensures { λ r. ⌜ r ≡ isLost (rowsOf n (now (table .entry))) (getD (rowsOf n (now (table .entry))) i blank) ⌝ }
+{
+    let r = row_at(table, n, i);
+    if r.kind != 9 {
+        return false;
+    }
+    find_object(table, n, ObjectNo(r.id)) == 0
+}
+
+// The first reference with no target: the number of its row plus 1; 0 if there is none.
+pub fn first_lost(table: &[u32], n: usize) -> usize
+    requires { ⌜ n ≤ roomOf (now table) ⌝ }
+    ensures { λ r. ⌜ r ≡ findFrom (isLost (rowsOf n (now (table .entry)))) 0 (rowsOf n (now (table .entry))) ⌝ }
+{
+    let mut i: usize = 0;
+    while i < n {
+        if is_lost(table, n, i) {
+            return i + 1;
+        }
+        i += 1;
+    }
+    0
+}
+
+// The link of row i. It is a row number plus 1, which has to fit a word.
+fn link_of(table: &[u32], n: usize, i: usize) -> u32
+    requires { ⌜ (n ≤ roomOf (now table)) × (n < 4294967296) ⌝ }
+    ensures { λ r. ⌜ r ≡ linkOf (rowsOf n (now (table .entry))) (getD (rowsOf n (now (table .entry))) i blank) ⌝ }
+{
+    let r = row_at(table, n, i);
+    let kind = r.kind;
+    match kind {
+        9 => find_object(table, n, ObjectNo(r.id)) as u32,
+        0 => find_object(table, n, ObjectNo(r.id)) as u32,
+        1 => r.link,
+        _ => 0,
+    }
+}
+
+// Each of the first n rows gets its link.
+pub fn link_all(table: &mut [u32], n: usize)
+    requires { ⌜ (n ≤ roomOf (now table)) × (n < 4294967296) ⌝ }
+    ensures { λ _. ⌜ rowsOf n (now (table .exit)) ≡ linked (rowsOf n (now (table .entry))) ⌝ }
+{
+    let mut i: usize = 0;
+    while i < n {
+        let v = link_of(table, n, i);
+        set_link(table, n, i, v);
+        i += 1;
+    }
 }

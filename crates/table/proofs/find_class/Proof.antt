@@ -15,7 +15,7 @@ abbrev μ-loop : tie.MeasureT-loop
 μ-loop table n wanted i₀ i = n - i
 
 pub find-class-spec : {M : Type 1} → statement M
-unfolding classRow
+unfolding classRow named
 find-class-spec =
     tie.close
     (tie.spec

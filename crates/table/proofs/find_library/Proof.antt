@@ -15,7 +15,7 @@ abbrev μ-loop : tie.MeasureT-loop
 μ-loop table n wanted i₀ i = n - i
 
 pub find-library-spec : {M : Type 1} → statement M
-unfolding libraryRow
+unfolding libraryRow named
 find-library-spec =
     tie.close
     (tie.spec

@@ -15,7 +15,7 @@ abbrev μ-loop : tie.MeasureT-loop
 μ-loop table n wanted i₀ i = n - i
 
 pub find-object-spec : {M : Type 1} → statement M
-unfolding objectRow
+unfolding objectRow named
 find-object-spec =
     tie.close
     (tie.spec
