@@ -1,0 +1,127 @@
+-- The ends of a stream: what is judged after the end record, and the answer and the words that are left.
+use Prim.Native.Nat.{ℕ, suc, _+_, _-_, _*_, _≤_, _<_}
+use mathlib.Core.Path.{_≡_, refl, sym, ap, subst, _∙_}
+use mathlib.Core.List.{List, [], _∷_, _++_}
+use native.Mathlib.Omega.{arith}
+use lib.ListN.{length, getD, replicate}
+use borrow.Author.Tests.{lt-ltb, le-ltb, eq-eqb, ne-eqb}
+use Rattle.format.specs.declared.Refusal.{Refusal}
+use Rattle.format.specs.declared.Refusal.the-variants as R
+use Rattle.format.specs.declared.ReadAnswer.{ReadAnswer}
+use Rattle.format.specs.declared.ReadAnswer.the-variants as A
+use Rattle.format.specs.declared.Row.{Row}
+use Rattle.format.specs.declared.Reader.{Reader}
+use Rattle.format.specs.declared.Where.the-variants as W
+use Rattle.format.specs.Rows.{blank, roomOf, rowsOf, words, objectRow, findFrom, isLost, linked}
+use Rattle.format.specs.Machine.{State, Next, go, ended, refuse, Outcome, accepted, refused, finish, run, begin, start, topLevel, recordStep, readOf, readAnswer, tableWords}
+use Rattle.table.specs.Rows.{length-rowsOf}
+use Rattle.frames.specs.Frames.{saved}
+use Rattle.steps.specs.declared.Step.{Step}
+use Rattle.steps.specs.declared.Step.the-variants as Q
+use Rattle.steps.specs.Held.{stateOf, after}
+use Rattle.reader.specs.Fine.{Fine, NextFine, record-fine}
+use Rattle.reader.specs.Loop.{Runs}
+
+-- what an answer says of the table that it leaves
+abbrev pub outcomeOf : List ℕ → ReadAnswer → Outcome
+outcomeOf t (A.Accepted n) = accepted (rowsOf n t)
+outcomeOf t (A.Refused r place) = refused r place
+
+-- rows that are taken are within the table
+abbrev pub Within : ℕ → ReadAnswer → Type 0
+Within room (A.Accepted n) = n ≤ room
+Within room (A.Refused r place) = Unit {0}
+
+-- ---- after the end record
+
+module _ (s : List ℕ) (rows : List Row) (at : ℕ) where
+  pub trailing : at < length s → refused R.Trailing at ≡ finish s rows at
+  unfolding finish
+  trailing h = rw (lt-ltb at (length s) h)
+
+  module _ (h : length s ≤ at) where
+    pub rootless : (r : Row) (o : ℕ) → r ≡ getD rows 0 blank → o ≡ objectRow (r .id) rows → o ≡ 0 → refused R.NoRoot 0 ≡ finish s rows at
+    unfolding finish
+    rootless r o e f z =
+        let k : objectRow (getD rows 0 blank .id) rows ≡ 0 = ap (λ (x : Row). objectRow (x .id) rows) (sym e) ∙ (sym f ∙ z) in
+        rw (le-ltb at (length s) h, eq-eqb (objectRow (getD rows 0 blank .id) rows) 0 k)
+
+    module _ (r : Row) (o : ℕ) (e : r ≡ getD rows 0 blank) (f : o ≡ objectRow (r .id) rows) (z : o ≡ 0 → ⊥) where
+      there : objectRow (getD rows 0 blank .id) rows ≡ 0 → ⊥
+      there k = z (f ∙ (ap (λ (x : Row). objectRow (x .id) rows) e ∙ k))
+
+      pub lost : (l : ℕ) (x : Row) → l ≡ findFrom (isLost rows) 0 rows → (l ≡ 0 → ⊥) → x ≡ getD rows (l - 1) blank → refused R.NoObject (x .offset) ≡ finish s rows at
+      unfolding finish
+      lost l x g y k =
+          rw (le-ltb at (length s) h, ne-eqb (objectRow (getD rows 0 blank .id) rows) 0 there, ← g, ne-eqb l 0 y)
+          (ap (λ (v : Row). refused R.NoObject (v .offset)) k)
+
+      pub whole : (l : ℕ) → l ≡ findFrom (isLost rows) 0 rows → l ≡ 0 → accepted (linked rows) ≡ finish s rows at
+      unfolding finish
+      whole l g y =
+          rw (le-ltb at (length s) h, ne-eqb (objectRow (getD rows 0 blank .id) rows) 0 there, ← g, eq-eqb l 0 y)
+
+-- ---- the header, and the limit
+
+pub too-large : (s : List ℕ) (room : ℕ) → 16777216 < length s → refused R.TooLarge 0 ≡ readOf s room
+unfolding readOf
+too-large s room h = rw (lt-ltb 16777216 (length s) h)
+
+-- the reader at the start holds the machine's start
+pub fresh-start : (t f : List ℕ) (m : Reader) → m ≡ record { at = 0; rows = 0; depth = 0; top = topLevel } → stateOf t f m ≡ start
+unfolding rowsOf saved
+fresh-start t f m e = rw e
+
+module _ (s t u f g : List ℕ) (m : Reader) (l : length s ≤ 16777216) (z : m ≡ record { at = 0; rows = 0; depth = 0; top = topLevel }) (q : Step)
+  (e : after u g q ≡ recordStep s (roomOf t) (stateOf t f m) W.Start) where
+  -- what the header's step says of the whole
+  told : begin s (roomOf t) (after u g q) ≡ readOf s (roomOf t)
+  unfolding readOf
+  told =
+      rw (le-ltb 16777216 (length s) l) (ap (begin s (roomOf t)) (e ∙ ap (λ (st : State). recordStep s (roomOf t) st W.Start) (fresh-start t f m z)))
+
+  begun : begin s (roomOf t) (after u g q) ≡ readOf s (roomOf t) → (x : Step) → q ≡ x → begin s (roomOf t) (after u g x) ≡ readOf s (roomOf t)
+  begun k x c = ap (λ (y : Step). begin s (roomOf t) (after u g y)) (sym c) ∙ k
+
+  fine₀ : Fine s (roomOf t) start
+  fine₀ = record { inside = omega arith; counted = omega arith; roomy = omega arith; shallow = omega arith }
+
+  headed : NextFine s (roomOf t) 0 (after u g q)
+  headed =
+      subst (λ (x : Next). NextFine s (roomOf t) 0 x) (sym (e ∙ ap (λ (st : State). recordStep s (roomOf t) st W.Start) (fresh-start t f m z)))
+      (record-fine s (roomOf t) start fine₀ W.Start)
+
+  pub head-on : (n : Reader) → q ≡ Q.Go n → length g ≡ 384 → Runs s (roomOf t) (readOf s (roomOf t)) u g n
+  head-on n c d =
+      let w : NextFine s (roomOf t) 0 (go (stateOf u g n)) = subst (λ (x : Step). NextFine s (roomOf t) 0 (after u g x)) c headed in
+      record { framed = d; fine = w .0; fuel = length s; enough = omega arith; same = begun told (Q.Go n) c }
+
+  pub head-end : (n p : ℕ) → q ≡ Q.Ended n p → finish s (rowsOf n u) p ≡ readOf s (roomOf t)
+  head-end n p c = begun told (Q.Ended n p) c
+
+  pub head-roomy : (n p : ℕ) → q ≡ Q.Ended n p → (n ≤ roomOf t) × (n ≤ length s)
+  head-roomy n p c =
+      let w : NextFine s (roomOf t) 0 (ended (rowsOf n u) p) = subst (λ (x : Step). NextFine s (roomOf t) 0 (after u g x)) c headed in
+      let k : length (rowsOf n u) ≡ n = length-rowsOf n u in
+      let a = w .0 in
+      let b = w .1 in
+      (omega arith, omega arith)
+
+  pub head-bad : (r : Refusal) (p : ℕ) → q ≡ Q.Refuse r p → refused r p ≡ readOf s (roomOf t)
+  head-bad r p c = begun told (Q.Refuse r p) c
+
+-- ---- the answer and the words
+
+module _ (n : ℕ) (t u : List ℕ) (a : ReadAnswer) (v : Outcome) (e : outcomeOf t a ≡ v) where
+  pub left-rows : (k : ℕ) → a ≡ A.Accepted k → u ≡ words (rowsOf k t) ++ replicate (n - 8 * k) 0 → (a ≡ readAnswer v) × (u ≡ tableWords n v)
+  unfolding readAnswer tableWords
+  left-rows k c w =
+      let x : v ≡ accepted (rowsOf k t) = sym e ∙ ap (outcomeOf t) c in
+      let l : length (rowsOf k t) ≡ k = length-rowsOf k t in
+      (c ∙ rw (x, l), w ∙ rw (x, l))
+
+  pub left-zeros : (r : Refusal) (p : ℕ) → a ≡ A.Refused r p → u ≡ replicate n 0 → (a ≡ readAnswer v) × (u ≡ tableWords n v)
+  unfolding readAnswer tableWords
+  left-zeros r p c w =
+      let x : v ≡ refused r p = sym e ∙ ap (outcomeOf t) c in
+      (c ∙ rw x, w ∙ rw x)
