@@ -2,10 +2,10 @@
 use Prim.Native.Nat.{ℕ, zero, suc, _+_, _-_, _≤_, _<_}
 use mathlib.Core.Path.{_≡_, refl, sym, ap, _∙_}
 use mathlib.Core.Bool.{Bool, true, false, _||_}
-use mathlib.Core.List.{List, _++_}
+use mathlib.Core.List.{List}
 use native.Mathlib.Omega.{arith}
 use native.Mathlib.Decide.{decLt}
-use lib.ListN.{length, getD, drop}
+use lib.ListN.{length, getD}
 use lib.Dec.{ltb, leb, eqb}
 use borrow.Author.Tests.{lt-ltb, le-ltb, le-leb, lt-leb, leb-true}
 use Rattle.format.specs.declared.Refusal.{Refusal}
@@ -13,7 +13,6 @@ use Rattle.format.specs.declared.Refusal.the-variants as R
 use Rattle.format.specs.declared.PrimitiveCode.{PrimitiveCode}
 use Rattle.format.specs.declared.Coded.{Coded}
 use Rattle.format.specs.declared.Coded.the-variants as D
-use Rattle.format.specs.declared.Number32.{Number32}
 use Rattle.format.specs.declared.Number32.the-variants as N32
 use Rattle.format.specs.declared.Text.{Text}
 use Rattle.format.specs.declared.Text.the-variants as T
@@ -26,7 +25,7 @@ use Rattle.format.specs.Text.{stringAt}
 use Rattle.format.specs.Values.{onEnd, times}
 use Rattle.format.specs.Types.{primitiveOf, codeEnd, codeAt, typeByteAt, endOf, nameAt, positive, positiveOf, libraryIdAt, infoAt}
 use Rattle.fields.specs.Parts.{part-first}
-use Rattle.fields.specs.Judged.{no-end, Taken, judgedAt, judged-taken, judged-local}
+use Rattle.fields.specs.Judged.{no-end, judgedAt, judged-taken, judged-local}
 use Rattle.fields.specs.Sequence.{Kept, local-kept, same-local, through, then-kept, times-kept}
 use Rattle.strings.specs.Laws.{string-moves, string-only}
 use Rattle.types.specs.Ends.{name-end}
