@@ -1,7 +1,6 @@
 -- A code and its number: each undoes the other.
 use Prim.Native.Nat.{ℕ}
 use mathlib.Core.Path.{_≡_, refl, sym}
-use mathlib.Core.Bool.{Bool, true, false}
 use lib.Dec.{eqb}
 use borrow.Author.Tests.{eqb-true}
 use Rattle.format.specs.declared.PrimitiveCode.{PrimitiveCode}

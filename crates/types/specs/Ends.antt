@@ -1,18 +1,16 @@
 -- Codes, type bytes, LibraryIds and details at a place: one law for each answer.
 use Prim.Native.Nat.{ℕ, _+_, _≤_, _<_}
-use mathlib.Core.Path.{_≡_, refl}
+use mathlib.Core.Path.{_≡_}
 use mathlib.Core.Bool.{true, false}
 use mathlib.Core.List.{List}
-use native.Mathlib.Omega.{arith}
 use lib.ListN.{length, getD}
-use borrow.Author.Tests.{lt-ltb, le-ltb, le-leb, lt-leb, eq-eqb, ne-eqb}
+use borrow.Author.Tests.{lt-ltb, le-ltb, le-leb, lt-leb, ne-eqb}
 use Rattle.format.specs.declared.Refusal.{Refusal}
 use Rattle.format.specs.declared.Refusal.the-variants as R
 use Rattle.format.specs.declared.PrimitiveCode.{PrimitiveCode}
 use Rattle.format.specs.declared.Coded.the-variants as D
 use Rattle.format.specs.declared.Number32.the-variants as N32
 use Rattle.format.specs.declared.Text.the-variants as T
-use Rattle.format.specs.declared.Field.{Field}
 use Rattle.format.specs.declared.Field.the-variants as F
 use Rattle.format.specs.Numbers.{u32At}
 use Rattle.format.specs.Text.{stringAt}

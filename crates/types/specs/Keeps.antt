@@ -2,10 +2,10 @@
 use Prim.Native.Nat.{ℕ, zero, suc, _+_, _-_, _≤_, _<_}
 use mathlib.Core.Path.{_≡_, refl, sym, ap, _∙_}
 use mathlib.Core.Bool.{Bool, true, false, _||_}
-use mathlib.Core.List.{List, _++_}
+use mathlib.Core.List.{List}
 use native.Mathlib.Omega.{arith}
 use native.Mathlib.Decide.{decLt}
-use lib.ListN.{length, getD, drop}
+use lib.ListN.{length, getD}
 use lib.Dec.{ltb, leb, eqb}
 use borrow.Author.Tests.{lt-ltb, le-ltb, le-leb, lt-leb, leb-true}
 use Rattle.format.specs.declared.Refusal.{Refusal}
@@ -13,7 +13,6 @@ use Rattle.format.specs.declared.Refusal.the-variants as R
 use Rattle.format.specs.declared.PrimitiveCode.{PrimitiveCode}
 use Rattle.format.specs.declared.Coded.{Coded}
 use Rattle.format.specs.declared.Coded.the-variants as D
-use Rattle.format.specs.declared.Number32.{Number32}
 use Rattle.format.specs.declared.Number32.the-variants as N32
 use Rattle.format.specs.declared.Text.{Text}
 use Rattle.format.specs.declared.Text.the-variants as T
@@ -26,33 +25,35 @@ use Rattle.format.specs.Text.{stringAt}
 use Rattle.format.specs.Values.{onEnd, times}
 use Rattle.format.specs.Types.{primitiveOf, codeEnd, codeAt, typeByteAt, endOf, nameAt, positive, positiveOf, libraryIdAt, infoAt}
 use Rattle.fields.specs.Parts.{part-first}
-use Rattle.fields.specs.Judged.{no-end, Taken, judgedAt, judged-taken, judged-local}
+use Rattle.fields.specs.Judged.{no-end, judgedAt, judged-taken, judged-local}
 use Rattle.fields.specs.Sequence.{Kept, local-kept, same-local, through, then-kept, times-kept}
 use Rattle.strings.specs.Laws.{string-moves, string-only}
 use Rattle.types.specs.Ends.{name-end}
 
 -- ---- one byte that a test judges
 
-module _ (test : ℕ → Bool) (refusal : Refusal) where
-  abbrev first : List ℕ → Bool
-  first l = test (getD l 0 0)
+abbrev first : (ℕ → Bool) → List ℕ → Bool
+first test l = test (getD l 0 0)
 
-  byte-judged : (s : List ℕ) (p : ℕ)
-      → pick (ltb p (length s)) (pick (test (getD s p 0)) (F.End (p + 1)) (F.Fault refusal)) (F.Fault R.CutShort) ≡ judgedAt first refusal s p 1
+abbrev byteAt : (ℕ → Bool) → Refusal → List ℕ → ℕ → Field
+byteAt test refusal s p = pick (ltb p (length s)) (pick (test (getD s p 0)) (F.End (p + 1)) (F.Fault refusal)) (F.Fault R.CutShort)
+
+module _ (test : ℕ → Bool) (refusal : Refusal) (field : List ℕ → ℕ → Field) (same : (s : List ℕ) (p : ℕ) → field s p ≡ byteAt test refusal s p) where
+  byte-judged : (s : List ℕ) (p : ℕ) → field s p ≡ judgedAt (first test) refusal s p 1
   unfolding judgedAt
-  byte-judged s p = go (decLt p (length s))
+  byte-judged s p = same s p ∙ go (decLt p (length s))
     where
-      go : Dec (p < length s)
-          → pick (ltb p (length s)) (pick (test (getD s p 0)) (F.End (p + 1)) (F.Fault refusal)) (F.Fault R.CutShort)
+      go : Dec (p < length s) → byteAt test refusal s p
           ≡ pick (leb (p + 1) (length s)) (pick (test (getD (part s p 1) 0 0)) (F.End (p + 1)) (F.Fault refusal)) (F.Fault R.CutShort)
       go (yes h) = rw (lt-ltb p (length s) h, le-leb (p + 1) (length s) (omega arith), part-first s p 1 (omega arith))
       go (no h) = rw (le-ltb p (length s) (omega arith), lt-leb (p + 1) (length s) (omega arith))
 
-  -- what its end says
-  byte-told : (field : List ℕ → ℕ → Field) → ((s : List ℕ) (p : ℕ) → field s p ≡ judgedAt first refusal s p 1)
-      → (s : List ℕ) (p e : ℕ) → field s p ≡ F.End e → (p < length s) × (e ≡ p + 1) × (test (getD s p 0) ≡ true)
-  byte-told field same s p e q =
-      let w = judged-taken first refusal s p 1 e (sym (same s p) ∙ q) in
+  byte-local : Local field
+  byte-local = same-local field (λ s p. judgedAt (first test) refusal s p 1) byte-judged (judged-local (first test) refusal 1 (omega arith))
+
+  byte-told : (s : List ℕ) (p e : ℕ) → field s p ≡ F.End e → (p < length s) × (e ≡ p + 1) × (test (getD s p 0) ≡ true)
+  byte-told s p e q =
+      let w = judged-taken (first test) refusal s p 1 e (sym (byte-judged s p) ∙ q) in
       (omega (arith, w .room), w .ends, ap test (sym (part-first s p 1 (omega arith))) ∙ w .good)
 
 -- ---- codes
@@ -64,17 +65,16 @@ isCode D.NoCode = false
 abbrev codes : ℕ → Bool
 codes b = isCode (primitiveOf b)
 
-code-judged : (s : List ℕ) (p : ℕ) → codeAt s p ≡ judgedAt (first codes R.BadType) R.BadType s p 1
+code-judged : (s : List ℕ) (p : ℕ) → codeAt s p ≡ byteAt codes R.BadType s p
 unfolding codeAt
-code-judged s p =
-    ap (λ (r : Field). pick (ltb p (length s)) r (F.Fault R.CutShort)) (go (primitiveOf (getD s p 0))) ∙ byte-judged codes R.BadType s p
+code-judged s p = ap (λ (r : Field). pick (ltb p (length s)) r (F.Fault R.CutShort)) (go (primitiveOf (getD s p 0)))
   where
     go : (c : Coded) → codeEnd c p ≡ pick (isCode c) (F.End (p + 1)) (F.Fault R.BadType)
     go (D.Code c) = refl
     go D.NoCode = refl
 
 pub code-local : Local codeAt
-code-local = same-local codeAt (λ s p. judgedAt (first codes R.BadType) R.BadType s p 1) code-judged (judged-local (first codes R.BadType) R.BadType 1 (omega arith))
+code-local = byte-local codes R.BadType codeAt code-judged
 
 module _ (s : List ℕ) (p e : ℕ) where
   pub code-told : codeAt s p ≡ F.End e → (c : PrimitiveCode) × (primitiveOf (getD s p 0) ≡ D.Code c) × (p < length s) × (e ≡ p + 1)
@@ -97,12 +97,12 @@ module _ (s : List ℕ) (p e : ℕ) where
 abbrev types : ℕ → Bool
 types b = leb b 7
 
-type-judged : (s : List ℕ) (p : ℕ) → typeByteAt s p ≡ judgedAt (first types R.BadType) R.BadType s p 1
+type-judged : (s : List ℕ) (p : ℕ) → typeByteAt s p ≡ byteAt types R.BadType s p
 unfolding typeByteAt
-type-judged s p = byte-judged types R.BadType s p
+type-judged s p = refl
 
 pub type-local : Local typeByteAt
-type-local = same-local typeByteAt (λ s p. judgedAt (first types R.BadType) R.BadType s p 1) type-judged (judged-local (first types R.BadType) R.BadType 1 (omega arith))
+type-local = byte-local types R.BadType typeByteAt type-judged
 
 module _ (s : List ℕ) (p e : ℕ) where
   pub type-told : typeByteAt s p ≡ F.End e → (getD s p 0 ≤ 7) × (p < length s) × (e ≡ p + 1)
@@ -170,11 +170,23 @@ library-moves s p e q =
 
 -- ---- n names and n type bytes
 
-pub names-kept : (n : ℕ) → Kept (λ s p. times (nameAt s) n p)
-names-kept n = times-kept nameAt (local-kept nameAt name-local) n
+-- n fields that each have a byte: they end within the stream, or, where n is 0, where they begin
+pub times-within : (field : ℕ → Field) (size : ℕ) → ((p e : ℕ) → field p ≡ F.End e → (p < e) × (e ≤ size))
+    → (n p e m : ℕ) → p ≤ m → size ≤ m → times field n p ≡ F.End e → (p + n ≤ e) × (e ≤ m)
+unfolding times
+times-within field size moves zero p e m h g q = let a : p ≡ e = cc in (omega arith, omega arith)
+times-within field size moves (suc n) p e m h g q =
+    let x = through (times field n) (field p) e q in
+    let a = moves p (x .0) (x .1) in
+    let b = times-within field size moves n (x .0) e m (omega arith) g (x .2) in
+    (omega arith, b .1)
 
-pub types-kept : (n : ℕ) → Kept (λ s p. times (typeByteAt s) n p)
-types-kept n = times-kept typeByteAt (local-kept typeByteAt type-local) n
+module _ (s : List ℕ) (n p e m : ℕ) (h : p ≤ m) (g : length s ≤ m) where
+  pub names-within : times (nameAt s) n p ≡ F.End e → (p + n ≤ e) × (e ≤ m)
+  names-within q = times-within (nameAt s) (length s) (name-moves s) n p e m h g q
+
+  pub types-within : times (typeByteAt s) n p ≡ F.End e → (p + n ≤ e) × (e ≤ m)
+  types-within q = times-within (typeByteAt s) (length s) (type-moves s) n p e m h g q
 
 pub types-end : (s : List ℕ) (n p e : ℕ) → times (typeByteAt s) n p ≡ F.End e → e ≡ p + n
 unfolding times
@@ -184,6 +196,12 @@ types-end s (suc n) p e q =
     let a = type-told s p (x .0) (x .1) in
     let b = types-end s n (x .0) e (x .2) in
     omega arith
+
+pub names-kept : (n : ℕ) → Kept (λ s p. times (nameAt s) n p)
+names-kept n = times-kept nameAt (local-kept nameAt name-local) n
+
+pub types-kept : (n : ℕ) → Kept (λ s p. times (typeByteAt s) n p)
+types-kept n = times-kept typeByteAt (local-kept typeByteAt type-local) n
 
 -- ---- details
 
@@ -204,7 +222,7 @@ info-kept b = go (eqb b 0 || eqb b 7) (eqb b 3) (eqb b 4)
     go false false true = class-kept
     go false false false = none-kept
 
--- also where it begins past the end: a detail ends no later than the stream, or where it begins
+-- also where it begins past the end: a detail ends within the stream, or where it begins
 pub info-within : (s : List ℕ) (b p e m : ℕ) → p ≤ m → length s ≤ m → infoAt s b p ≡ F.End e → (p ≤ e) × (e ≤ m)
 unfolding infoAt
 info-within s b p e m h g q = go (eqb b 0 || eqb b 7) (eqb b 3) (eqb b 4) q

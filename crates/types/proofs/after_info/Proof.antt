@@ -1,4 +1,4 @@
--- The place fits: a detail ends within the stream, or where it begins.
+-- The place fits a u32: a detail ends within the stream, or where it begins.
 use borrow.Author.Needs.{needs}
 use mathlib.Core.Path.{sym, _∙_}
 use native.Mathlib.Omega.{arith}
@@ -14,9 +14,9 @@ after-info-spec =
     (λ c. search needs)
     (λ c.
     let i = c .before .before .before .info-at in
-    let p = c .before .before .before .before .before in
-    let a = p .args in
-    let w = info-within (a .s .now) (a .kind) (a .p) (c .before .next .given .0 .0) 4294967295 (omega arith) (omega arith) (sym (i .ensures) ∙ c .before .next .given .1) in
+    let n = c .before .next .given in
+    let a = c .before .before .before .before .before .args in
+    let w = info-within (a .s .now) (a .kind) (a .p) (n .0 .0) 4294967295 (omega arith) (omega arith) (sym (i .ensures) ∙ n .1) in
     omega arith)
     (λ c. search needs)
     (λ c. rw (← c .before .before .before .info-at .ensures, c .before .next .given .1))

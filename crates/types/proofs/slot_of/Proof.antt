@@ -21,6 +21,4 @@ slot-of-spec =
     (λ c. rw (c .match .keys5))
     (λ c. rw (c .match .keys6))
     (λ c. rw (c .match .keys7))
-    (λ c.
-    let r = c .before .before .match .rest in
-    rw (ne-eqb _ _ (r .0 .0 .0 .0 .0 .0 .1), ne-eqb _ _ (r .0 .0 .0 .0 .0 .1), ne-eqb _ _ (r .0 .0 .0 .0 .1), ne-eqb _ _ (r .0 .0 .0 .1), ne-eqb _ _ (r .0 .0 .1), ne-eqb _ _ (r .0 .1), ne-eqb _ _ (r .1), c .coded-of2 .ensures, c .before .primitive-of2 .ensures)))
+    (λ c. rw (c .coded-of2 .ensures, c .before .primitive-of2 .ensures) (search (needs, ne-eqb))))
