@@ -1,6 +1,6 @@
 -- Primitive values at a place: one law for each answer.
 use Prim.Native.Nat.{ℕ, _+_, _-_, _*_, _/_, _%_, _≤_, _<_}
-use mathlib.Core.Path.{_≡_}
+use mathlib.Core.Path.{_≡_, sym, _∙_}
 use mathlib.Core.Bool.{true, false}
 use mathlib.Core.List.{List}
 use native.Mathlib.Omega.{arith}
@@ -122,11 +122,12 @@ size-small C.UInt64 = omega arith
 pub size-times : (code : PrimitiveCode) (size n : ℕ) → size ≡ sizeOf code → size * n ≤ 8 * n
 size-times code size n e = rw e (mul-le-mul-right n (size-small code))
 
-module _ (s : List ℕ) (code : PrimitiveCode) (n p : ℕ) where
-  pub items-each : sizeOf code ≡ 0 → itemsAt s code n p ≡ times (valueAt s code) n p
+-- the size as code has it
+module _ (s : List ℕ) (code : PrimitiveCode) (n p size : ℕ) (e : size ≡ sizeOf code) where
+  pub items-each : size ≡ 0 → itemsAt s code n p ≡ times (valueAt s code) n p
   unfolding itemsAt
-  items-each h = simp (eq-eqb (sizeOf code) 0 h)
+  items-each h = rw (eq-eqb (sizeOf code) 0 (sym e ∙ h))
 
-  pub items-bytes : (sizeOf code ≡ 0 → ⊥) → itemsAt s code n p ≡ bytesAt s p (sizeOf code * n)
+  pub items-bytes : (size ≡ 0 → ⊥) → itemsAt s code n p ≡ bytesAt s p (size * n)
   unfolding itemsAt
-  items-bytes h = simp (ne-eqb (sizeOf code) 0 h)
+  items-bytes h = rw (ne-eqb (sizeOf code) 0 (λ z. h (e ∙ z)), e)

@@ -120,7 +120,7 @@ items-kept code n = go (eqb (sizeOf code) 0)
     go true = times-kept (λ s p. valueAt s code p) (local-kept (λ s p. valueAt s code p) (value-local code)) n
     go false = bytes-kept (sizeOf code * n)
 
--- past the end no items are read of a number, but no items of a judged value: hence 0 < n
+-- Past the end of the stream no judged values end where they begin, and no bytes are cut short: hence 0 < n.
 pub items-local : (code : PrimitiveCode) (n : ℕ) → 0 < n → Local (λ s p. itemsAt s code n p)
 unfolding itemsAt
 items-local code zero h = absurd (omega arith)
