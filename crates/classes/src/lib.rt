@@ -32,6 +32,7 @@ fn known_library(s: &[u8], table: &[u32], n: usize, end: usize) -> Field
     requires { ⌜ (n ≤ roomOf (now table)) × (4 ≤ end) × (end ≤ length (now s)) ⌝ }
     ensures { λ r. ⌜ r ≡ knownLibrary (now (s .entry)) (rowsOf n (now (table .entry))) end ⌝ }
 {
+    // The four bytes are there: the number is never short.
     let Number32::Value(id, _) = num::u32_at(s, end - 4) else {
         return Field::Fault(Refusal::CutShort);
     };
