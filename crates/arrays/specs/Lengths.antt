@@ -19,13 +19,14 @@ use Rattle.format.specs.Numbers.{u32At, negative}
 use Rattle.format.specs.Records.{onLength, lengthsAt}
 
 -- the product itself where an array may have so many slots, and else one number for all
-abbrev pub capped : ℕ → ℕ
+unfoldable pub capped : ℕ → ℕ
 capped n = pick (leb n 2147483647) n 2147483648
 
 abbrev pub judged : ℕ → ℕ → Slots
 judged product at = pick (leb product 2147483647) (L.Product product at) (L.Fault R.BadCount)
 
 pub capped-within : (n : ℕ) → capped n ≤ 2147483648
+unfolding capped
 capped-within n = go (leb n 2147483647) refl
   where
     go : (t : Bool) → leb n 2147483647 ≡ t → pick t n 2147483648 ≤ 2147483648
@@ -56,6 +57,7 @@ module _ (s : List ℕ) where
       go more N32.Short = refl
 
   pub capped-alike : (k p at : ℕ) → lengthsAt s k (capped p) at ≡ lengthsAt s k p at
+  unfolding capped
   capped-alike k p at = go (leb p 2147483647) refl
     where
       go : (t : Bool) → leb p 2147483647 ≡ t → lengthsAt s k (pick t p 2147483648) at ≡ lengthsAt s k p at

@@ -2,11 +2,12 @@
 use borrow.Author.Needs.{needs}
 use borrow.Author.Tests.{le-leb, lt-leb}
 use native.Mathlib.Omega.{arith}
-use Rattle.arrays.specs.Lengths.{product-fits}
+use Rattle.arrays.specs.Lengths.{capped, product-fits}
 use Rattle.arrays.proofs.times_length.Statement.{statement}
 use Rattle.arrays.proofs.times_length.Tie as tie
 
 pub times-length-spec : {M : Type 1} → statement M
+unfolding capped
 times-length-spec =
     tie.close
     (tie.spec
