@@ -28,7 +28,7 @@ pub enum Due {
     Record(Where),
 }
 
-fn due(slot: SlotType) -> Due
+fn due_in(slot: SlotType) -> Due
     ensures { λ r. ⌜ r ≡ dueOf slot ⌝ }
 {
     match slot {
@@ -79,7 +79,7 @@ fn one_step(s: &[u8], table: &mut [u32], frames: &mut [u32; 384], m: Reader) -> 
                      × (length (now (frames .exit)) ≡ 384) ⌝ }
 {
     let slot = m.top.typed.slot;
-    let d = due(slot);
+    let d = due_in(slot);
     match d {
         Due::Value(c) => steps::take_value(s, table, frames, m, c),
         Due::Record(w) => {

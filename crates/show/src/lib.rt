@@ -3,6 +3,16 @@
 use format::ReadAnswer;
 use libc::STDOUT_FILENO;
 
+// Word i of the rows, and what follows it: a newline after the eighth of a row, else a blank.
+fn word(w: u32, i: usize) {
+    io::print_decimal(STDOUT_FILENO, w as u64);
+    if i % 8 == 7 {
+        io::write_all(STDOUT_FILENO, b"\n");
+        return;
+    }
+    io::write_all(STDOUT_FILENO, b" ");
+}
+
 // The words from 0 up to `end`, eight to a line.
 fn words(table: &[u32], end: usize) {
     let mut i: usize = 0;
@@ -10,12 +20,7 @@ fn words(table: &[u32], end: usize) {
         if table.len() <= i {
             return;
         }
-        io::print_decimal(STDOUT_FILENO, table[i] as u64);
-        if i % 8 == 7 {
-            io::write_all(STDOUT_FILENO, b"\n");
-        } else {
-            io::write_all(STDOUT_FILENO, b" ");
-        }
+        word(table[i], i);
         i += 1;
     }
 }
