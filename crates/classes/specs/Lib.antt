@@ -1,0 +1,2 @@
+-- Laws of the fields of class records.
+pub mod Ends
