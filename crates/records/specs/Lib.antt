@@ -2,3 +2,4 @@
 pub mod Stages
 pub mod Kinds
 pub mod Laws
+pub mod Moves
