@@ -1,2 +1,3 @@
 -- Laws of the fields of class records.
 pub mod Ends
+pub mod Stages

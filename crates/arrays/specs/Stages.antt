@@ -1,0 +1,81 @@
+-- The array records by stages: an id, then what follows it. One law for each answer of a stage.
+use Prim.Native.Nat.{ℕ, _+_, _≤_, _<_}
+use mathlib.Core.Path.{_≡_, refl}
+use mathlib.Core.Bool.{true, false}
+use mathlib.Core.List.{List}
+use lib.ListN.{length, getD}
+use Rattle.format.specs.declared.Refusal.{Refusal}
+use Rattle.format.specs.declared.Refusal.the-variants as R
+use Rattle.format.specs.declared.SlotType.{SlotType}
+use Rattle.format.specs.declared.Number32.{Number32}
+use Rattle.format.specs.declared.Number32.the-variants as N32
+use Rattle.format.specs.declared.Heading.{Heading}
+use Rattle.format.specs.declared.Heading.the-variants as H
+use Rattle.format.specs.declared.Row.{Row}
+use Rattle.format.specs.Bytes.{pick}
+use Rattle.format.specs.Numbers.{u32At, negative}
+use Rattle.format.specs.Types.{codeAt, coded, primitiveOf, alike}
+use Rattle.format.specs.Records.{onNumber, onField, goodId, slotted, slotArrayAt, withItems, primitiveArrayAt}
+
+-- ---- an id that is free, and what follows it
+
+module _ (rows : List Row) (k : ℕ → ℕ → Heading) where
+  unfoldable pub afterId : Number32 → Heading
+  afterId r = onNumber (λ id p. pick (goodId rows id) (k id p) (H.Bad R.BadId)) r
+
+  module _ (r : Number32) where
+    pub id-short : r ≡ N32.Short → afterId r ≡ H.Bad R.CutShort
+    unfolding afterId
+    id-short e = rw e
+
+    module _ (id p : ℕ) (e : r ≡ N32.Value id p) where
+      pub id-free : goodId rows id ≡ true → afterId r ≡ k id p
+      unfolding afterId
+      id-free g = rw (e, g)
+
+      pub id-bad : goodId rows id ≡ false → afterId r ≡ H.Bad R.BadId
+      unfolding afterId
+      id-bad g = rw (e, g)
+
+-- ---- a length, and what follows it
+
+module _ (k : ℕ → ℕ → Heading) where
+  unfoldable pub afterLength : Number32 → Heading
+  afterLength r = onNumber (λ n p. pick (negative n) (H.Bad R.BadCount) (k n p)) r
+
+  module _ (r : Number32) where
+    pub length-short : r ≡ N32.Short → afterLength r ≡ H.Bad R.CutShort
+    unfolding afterLength
+    length-short e = rw e
+
+    module _ (n p : ℕ) (e : r ≡ N32.Value n p) where
+      pub length-bad : negative n ≡ true → afterLength r ≡ H.Bad R.BadCount
+      unfolding afterLength
+      length-bad g = rw (e, g)
+
+      pub length-good : negative n ≡ false → afterLength r ≡ k n p
+      unfolding afterLength
+      length-good g = rw (e, g)
+
+-- ---- kinds 16 and 17
+
+abbrev pub slotLengthAt : List ℕ → SlotType → ℕ → ℕ → Heading
+slotLengthAt s slot id at = afterLength (λ n end. slotted id end n (alike slot 0)) (u32At s at)
+
+pub slot-array-is : (s : List ℕ) (rows : List Row) (slot : SlotType) (at : ℕ)
+    → slotArrayAt s rows slot at ≡ afterId rows (slotLengthAt s slot) (u32At s (at + 1))
+unfolding slotArrayAt afterId afterLength
+slot-array-is s rows slot at = refl
+
+-- ---- kind 15
+
+abbrev pub codedItemsAt : List ℕ → ℕ → ℕ → ℕ → Heading
+codedItemsAt s id n at = onField (withItems s (coded (primitiveOf (getD s at 0))) id n) (codeAt s at)
+
+abbrev pub primitiveLengthAt : List ℕ → ℕ → ℕ → Heading
+primitiveLengthAt s id at = afterLength (codedItemsAt s id) (u32At s at)
+
+pub primitive-array-is : (s : List ℕ) (rows : List Row) (at : ℕ)
+    → primitiveArrayAt s rows at ≡ afterId rows (primitiveLengthAt s) (u32At s (at + 1))
+unfolding primitiveArrayAt afterId afterLength
+primitive-array-is s rows at = refl
