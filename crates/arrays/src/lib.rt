@@ -215,14 +215,28 @@ fn items_of(s: &[u8], id: u32, count: u32, infos: u32, at: usize, slot: SlotType
         SlotType::Class => slotted_head(id, at, count, SlotType::Class, infos),
         SlotType::ObjectArray => slotted_head(id, at, count, SlotType::ObjectArray, infos),
         SlotType::StringArray => slotted_head(id, at, count, SlotType::StringArray, infos),
-        SlotType::PrimitiveArray(code) => slotted_head(id, at, count, SlotType::PrimitiveArray(code), infos),
+        SlotType::PrimitiveArray(code) => slotted_head(
+            id,
+            at,
+            count,
+            SlotType::PrimitiveArray(code),
+            infos,
+        ),
     }
 }
 
 // ---- kind 7: the item type, and the whole
 
 // The detail of the items' type, and the items or their slots. The type byte stands at `types`.
-fn item_info_at(s: &[u8], table: &[u32], n: usize, id: u32, count: u32, types: usize, infos: usize) -> Heading
+fn item_info_at(
+    s: &[u8],
+    table: &[u32],
+    n: usize,
+    id: u32,
+    count: u32,
+    types: usize,
+    infos: usize,
+) -> Heading
     requires { ⌜ (n ≤ roomOf (now table)) × (length (now s) ≤ 16777216) × (infos ≤ length (now s)) ⌝ }
     ensures { λ r. ⌜ r ≡ itemInfoAt (now (s .entry)) (rowsOf n (now (table .entry))) id count types infos ⌝ }
 {

@@ -1,0 +1,94 @@
+-- What a kind byte says where it stands: one law for each answer, and what a kind that is taken says.
+use Prim.Native.Nat.{ℕ, _+_, _≤_, _<_}
+use mathlib.Core.Path.{_≡_, refl, sym, ap, _∙_}
+use mathlib.Core.Bool.{Bool, true, false, _||_}
+use mathlib.Core.List.{List}
+use native.Mathlib.Omega.{arith}
+use lib.ListN.{length, getD}
+use lib.Dec.{ltb}
+use borrow.Author.Tests.{lt-ltb, le-ltb, ltb-true, ne-eqb}
+use Rattle.format.specs.declared.Refusal.{Refusal}
+use Rattle.format.specs.declared.Refusal.the-variants as R
+use Rattle.format.specs.declared.Where.{Where}
+use Rattle.format.specs.declared.Where.the-variants as W
+use Rattle.format.specs.declared.Kind.{Kind}
+use Rattle.format.specs.declared.Kind.the-variants as K
+use Rattle.format.specs.Bytes.{pick}
+use Rattle.format.specs.Records.{isKind, notTaken, inSlot, allowed, kindOf, kindAt}
+use Rattle.fields.specs.Judged.{told}
+
+-- ---- the slots
+
+module _ (k : ℕ) where
+  pub string-rest : (k ≡ 6 → ⊥) → allowed W.StringSlot k ≡ inSlot k
+  unfolding allowed
+  string-rest six = rw (ne-eqb k 6 six)
+
+  pub object-rest : (k ≡ 1 → ⊥) → (k ≡ 4 → ⊥) → (k ≡ 5 → ⊥) → (k ≡ 6 → ⊥) → (k ≡ 8 → ⊥) → allowed W.ObjectSlot k ≡ inSlot k
+  unfolding allowed
+  object-rest one four five six eight = rw (ne-eqb k 1 one, ne-eqb k 4 four, ne-eqb k 5 five, ne-eqb k 6 six, ne-eqb k 8 eight)
+
+  -- ---- a kind byte
+
+  module _ (w : Where) where
+    pub kind-unknown : isKind k ≡ false → kindOf w k ≡ K.Wrong R.UnknownKind
+    unfolding kindOf
+    kind-unknown i = rw i
+
+    module _ (i : isKind k ≡ true) where
+      pub kind-refused : notTaken k ≡ true → kindOf w k ≡ K.Wrong R.NotTaken
+      unfolding kindOf
+      kind-refused t = rw (i, t)
+
+      pub kind-taken : notTaken k ≡ false → allowed w k ≡ true → kindOf w k ≡ K.Taken k
+      unfolding kindOf
+      kind-taken t a = rw (i, t, a)
+
+      pub kind-misplaced : notTaken k ≡ false → allowed w k ≡ false → kindOf w k ≡ K.Wrong R.WrongPlace
+      unfolding kindOf
+      kind-misplaced t a = rw (i, t, a)
+
+module _ (s : List ℕ) (w : Where) (at : ℕ) where
+  pub kind-there : at < length s → kindAt s w at ≡ kindOf w (getD s at 0)
+  unfolding kindAt
+  kind-there h = simp lt-ltb
+
+  pub kind-short : length s ≤ at → kindAt s w at ≡ K.Wrong R.CutShort
+  unfolding kindAt
+  kind-short h = simp le-ltb
+
+-- ---- what a kind that is taken says
+
+pub no-kind : (f : Refusal) (k : ℕ) → K.Wrong f ≡ K.Taken k → ⊥
+no-kind f k q = let z : _≡_ {A = ℕ} 0 1 = cc in omega arith
+
+-- it is the byte, of a kind that is known, not refused by name, and allowed there
+pub record Stands (w : Where) (b k : ℕ) : Type 0 where
+  pub byte : k ≡ b
+  pub known : isKind k ≡ true
+  pub free : notTaken k ≡ false
+  pub fits : allowed w k ≡ true
+
+pub kind-stands : (w : Where) (b k : ℕ) → kindOf w b ≡ K.Taken k → Stands w b k
+unfolding kindOf
+kind-stands w b k q =
+    let rest = pick (allowed w b) (K.Taken b) (K.Wrong R.WrongPlace) in
+    let i = told (isKind b) (pick (notTaken b) (K.Wrong R.NotTaken) rest) (K.Wrong R.UnknownKind) (K.Taken k) q (no-kind R.UnknownKind k) in
+    let t = second (notTaken b) rest (i .1) in
+    let a = told (allowed w b) (K.Taken b) (K.Wrong R.WrongPlace) (K.Taken k) (t .1) (no-kind R.WrongPlace k) in
+    let y = a .1 in
+    let e : k ≡ b = cc in
+    record { byte = e; known = rw e (i .0); free = rw e (t .0); fits = rw e (a .0) }
+  where
+    second : (t : Bool) (r : Kind) → pick t (K.Wrong R.NotTaken) r ≡ K.Taken k → (t ≡ false) × (r ≡ K.Taken k)
+    second true r e = absurd (no-kind R.NotTaken k e)
+    second false r e = (refl, e)
+
+module _ (s : List ℕ) (w : Where) (at k : ℕ) (q : kindAt s w at ≡ K.Taken k) where
+  pub kind-within : at < length s
+  unfolding kindAt
+  kind-within =
+      ltb-true at (length s) (told (ltb at (length s)) (kindOf w (getD s at 0)) (K.Wrong R.CutShort) (K.Taken k) q (no-kind R.CutShort k) .0)
+
+  pub kind-byte : Stands w (getD s at 0) k
+  kind-byte = kind-stands w (getD s at 0) k (sym (kind-there s w at kind-within) ∙ q)
