@@ -1,5 +1,5 @@
 -- The ends of a stream: what is judged after the end record, and the answer and the words that are left.
-use Prim.Native.Nat.{ℕ, suc, _+_, _-_, _*_, _≤_, _<_}
+use Prim.Native.Nat.{ℕ, suc, _+_, _-_, _*_, _/_, _≤_, _<_}
 use mathlib.Core.Path.{_≡_, refl, sym, ap, subst, _∙_}
 use mathlib.Core.List.{List, [], _∷_, _++_}
 use native.Mathlib.Omega.{arith}
@@ -31,6 +31,9 @@ outcomeOf t (A.Refused r place) = refused r place
 abbrev pub Within : ℕ → ReadAnswer → Type 0
 Within room (A.Accepted n) = n ≤ room
 Within room (A.Refused r place) = Unit {0}
+
+pub within-room : (t t₀ : List ℕ) (r : ReadAnswer) → length t ≡ length t₀ → Within (roomOf t) r → Within (roomOf t₀) r
+within-room t t₀ r l h = subst (λ (n : ℕ). Within (n / 8) r) l h
 
 -- ---- after the end record
 

@@ -1,5 +1,5 @@
 -- The loop over the steps is `run`: what is left to run gives what the whole gives.
-use Prim.Native.Nat.{ℕ, zero, suc, pred, _+_, _-_, _*_, _≤_, _<_}
+use Prim.Native.Nat.{ℕ, zero, suc, pred, _+_, _-_, _*_, _/_, _≤_, _<_}
 use mathlib.Core.Path.{_≡_, refl, sym, ap, subst, _∙_}
 use mathlib.Core.List.{List, [], _∷_}
 use native.Mathlib.Omega.{arith}
@@ -16,7 +16,7 @@ use Rattle.format.specs.declared.Where.{Where}
 use Rattle.format.specs.declared.Where.the-variants as W
 use Rattle.format.specs.declared.Reader.{Reader}
 use Rattle.format.specs.Values.{bytesAt, booleanAt, charAt, decimalAt, dateTimeAt, valueAt}
-use Rattle.format.specs.Rows.{rowsOf}
+use Rattle.format.specs.Rows.{rowsOf, roomOf}
 use Rattle.format.specs.Records.{kindAt}
 use Rattle.format.specs.Machine.{State, Next, go, ended, refuse, recordStep, valueStep, bySlot, step, finish, onward, run, Outcome, accepted, refused}
 use Rattle.prefix.specs.Laws.{short}
@@ -135,3 +135,10 @@ module _ {s t f : List ℕ} {room : ℕ} {whole : Outcome} {m : Reader} (i : Run
 
   pub refuses : (r : Refusal) (p : ℕ) → q ≡ Q.Refuse r p → refused r p ≡ whole
   refuses r p k = sym (told ∙ ap (λ (x : Step). onward s (run (pred (i .fuel)) s room) (after u g x)) k)
+
+-- a table keeps its length, and so its room
+pub same-room : (t t₀ s : List ℕ) (st : State) (x : Next) → length t ≡ length t₀ → x ≡ step s (roomOf t) st → x ≡ step s (roomOf t₀) st
+same-room t t₀ s st x l e = e ∙ ap (λ (n : ℕ). step s (n / 8) st) l
+
+pub held-room : (t t₀ : List ℕ) (m : Reader) → length t ≡ length t₀ → Held (roomOf t₀) m → Held (roomOf t) m
+held-room t t₀ m l h = subst (λ (n : ℕ). Held (n / 8) m) (sym l) h

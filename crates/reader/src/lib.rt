@@ -78,7 +78,8 @@ fn one_step(s: &[u8], table: &mut [u32], frames: &mut [u32; 384], m: Reader) -> 
                        ≡ step (now (s .entry)) (roomOf (now (table .entry))) (stateOf (now (table .entry)) (now (frames .entry)) m))
                      × (length (now (frames .exit)) ≡ 384) ⌝ }
 {
-    let slot = m.top.typed.slot;
+    let typed = m.top.typed;
+    let slot = typed.slot;
     let d = due_in(slot);
     match d {
         Due::Value(c) => steps::take_value(s, table, frames, m, c),
