@@ -18,7 +18,7 @@ use Rattle.table.specs.Rows.{length-rowsOf}
 use Rattle.frames.specs.Frames.{saved}
 use Rattle.steps.specs.declared.Step.{Step}
 use Rattle.steps.specs.declared.Step.the-variants as Q
-use Rattle.steps.specs.Held.{stateOf, after}
+use Rattle.steps.specs.Held.{stateOf, after, Held}
 use Rattle.reader.specs.Fine.{Fine, NextFine, record-fine}
 use Rattle.reader.specs.Loop.{Runs}
 
@@ -76,7 +76,7 @@ unfolding rowsOf saved
 fresh-start t f m e = rw e
 
 module _ (s t u f g : List ℕ) (m : Reader) (l : length s ≤ 16777216) (z : m ≡ record { at = 0; rows = 0; depth = 0; top = topLevel }) (q : Step)
-  (e : after u g q ≡ recordStep s (roomOf t) (stateOf t f m) W.Start) where
+    (e : after u g q ≡ recordStep s (roomOf t) (stateOf t f m) W.Start) where
   -- what the header's step says of the whole
   told : begin s (roomOf t) (after u g q) ≡ readOf s (roomOf t)
   unfolding readOf
@@ -113,18 +113,35 @@ module _ (s t u f g : List ℕ) (m : Reader) (l : length s ≤ 16777216) (z : m 
   pub head-bad : (r : Refusal) (p : ℕ) → q ≡ Q.Refuse r p → refused r p ≡ readOf s (roomOf t)
   head-bad r p c = begun told (Q.Refuse r p) c
 
+-- the same, said of the room that the table has now
+pub runs-room : (s t u g : List ℕ) (n : Reader) → length u ≡ length t → Runs s (roomOf t) (readOf s (roomOf t)) u g n → Runs s (roomOf u) (readOf s (roomOf u)) u g n
+runs-room s t u g n l w = subst (λ (k : ℕ). Runs s (k / 8) (readOf s (k / 8)) u g n) (sym l) w
+
+pub fresh-held : (room : ℕ) (m : Reader) → m ≡ record { at = 0; rows = 0; depth = 0; top = topLevel } → Held room m
+fresh-held room m e = rw e (record { inside = omega arith; counted = omega arith; roomy = omega arith; shallow = omega arith })
+
+pub answered-room : (s t u v : List ℕ) (r : ReadAnswer) → length u ≡ length t → (outcomeOf v r ≡ readOf s (roomOf u)) × Within (roomOf u) r
+    → (outcomeOf v r ≡ readOf s (roomOf t)) × Within (roomOf t) r
+answered-room s t u v r l w = subst (λ (k : ℕ). (outcomeOf v r ≡ readOf s (k / 8)) × Within (k / 8) r) l w
+
 -- ---- the answer and the words
 
-module _ (n : ℕ) (t u : List ℕ) (a : ReadAnswer) (v : Outcome) (e : outcomeOf t a ≡ v) where
-  pub left-rows : (k : ℕ) → a ≡ A.Accepted k → u ≡ words (rowsOf k t) ++ replicate (n - 8 * k) 0 → (a ≡ readAnswer v) × (u ≡ tableWords n v)
+pub accepted-room : (t u : List ℕ) (a : ReadAnswer) (k : ℕ) → length u ≡ length t → a ≡ A.Accepted k → Within (roomOf t) a → k ≤ roomOf u
+accepted-room t u a k l c w =
+    let h : k ≤ roomOf t = subst (λ (x : ReadAnswer). Within (roomOf t) x) c w in
+    omega arith
+
+module _ (n : ℕ) (t u : List ℕ) (a : ReadAnswer) (v : Outcome) (l : length t ≡ n) (e : outcomeOf t a ≡ v) where
+  pub left-rows : (k : ℕ) → a ≡ A.Accepted k → u ≡ words (rowsOf k t) ++ replicate (length t - 8 * k) 0
+      → (A.Accepted k ≡ readAnswer v) × (u ≡ tableWords n v)
   unfolding readAnswer tableWords
   left-rows k c w =
       let x : v ≡ accepted (rowsOf k t) = sym e ∙ ap (outcomeOf t) c in
-      let l : length (rowsOf k t) ≡ k = length-rowsOf k t in
-      (c ∙ rw (x, l), w ∙ rw (x, l))
+      let r : length (rowsOf k t) ≡ k = length-rowsOf k t in
+      (rw (x, r), w ∙ rw (x, r, l))
 
-  pub left-zeros : (r : Refusal) (p : ℕ) → a ≡ A.Refused r p → u ≡ replicate n 0 → (a ≡ readAnswer v) × (u ≡ tableWords n v)
+  pub left-zeros : (r : Refusal) (p : ℕ) → a ≡ A.Refused r p → u ≡ replicate (length t) 0 → (A.Refused r p ≡ readAnswer v) × (u ≡ tableWords n v)
   unfolding readAnswer tableWords
   left-zeros r p c w =
       let x : v ≡ refused r p = sym e ∙ ap (outcomeOf t) c in
-      (c ∙ rw x, w ∙ rw x)
+      (rw x, w ∙ rw (x, l))

@@ -95,7 +95,7 @@ pub record Runs (s : List ℕ) (room : ℕ) (whole : Outcome) (t f : List ℕ) (
   pub same : run fuel s room (stateOf t f m) ≡ whole
 
 module _ {s t f : List ℕ} {room : ℕ} {whole : Outcome} {m : Reader} (i : Runs s room whole t f m) (u g : List ℕ) (q : Step)
-  (e : after u g q ≡ step s room (stateOf t f m)) where
+    (e : after u g q ≡ step s room (stateOf t f m)) where
   -- what a step's answer says of the whole run
   told : whole ≡ onward s (run (pred (i .fuel)) s room) (after u g q)
   told = sym (i .same) ∙ run-open (i .fuel) s room (stateOf t f m) (i .enough) ∙ ap (onward s (run (pred (i .fuel)) s room)) (sym e)
@@ -114,13 +114,13 @@ module _ {s t f : List ℕ} {room : ℕ} {whole : Outcome} {m : Reader} (i : Run
       let w = went n k in
       let a = w .1 in
       let b = i .enough in
-      record
-        { framed = l
-        ; fine = w .0
-        ; fuel = pred (i .fuel)
-        ; enough = omega arith
-        ; same = sym (told ∙ ap (λ (x : Step). onward s (run (pred (i .fuel)) s room) (after u g x)) k)
-        }
+      record {
+        framed = l;
+        fine = w .0;
+        fuel = pred (i .fuel);
+        enough = omega arith;
+        same = sym (told ∙ ap (λ (x : Step). onward s (run (pred (i .fuel)) s room) (after u g x)) k);
+      }
 
   pub ends : (n p : ℕ) → q ≡ Q.Ended n p → finish s (rowsOf n u) p ≡ whole
   ends n p k = sym (told ∙ ap (λ (x : Step). onward s (run (pred (i .fuel)) s room) (after u g x)) k)

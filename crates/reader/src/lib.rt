@@ -57,8 +57,8 @@ fn where_in(depth: usize, w: Where) -> Where
 fn record_step(s: &[u8], table: &mut [u32], frames: &mut [u32; 384], m: Reader, w: Where) -> Step
     requires { ⌜ Held (roomOf (now table)) m × (length (now frames) ≡ 384) × (length (now s) ≤ 16777216) ⌝ }
     ensures { λ q. ⌜ (after (now (table .exit)) (now (frames .exit)) q
-                       ≡ recordStep (now (s .entry)) (roomOf (now (table .entry))) (stateOf (now (table .entry)) (now (frames .entry)) m) w)
-                     × (length (now (frames .exit)) ≡ 384) ⌝ }
+        ≡ recordStep (now (s .entry)) (roomOf (now (table .entry))) (stateOf (now (table .entry)) (now (frames .entry)) m) w)
+        × (length (now (frames .exit)) ≡ 384) ⌝ }
 {
     let at = m.at;
     let k = records::kind_at(s, w, at);
@@ -75,8 +75,8 @@ fn record_step(s: &[u8], table: &mut [u32], frames: &mut [u32; 384], m: Reader, 
 fn one_step(s: &[u8], table: &mut [u32], frames: &mut [u32; 384], m: Reader) -> Step
     requires { ⌜ Held (roomOf (now table)) m × (length (now frames) ≡ 384) × (length (now s) ≤ 16777216) ⌝ }
     ensures { λ q. ⌜ (after (now (table .exit)) (now (frames .exit)) q
-                       ≡ step (now (s .entry)) (roomOf (now (table .entry))) (stateOf (now (table .entry)) (now (frames .entry)) m))
-                     × (length (now (frames .exit)) ≡ 384) ⌝ }
+        ≡ step (now (s .entry)) (roomOf (now (table .entry))) (stateOf (now (table .entry)) (now (frames .entry)) m))
+        × (length (now (frames .exit)) ≡ 384) ⌝ }
 {
     let typed = m.top.typed;
     let slot = typed.slot;
@@ -94,7 +94,7 @@ fn one_step(s: &[u8], table: &mut [u32], frames: &mut [u32; 384], m: Reader) -> 
 fn finish_rows(s: &[u8], table: &mut [u32], rows: usize, at: usize) -> ReadAnswer
     requires { ⌜ (rows ≤ roomOf (now table)) × (rows ≤ 16777216) ⌝ }
     ensures { λ r. ⌜ (outcomeOf (now (table .exit)) r ≡ finish (now (s .entry)) (rowsOf rows (now (table .entry))) at)
-                     × Within (roomOf (now (table .entry))) r ⌝ }
+        × Within (roomOf (now (table .entry))) r ⌝ }
 {
     if at < s.len() {
         return ReadAnswer::Refused(Refusal::Trailing, at);
@@ -117,7 +117,7 @@ fn finish_rows(s: &[u8], table: &mut [u32], rows: usize, at: usize) -> ReadAnswe
 fn drive(s: &[u8], table: &mut [u32], frames: &mut [u32; 384], first: Reader) -> ReadAnswer
     requires { ⌜ Runs (now s) (roomOf (now table)) (readOf (now s) (roomOf (now table))) (now table) (now frames) first × (length (now s) ≤ 16777216) ⌝ }
     ensures { λ r. ⌜ (outcomeOf (now (table .exit)) r ≡ readOf (now (s .entry)) (roomOf (now (table .entry))))
-                     × Within (roomOf (now (table .entry))) r ⌝ }
+        × Within (roomOf (now (table .entry))) r ⌝ }
 {
     let mut m = first;
     loop {
@@ -133,7 +133,7 @@ fn drive(s: &[u8], table: &mut [u32], frames: &mut [u32; 384], first: Reader) ->
 // The limit, the header, and all after it. The rows that are taken stand in the table; nothing is said of the words after them.
 fn judge(s: &[u8], table: &mut [u32]) -> ReadAnswer
     ensures { λ r. ⌜ (outcomeOf (now (table .exit)) r ≡ readOf (now (s .entry)) (roomOf (now (table .entry))))
-                     × Within (roomOf (now (table .entry))) r ⌝ }
+        × Within (roomOf (now (table .entry))) r ⌝ }
 {
     if Reader::LIMIT < s.len() {
         return ReadAnswer::Refused(Refusal::TooLarge, 0);
@@ -152,7 +152,7 @@ fn judge(s: &[u8], table: &mut [u32]) -> ReadAnswer
 // after the last row.
 pub fn read(s: &[u8], table: &mut [u32]) -> ReadAnswer
     ensures { λ r. ⌜ (r ≡ readAnswer (readOf (now (s .entry)) (roomOf (now (table .entry)))))
-                     × (now (table .exit) ≡ tableWords (length (now (table .entry))) (readOf (now (s .entry)) (roomOf (now (table .entry))))) ⌝ }
+        × (now (table .exit) ≡ tableWords (length (now (table .entry))) (readOf (now (s .entry)) (roomOf (now (table .entry))))) ⌝ }
 {
     let a = judge(s, table);
     match a {

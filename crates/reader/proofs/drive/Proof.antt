@@ -10,10 +10,6 @@ use Rattle.reader.specs.Loop.{Runs, held, same-room, held-room, moves-on
 use Rattle.reader.specs.Ends.{within-room}
 use Rattle.reader.proofs.drive.Statement.{statement}
 use Rattle.reader.proofs.drive.Tie as tie
-use Rattle.reader.proofs.drive.Reads as reads
-use Rattle.reader.proofs.drive.Lts as lts
-use Rattle.reader.proofs.finish_rows.Reads as finish-rows-reads
-use Rattle.reader.proofs.one_step.Reads as one-step-reads
 
 abbrev Inv-loop : tie.InvT-loop
 Inv-loop s table₀ frames₀ m₀ table frames m =
@@ -22,27 +18,20 @@ Inv-loop s table₀ frames₀ m₀ table frames m =
 abbrev μ-loop : tie.MeasureT-loop
 μ-loop s table₀ frames₀ m₀ table frames m = length s - m .at
 
--- src/lib.rt:123:5
-loop-holds : tie.Need-loop-holds Inv-loop μ-loop
-loop-holds c =
-    (refl, c .before .before .pre .0)
-
--- src/lib.rt:124:13
-one-step-requires : tie.Need-one-step-requires Inv-loop μ-loop
-one-step-requires c κs =
+pub drive-spec : {M : Type 1} → statement M
+drive-spec =
+    tie.close
+    (tie.spec
+    Inv-loop
+    μ-loop
+    (λ c. (refl, c .before .before .pre .0))
+    (λ c κs.
     let a = c .before .before .before .before .before .args in
     let v = c .before .before .loop in
     let p = c .before .before .before .before .before .pre in
-    (held-room (v .table) (a .table .now) (v .m) (v .inv .0) (held (a .s .now) (v .table) (v .frames) (roomOf (a .table .now)) (v .m) (p .1) (v .inv .1 .fine)), v .inv .1 .framed, p .1)
-
--- src/lib.rt:126:22
-enum-known-q : tie.Need-enum-known-q Inv-loop μ-loop
-enum-known-q c =
-    search needs
-
--- src/lib.rt:123:5
-loop-less : tie.Need-loop-less Inv-loop μ-loop
-loop-less c =
+    (held-room (v .table) (a .table .now) (v .m) (v .inv .0) (held (a .s .now) (v .table) (v .frames) (roomOf (a .table .now)) (v .m) (p .1) (v .inv .1 .fine)), v .inv .1 .framed, p .1))
+    (λ c. search needs)
+    (λ c.
     let a = c .before .before .before .before .before .before .before .before .before .before .before .args in
     let v = c .before .before .before .before .before .before .before .before .loop in
     let o = c .before .before .before .before .before .one-step in
@@ -50,27 +39,17 @@ loop-less c =
     let g = o .last .1 .1 .0 in
     let e = same-room (v .table) (a .table .now) (a .s .now) (stateOf (v .table) (v .frames) (v .m)) (after u g (o .result)) (v .inv .0) (o .ensures .0) in
     let w = moves-on (v .inv .1) u g (o .result) e _ (c .before .q .given .1) in
-    omega arith
-
--- src/lib.rt:123:5
-loop-again : tie.Need-loop-again Inv-loop μ-loop
-loop-again c =
+    omega arith)
+    (λ c.
     let a = c .before .before .before .before .before .before .before .before .before .before .before .args in
     let v = c .before .before .before .before .before .before .before .before .loop in
     let o = c .before .before .before .before .before .one-step in
     let u = o .last .1 .0 in
     let g = o .last .1 .1 .0 in
     let e = same-room (v .table) (a .table .now) (a .s .now) (stateOf (v .table) (v .frames) (v .m)) (after u g (o .result)) (v .inv .0) (o .ensures .0) in
-    (o .kept .1 .0 ∙ v .inv .0, gone (v .inv .1) u g (o .result) e _ (c .before .q .given .1) (o .ensures .1))
-
--- src/lib.rt:127:25
-enum-known-q-2 : tie.Need-enum-known-q-2 Inv-loop μ-loop
-enum-known-q-2 c =
-    search needs
-
--- src/lib.rt:127:38
-finish-rows-requires : tie.Need-finish-rows-requires Inv-loop μ-loop
-finish-rows-requires c κs =
+    (o .kept .1 .0 ∙ v .inv .0, gone (v .inv .1) u g (o .result) e _ (c .before .q .given .1) (o .ensures .1)))
+    (λ c. search needs)
+    (λ c κs.
     let a = c .before .before .before .before .before .before .before .before .before .before .before .before .args in
     let v = c .before .before .before .before .before .before .before .before .before .loop in
     let o = c .before .before .before .before .before .before .one-step in
@@ -80,16 +59,9 @@ finish-rows-requires c κs =
     let w = ends-roomy (v .inv .1) u g (o .result) e _ _ (c .before .before .q2 .given .1) in
     let l : length u ≡ length (a .table .now) = o .kept .1 .0 ∙ v .inv .0 in
     let x = c .before .before .before .before .before .before .before .before .before .before .before .before .pre .1 in
-    (omega arith, omega arith)
-
--- src/lib.rt:127:38
-same-length : tie.Need-same-length Inv-loop μ-loop
-same-length c =
-    c .before .before .finish-rows .kept .1 .0 ∙ c .before .before .before .before .before .before .before .before .before .one-step .kept .1 .0 ∙ c .before .before .before .before .before .before .before .before .before .before .before .before .loop .inv .0
-
--- src/lib.rt:127:38
-returns : tie.Need-returns Inv-loop μ-loop
-returns c =
+    (omega arith, omega arith))
+    (λ c. c .before .before .finish-rows .kept .1 .0 ∙ c .before .before .before .before .before .before .before .before .before .one-step .kept .1 .0 ∙ c .before .before .before .before .before .before .before .before .before .before .before .before .loop .inv .0)
+    (λ c.
     let a = c .before .before .before .before .before .before .before .before .before .before .before .before .before .before .before .args in
     let v = c .before .before .before .before .before .before .before .before .before .before .before .before .loop in
     let o = c .before .before .before .before .before .before .before .before .before .one-step in
@@ -97,44 +69,14 @@ returns c =
     let g = o .last .1 .1 .0 in
     let e = same-room (v .table) (a .table .now) (a .s .now) (stateOf (v .table) (v .frames) (v .m)) (after u g (o .result)) (v .inv .0) (o .ensures .0) in
     let r = c .before .before .finish-rows in
-    (r .ensures .0 ∙ ends (v .inv .1) u g (o .result) e _ _ (c .before .before .before .before .before .q2 .given .1), within-room u (a .table .now) (r .result) (o .kept .1 .0 ∙ v .inv .0) (r .ensures .1))
-
--- src/lib.rt:128:26
-enum-known-q-3 : tie.Need-enum-known-q-3 Inv-loop μ-loop
-enum-known-q-3 c =
-    search needs
-
--- src/lib.rt:128:39
-same-length-2 : tie.Need-same-length-2 Inv-loop μ-loop
-same-length-2 c =
-    c .before .before .before .before .before .one-step .kept .1 .0 ∙ c .before .before .before .before .before .before .before .before .loop .inv .0
-
--- src/lib.rt:128:39
-returns-2 : tie.Need-returns-2 Inv-loop μ-loop
-returns-2 c =
+    (r .ensures .0 ∙ ends (v .inv .1) u g (o .result) e _ _ (c .before .before .before .before .before .q2 .given .1), within-room u (a .table .now) (r .result) (o .kept .1 .0 ∙ v .inv .0) (r .ensures .1)))
+    (λ c. search needs)
+    (λ c. c .before .before .before .before .before .one-step .kept .1 .0 ∙ c .before .before .before .before .before .before .before .before .loop .inv .0)
+    (λ c.
     let a = c .before .before .before .before .before .before .before .before .before .before .before .args in
     let v = c .before .before .before .before .before .before .before .before .loop in
     let o = c .before .before .before .before .before .one-step in
     let u = o .last .1 .0 in
     let g = o .last .1 .1 .0 in
     let e = same-room (v .table) (a .table .now) (a .s .now) (stateOf (v .table) (v .frames) (v .m)) (after u g (o .result)) (v .inv .0) (o .ensures .0) in
-    (refuses (v .inv .1) u g (o .result) e _ _ (c .before .q3 .given .1), tt)
-
-pub drive-spec : {M : Type 1} → statement M
-drive-spec =
-    tie.close
-    (tie.spec
-    Inv-loop
-    μ-loop
-    loop-holds
-    one-step-requires
-    enum-known-q
-    loop-less
-    loop-again
-    enum-known-q-2
-    finish-rows-requires
-    same-length
-    returns
-    enum-known-q-3
-    same-length-2
-    returns-2)
+    (refuses (v .inv .1) u g (o .result) e _ _ (c .before .q3 .given .1), tt)))

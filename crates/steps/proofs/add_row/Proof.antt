@@ -18,6 +18,9 @@ add-row-spec =
     (λ c. search needs)
     (λ c. search needs)
     (λ c. search needs)
-    (λ c. λ f g. let a = c .before .before .before .before .before .before .before .before .before .before .args in let p = c .before .before .before .before .put-row in add-room (roomOf (a .table .now)) (a .table .now) (p .last .0) f g (a .m) (a .next) (a .r) (omega arith) (p .ensures))
+    (λ c. λ f g. let a = c .before .before .before .before .before .before .before .before .before .before .args in
+    let p = c .before .before .before .before .put-row in
+    add-room (roomOf (a .table .now)) (a .table .now) (p .last .0) f g (a .m) (a .next) (a .r) (omega arith) (p .ensures))
     (λ c. search needs)
-    (λ c. λ f g. let a = c .before .before .before .before .args in add-full (roomOf (a .table .now)) (a .table .now) [] f g (a .m) (a .next) (a .r) (omega arith)))
+    (λ c. λ f g. let a = c .before .before .before .before .args in
+    add-full (roomOf (a .table .now)) (a .table .now) [] f g (a .m) (a .next) (a .r) (omega arith)))

@@ -16,4 +16,5 @@ row-in-spec =
     (λ c κs. search needs)
     (λ c. search needs)
     (λ c. search needs)
-    (λ c. λ t f. let a = c .before .before .before .args in row-of t f (a .m) (a .kind) (a .h) _ (c .before .before .less .ensures)))
+    (λ c. λ t f. let a = c .before .before .before .args in
+    row-of t f (a .m) (a .kind) (a .h) _ (c .before .before .less .ensures)))

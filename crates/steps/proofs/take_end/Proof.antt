@@ -18,6 +18,10 @@ take-end-spec =
     (λ c κs. search needs)
     (λ c. search needs)
     (λ c. search needs)
-    (λ c. λ f. let a = c .before .before .before .before .before .before .before .before .before .args in let p = c .before .before .put-row in let r = c .before .before .before .before .row-in in end-room (roomOf (a .table .now)) (a .table .now) (p .last .0) f (a .m) (a .h) (omega arith) (r .result) (r .ensures (a .table .now) f) (p .ensures))
+    (λ c. λ f. let a = c .before .before .before .before .before .before .before .before .before .args in
+    let p = c .before .before .put-row in
+    let r = c .before .before .before .before .row-in in
+    end-room (roomOf (a .table .now)) (a .table .now) (p .last .0) f (a .m) (a .h) (omega arith) (r .result) (r .ensures (a .table .now) f) (p .ensures))
     (λ c. search needs)
-    (λ c. λ f. let a = c .before .before .before .before .args in end-full (roomOf (a .table .now)) (a .table .now) [] f (a .m) (a .h) (omega arith)))
+    (λ c. λ f. let a = c .before .before .before .before .args in
+    end-full (roomOf (a .table .now)) (a .table .now) [] f (a .m) (a .h) (omega arith)))

@@ -34,8 +34,14 @@ take-fields-spec =
     (λ c κs. search needs)
     (λ c. search needs)
     (λ c.
-    let a = c .before .before .before .before .before .before .before .before .before .before .before .before .before .before .before .args in let o = c .before .before .take-object in let i = c .before .before .before .before .before .before .is-object in let v = c .before .before .before .before .before .before .before .move-on in (o .ensures .0 ∙ act-object (a .s .now) (roomOf (a .table .now)) (stateOf (a .table .now) (a .frames .now) (a .m)) (a .h) (a .kind) (v .result) (v .ensures) (sym (i .ensures) ∙ c .before .before .before .before .before .if5 .taken), o .ensures .1))
+    let a = c .before .before .before .before .before .before .before .before .before .before .before .before .before .before .before .args in
+    let o = c .before .before .take-object in
+    let i = c .before .before .before .before .before .before .is-object in
+    let v = c .before .before .before .before .before .before .before .move-on in
+    (o .ensures .0 ∙ act-object (a .s .now) (roomOf (a .table .now)) (stateOf (a .table .now) (a .frames .now) (a .m)) (a .h) (a .kind) (v .result) (v .ensures) (sym (i .ensures) ∙ c .before .before .before .before .before .if5 .taken), o .ensures .1))
     (λ c κs. search needs)
     (λ c. search needs)
     (λ c.
-    let a = c .before .before .before .before .before .before .before .before .before .before .before .before .before .before .before .args in let i = c .before .before .before .before .before .before .is-object in let v = c .before .before .before .before .before .before .before .move-on in (c .before .before .take-slots .ensures ∙ act-plain (a .s .now) (roomOf (a .table .now)) (stateOf (a .table .now) (a .frames .now) (a .m)) (a .h) (a .kind) (v .result) (v .ensures) (sym (i .ensures) ∙ c .before .before .before .before .before .if5 .left) (c .before .before .before .before .before .before .before .before .before .before .before .before .if1 .left) (c .before .before .before .before .before .before .before .before .before .before .before .if2 .left) (c .before .before .before .before .before .before .before .before .before .before .if3 .left) (c .before .before .before .before .before .before .before .before .before .if4 .left), c .before .before .before .before .before .before .before .before .before .before .before .before .before .before .before .pre .2)))
+    let a = c .before .before .before .before .before .before .before .before .before .before .before .before .before .before .before .args in
+    let i = c .before .before .before .before .before .before .is-object in
+    let v = c .before .before .before .before .before .before .before .move-on in (c .before .before .take-slots .ensures ∙ act-plain (a .s .now) (roomOf (a .table .now)) (stateOf (a .table .now) (a .frames .now) (a .m)) (a .h) (a .kind) (v .result) (v .ensures) (sym (i .ensures) ∙ c .before .before .before .before .before .if5 .left) (c .before .before .before .before .before .before .before .before .before .before .before .before .if1 .left) (c .before .before .before .before .before .before .before .before .before .before .before .if2 .left) (c .before .before .before .before .before .before .before .before .before .before .if3 .left) (c .before .before .before .before .before .before .before .before .before .if4 .left), c .before .before .before .before .before .before .before .before .before .before .before .before .before .before .before .pre .2)))

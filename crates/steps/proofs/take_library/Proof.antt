@@ -16,4 +16,7 @@ take-library-spec =
     (λ c κs. search needs)
     (λ c κs. search needs)
     (λ c. search needs)
-    (λ c. λ f. let a = c .before .before .before .before .before .before .args in let p = c .before .before .add-row in let r = c .before .before .before .before .row-apart in took-library (roomOf (a .table .now)) (a .table .now) f (a .m) (a .kind) (a .h) (p .last .0) (p .result) (r .result) (r .ensures (a .table .now) f) (p .ensures f f)))
+    (λ c. λ f. let a = c .before .before .before .before .before .before .args in
+    let p = c .before .before .add-row in
+    let r = c .before .before .before .before .row-apart in
+    took-library (roomOf (a .table .now)) (a .table .now) f (a .m) (a .kind) (a .h) (p .last .0) (p .result) (r .result) (r .ensures (a .table .now) f) (p .ensures f f)))
