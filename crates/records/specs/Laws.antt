@@ -17,19 +17,13 @@ use Rattle.format.specs.declared.Row.{Row}
 use Rattle.format.specs.Numbers.{u32At}
 use Rattle.format.specs.Values.{valueAt}
 use Rattle.format.specs.Types.{primitiveOf, coded, codeAt, nameAt, positive}
-use Rattle.format.specs.Rows.{objectRow, libraryRow}
-use Rattle.format.specs.Records.{plain, goodId, headerAt, typedPrimitiveAt, nullsAt}
+use Rattle.format.specs.Rows.{libraryRow}
+use Rattle.format.specs.Records.{plain, headerAt, typedPrimitiveAt, nullsAt}
 use Rattle.records.specs.Stages.{versionAt, namedAt, freeLibrary}
 
 -- ---- ids
 
 module _ (rows : List Row) (id : ℕ) where
-  pub id-negative : positive id ≡ false → goodId rows id ≡ false
-  id-negative h = ap (λ (b : Bool). b && eqb (objectRow id rows) 0) h
-
-  pub id-used : positive id ≡ true → goodId rows id ≡ eqb (objectRow id rows) 0
-  id-used h = ap (λ (b : Bool). b && eqb (objectRow id rows) 0) h
-
   pub library-negative : positive id ≡ false → freeLibrary rows id ≡ false
   library-negative h = ap (λ (b : Bool). b && eqb (libraryRow id rows) 0) h
 

@@ -2,4 +2,5 @@
 pub mod Stages
 pub mod Kinds
 pub mod Laws
+pub mod Headings
 pub mod Moves

@@ -86,3 +86,31 @@ module _ (s : List ℕ) where
 
       pub library-ends : EndsIn at (length s) (libraryAt s rows at)
       library-ends = rw (library-parts s at rows) (judged-ends (freeLibrary rows) R.BadId (namedAt s) at (λ v p h i. named-ends at v p h))
+
+-- ---- all kinds
+
+pub heading-ends : (s : List ℕ) (rows : List Row) (k at : ℕ) → at < length s → EndsIn at (length s) (headingAt s rows k at)
+unfolding headingAt
+heading-ends s rows k at h =
+    or 0 (header-ends s at)
+    (or 1 (class-by-id-ends s rows at h)
+    (or 4 (class-ends s rows false at h)
+    (or 5 (class-ends s rows true at h)
+    (or 6 (string-ends s at rows)
+    (or 7 (binary-array-ends s rows at h)
+    (or 8 (typed-ends s at)
+    (or 9 (reference-ends s at)
+    (or 10 none
+    (or 11 none
+    (or 12 (library-ends s at rows)
+    (or 13 (nulls-ends s at)
+    (or 14 (long-nulls-ends s at)
+    (or 15 (primitive-array-ends s rows at h)
+    (or 16 (slot-array-ends s rows S.Object at h)
+    (slot-array-ends s rows S.Text at h)))))))))))))))
+  where
+    none : (at < at + 1) × (at + 1 ≤ length s)
+    none = (omega arith, omega arith)
+
+    or : (n : ℕ) {a b : Heading} → EndsIn at (length s) a → EndsIn at (length s) b → EndsIn at (length s) (pick (eqb k n) a b)
+    or n u v = ends-pick at (length s) (eqb k n) _ _ (λ t. u) (λ t. v)

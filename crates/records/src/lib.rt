@@ -1,22 +1,19 @@
 // What may stand where, and what the fields of a record say: a function for each kind that has neither members nor slots, and the one
 // that asks the kind. Every field is judged where it stands: missing bytes, then its content, before the next one is looked at.
 use format::Field;
-use format::Head;
 use format::Heading;
 use format::Kind;
 use format::LibraryNo;
 use format::Number32;
-use format::ObjectNo;
 use format::Refusal;
 use format::SlotType;
-use format::Typed;
 use format::Where;
 ghost use Prim.Native.Nat.{_≤_, _<_};
 ghost use mathlib.Core.Path.{_≡_};
 ghost use lib.ListN.{length};
 ghost use Rattle.format.specs.declared.Where.the-variants as W;
 ghost use Rattle.format.specs.Rows.{roomOf, rowsOf};
-ghost use Rattle.format.specs.Records.{isKind, notTaken, inSlot, allowed, kindOf, kindAt, goodId, plain, headerAt, stringRecordAt, typedPrimitiveAt, referenceAt, nullsAt, longNullsAt, libraryAt};
+ghost use Rattle.format.specs.Records.{isKind, notTaken, inSlot, allowed, kindOf, kindAt, headerAt, stringRecordAt, typedPrimitiveAt, referenceAt, nullsAt, longNullsAt, libraryAt, headingAt};
 ghost use Rattle.records.specs.Stages.{versionAt, namedAt, freeLibrary};
 
 // ---- what may stand where
@@ -55,7 +52,7 @@ fn in_slot(k: u8) -> bool
     match k {
         9 => true,
         10 => true,
-        12 => true,
+        12 => true, // wherever a kind byte is expected after the header
         13 => true,
         14 => true,
         _ => false,
@@ -142,36 +139,6 @@ pub fn kind_at(s: &[u8], w: Where, at: usize) -> Kind
 
 // ---- parts of records
 
-// A record of these fields alone.
-fn plain(id: u32, end: usize, count: u32) -> Heading
-    ensures { λ r. ⌜ r ≡ plain id end count ⌝ }
-{
-    let first = Typed {
-        slot: SlotType::Object,
-        types: 0,
-        infos: 0,
-    };
-    Heading::Fields(Head {
-        id,
-        end,
-        count,
-        slots: 0,
-        first,
-        link: 0,
-    })
-}
-
-// The ObjectId of a string: positive, and used once.
-fn is_free_id(table: &[u32], n: usize, id: u32) -> bool
-    requires { ⌜ n ≤ roomOf (now table) ⌝ }
-    ensures { λ r. ⌜ r ≡ goodId (rowsOf n (now (table .entry))) id ⌝ }
-{
-    if types::is_positive(id) {
-        return table::find_object(table, n, ObjectNo(id)) == 0;
-    }
-    false
-}
-
 // The LibraryId of a library: positive, and used once.
 fn is_free_library(table: &[u32], n: usize, id: u32) -> bool
     requires { ⌜ n ≤ roomOf (now table) ⌝ }
@@ -188,7 +155,7 @@ fn named_at(s: &[u8], id: u32, at: usize) -> Heading
     ensures { λ r. ⌜ r ≡ namedAt (now (s .entry)) id at ⌝ }
 {
     match types::name_at(s, at) {
-        Field::End(end) => plain(id, end, 0),
+        Field::End(end) => arrays::plain_head(id, end, 0),
         Field::Fault(f) => Heading::Bad(f),
     }
 }
@@ -209,7 +176,7 @@ fn version_at(s: &[u8], root: u32, at: usize) -> Heading
     if minor != 0 {
         return Heading::Bad(Refusal::BadVersion);
     }
-    plain(root, end, 0)
+    arrays::plain_head(root, end, 0)
 }
 
 // ---- the kinds without members or slots
@@ -230,13 +197,13 @@ pub fn header_at(s: &[u8], at: usize) -> Heading
 
 // 6: ObjectId, text.
 pub fn string_record_at(s: &[u8], table: &[u32], n: usize, at: usize) -> Heading
-    requires { ⌜ (at < length (now s)) × (n ≤ roomOf (now table)) ⌝ }
+    requires { ⌜ (n ≤ roomOf (now table)) × (at < length (now s)) ⌝ }
     ensures { λ r. ⌜ r ≡ stringRecordAt (now (s .entry)) (rowsOf n (now (table .entry))) at ⌝ }
 {
     let Number32::Value(id, p) = num::u32_at(s, at + 1) else {
         return Heading::Bad(Refusal::CutShort);
     };
-    if is_free_id(table, n, id) {
+    if arrays::is_free_id(table, n, id) {
         return named_at(s, id, p);
     }
     Heading::Bad(Refusal::BadId)
@@ -251,7 +218,7 @@ pub fn typed_primitive_at(s: &[u8], at: usize) -> Heading
         Field::End(p) => {
             let code = types::coded_of(types::primitive_of(types::byte_at(s, at + 1)));
             match values::value_at(s, code, p) {
-                Field::End(end) => plain(0, end, 0),
+                Field::End(end) => arrays::plain_head(0, end, 0),
                 Field::Fault(f) => Heading::Bad(f),
             }
         }
@@ -264,11 +231,11 @@ pub fn reference_at(s: &[u8], at: usize) -> Heading
     requires { ⌜ at < length (now s) ⌝ }
     ensures { λ r. ⌜ r ≡ referenceAt (now (s .entry)) at ⌝ }
 {
-    let Number32::Value(id, end) = num::u32_at(s, at + 1) else {
+    let Number32::Value(target, end) = num::u32_at(s, at + 1) else {
         return Heading::Bad(Refusal::CutShort);
     };
-    if types::is_positive(id) {
-        return plain(id, end, 0);
+    if types::is_positive(target) {
+        return arrays::plain_head(target, end, 0);
     }
     Heading::Bad(Refusal::BadId)
 }
@@ -279,7 +246,7 @@ pub fn nulls_at(s: &[u8], at: usize) -> Heading
     ensures { λ r. ⌜ r ≡ nullsAt (now (s .entry)) at ⌝ }
 {
     if at + 1 < s.len() {
-        return plain(0, at + 2, s[at + 1] as u32);
+        return arrays::plain_head(0, at + 2, s[at + 1] as u32);
     }
     Heading::Bad(Refusal::CutShort)
 }
@@ -293,14 +260,14 @@ pub fn long_nulls_at(s: &[u8], at: usize) -> Heading
         return Heading::Bad(Refusal::CutShort);
     };
     if types::is_positive(count) {
-        return plain(0, end, count);
+        return arrays::plain_head(0, end, count);
     }
     Heading::Bad(Refusal::BadCount)
 }
 
 // 12: LibraryId, name. A second library of one number is refused, also where the names are equal.
 pub fn library_at(s: &[u8], table: &[u32], n: usize, at: usize) -> Heading
-    requires { ⌜ (at < length (now s)) × (n ≤ roomOf (now table)) ⌝ }
+    requires { ⌜ (n ≤ roomOf (now table)) × (at < length (now s)) ⌝ }
     ensures { λ r. ⌜ r ≡ libraryAt (now (s .entry)) (rowsOf n (now (table .entry))) at ⌝ }
 {
     let Number32::Value(id, p) = num::u32_at(s, at + 1) else {
@@ -310,4 +277,31 @@ pub fn library_at(s: &[u8], table: &[u32], n: usize, at: usize) -> Heading
         return named_at(s, id, p);
     }
     Heading::Bad(Refusal::BadId)
+}
+
+// ---- all kinds
+
+// The fields of a record of a kind that is taken. 10 and 11 have none.
+pub fn heading_at(s: &[u8], table: &[u32], n: usize, k: u8, at: usize) -> Heading
+    requires { ⌜ (n ≤ roomOf (now table)) × (length (now s) ≤ 16777216) × (n ≤ 16777216) × (at < length (now s)) ⌝ }
+    ensures { λ r. ⌜ r ≡ headingAt (now (s .entry)) (rowsOf n (now (table .entry))) k at ⌝ }
+{
+    match k {
+        0 => header_at(s, at),
+        1 => classes::class_by_id_at(s, table, n, at),
+        4 => classes::class_at(s, table, n, false, at),
+        5 => classes::class_at(s, table, n, true, at),
+        6 => string_record_at(s, table, n, at),
+        7 => arrays::binary_array_at(s, table, n, at),
+        8 => typed_primitive_at(s, at),
+        9 => reference_at(s, at),
+        10 => arrays::plain_head(0, at + 1, 1),
+        11 => arrays::plain_head(0, at + 1, 0),
+        12 => library_at(s, table, n, at),
+        13 => nulls_at(s, at),
+        14 => long_nulls_at(s, at),
+        15 => arrays::primitive_array_at(s, table, n, at),
+        16 => arrays::slot_array_at(s, table, n, SlotType::Object, at),
+        _ => arrays::slot_array_at(s, table, n, SlotType::Text, at),
+    }
 }

@@ -17,5 +17,5 @@ nulls-at-spec =
     (λ c. search needs)
     (λ c. omega (arith, c .shared-slice-known2 .given (c .before .before .before .args .at + 1)))
     (λ c κs. search needs)
-    (λ c. c .plain .ensures ∙ sym (run-end _ _ (c .before .before .if1 .taken)))
+    (λ c. c .plain-head .ensures ∙ sym (run-end _ _ (c .before .before .if1 .taken)))
     (λ c. sym (run-short _ _ (c .if1 .left))))

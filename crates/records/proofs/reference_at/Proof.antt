@@ -16,5 +16,5 @@ reference-at-spec =
     (λ c. sym (reference-parts _ _ ∙ judged-short _ _ _ _ (sym (c .before .before .u32-at .ensures) ∙ c .enum-told .given .1)))
     (λ c κs. search needs)
     (λ c κs. search needs)
-    (λ c. c .plain .ensures ∙ sym (reference-parts _ _ ∙ judged-good _ _ _ _ _ _ (sym (c .before .before .before .before .before .before .u32-at .ensures) ∙ c .before .before .before .before .id .given .1) (sym (c .before .before .is-positive .ensures) ∙ c .before .if1 .taken)))
-    (λ c. sym (reference-parts _ _ ∙ judged-bad _ _ _ _ _ _ (sym (c .before .before .before .before .before .u32-at .ensures) ∙ c .before .before .before .id .given .1) (sym (c .before .is-positive .ensures) ∙ c .if1 .left))))
+    (λ c. c .plain-head .ensures ∙ sym (reference-parts _ _ ∙ judged-good _ _ _ _ _ _ (sym (c .before .before .before .before .before .before .u32-at .ensures) ∙ c .before .before .before .before .target .given .1) (sym (c .before .before .is-positive .ensures) ∙ c .before .if1 .taken)))
+    (λ c. sym (reference-parts _ _ ∙ judged-bad _ _ _ _ _ _ (sym (c .before .before .before .before .before .u32-at .ensures) ∙ c .before .before .before .target .given .1) (sym (c .before .is-positive .ensures) ∙ c .if1 .left))))

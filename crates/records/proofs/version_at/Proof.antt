@@ -20,4 +20,4 @@ version-at-spec =
     (λ c. sym (minor-short _ _ _ _ _ (sym (c .before .before .before .before .before .before .before .u32-at .ensures) ∙ c .before .before .before .before .before .major .given .1) (c .before .before .before .if1 .left) (sym (c .before .before .u32-at2 .ensures) ∙ c .enum-told2 .given .1)))
     (λ c. sym (minor-bad _ _ _ _ _ (sym (c .before .before .before .before .before .before .before .before .before .u32-at .ensures) ∙ c .before .before .before .before .before .before .before .major .given .1) (c .before .before .before .before .before .if1 .left) _ _ (sym (c .before .before .before .before .u32-at2 .ensures) ∙ c .before .before .minor .given .1) (c .if2 .taken)))
     (λ c κs. search needs)
-    (λ c. c .plain .ensures ∙ sym (version-end _ _ _ _ _ (sym (c .before .before .before .before .before .before .before .before .before .before .u32-at .ensures) ∙ c .before .before .before .before .before .before .before .before .major .given .1) (c .before .before .before .before .before .before .if1 .left) _ _ (sym (c .before .before .before .before .before .u32-at2 .ensures) ∙ c .before .before .before .minor .given .1) (c .before .if2 .left))))
+    (λ c. c .plain-head .ensures ∙ sym (version-end _ _ _ _ _ (sym (c .before .before .before .before .before .before .before .before .before .before .u32-at .ensures) ∙ c .before .before .before .before .before .before .before .before .major .given .1) (c .before .before .before .before .before .before .if1 .left) _ _ (sym (c .before .before .before .before .before .u32-at2 .ensures) ∙ c .before .before .before .minor .given .1) (c .before .if2 .left))))

@@ -1,0 +1,92 @@
+-- The fields of a record by its kind: one law for each kind that the definition names, and one for all others.
+use Prim.Native.Nat.{ℕ, _+_}
+use mathlib.Core.Path.{_≡_, refl}
+use mathlib.Core.Bool.{true, false}
+use mathlib.Core.List.{List}
+use borrow.Author.Tests.{ne-eqb}
+use Rattle.format.specs.declared.SlotType.the-variants as S
+use Rattle.format.specs.declared.Row.{Row}
+use Rattle.format.specs.Records.{plain, headerAt, stringRecordAt, typedPrimitiveAt, referenceAt, nullsAt, longNullsAt, libraryAt, classAt, classByIdAt, slotArrayAt, primitiveArrayAt, binaryArrayAt, headingAt}
+
+module _ (s : List ℕ) (rows : List Row) (k at : ℕ) where
+  pub header-heading : k ≡ 0 → headingAt s rows k at ≡ headerAt s at
+  unfolding headingAt
+  header-heading h = rw h
+
+  pub by-id-heading : k ≡ 1 → headingAt s rows k at ≡ classByIdAt s rows at
+  unfolding headingAt
+  by-id-heading h = rw h
+
+  pub system-heading : k ≡ 4 → headingAt s rows k at ≡ classAt s rows false at
+  unfolding headingAt
+  system-heading h = rw h
+
+  pub class-heading : k ≡ 5 → headingAt s rows k at ≡ classAt s rows true at
+  unfolding headingAt
+  class-heading h = rw h
+
+  pub string-heading : k ≡ 6 → headingAt s rows k at ≡ stringRecordAt s rows at
+  unfolding headingAt
+  string-heading h = rw h
+
+  pub array-heading : k ≡ 7 → headingAt s rows k at ≡ binaryArrayAt s rows at
+  unfolding headingAt
+  array-heading h = rw h
+
+  pub typed-heading : k ≡ 8 → headingAt s rows k at ≡ typedPrimitiveAt s at
+  unfolding headingAt
+  typed-heading h = rw h
+
+  pub reference-heading : k ≡ 9 → headingAt s rows k at ≡ referenceAt s at
+  unfolding headingAt
+  reference-heading h = rw h
+
+  pub null-heading : k ≡ 10 → headingAt s rows k at ≡ plain 0 (at + 1) 1
+  unfolding headingAt
+  null-heading h = rw h
+
+  pub end-heading : k ≡ 11 → headingAt s rows k at ≡ plain 0 (at + 1) 0
+  unfolding headingAt
+  end-heading h = rw h
+
+  pub library-heading : k ≡ 12 → headingAt s rows k at ≡ libraryAt s rows at
+  unfolding headingAt
+  library-heading h = rw h
+
+  pub nulls-heading : k ≡ 13 → headingAt s rows k at ≡ nullsAt s at
+  unfolding headingAt
+  nulls-heading h = rw h
+
+  pub long-nulls-heading : k ≡ 14 → headingAt s rows k at ≡ longNullsAt s at
+  unfolding headingAt
+  long-nulls-heading h = rw h
+
+  pub primitives-heading : k ≡ 15 → headingAt s rows k at ≡ primitiveArrayAt s rows at
+  unfolding headingAt
+  primitives-heading h = rw h
+
+  pub objects-heading : k ≡ 16 → headingAt s rows k at ≡ slotArrayAt s rows S.Object at
+  unfolding headingAt
+  objects-heading h = rw h
+
+  -- 17, and what never stands here
+  pub strings-heading : (((((((((((((((Unit {0} × (k ≡ 0 → ⊥)) × (k ≡ 1 → ⊥)) × (k ≡ 4 → ⊥)) × (k ≡ 5 → ⊥)) × (k ≡ 6 → ⊥)) × (k ≡ 7 → ⊥)) × (k ≡ 8 → ⊥)) × (k ≡ 9 → ⊥)) × (k ≡ 10 → ⊥)) × (k ≡ 11 → ⊥)) × (k ≡ 12 → ⊥)) × (k ≡ 13 → ⊥)) × (k ≡ 14 → ⊥)) × (k ≡ 15 → ⊥)) × (k ≡ 16 → ⊥))
+      → headingAt s rows k at ≡ slotArrayAt s rows S.Text at
+  unfolding headingAt
+  strings-heading r =
+      rw (
+      ne-eqb k 0 (r .0 .0 .0 .0 .0 .0 .0 .0 .0 .0 .0 .0 .0 .0 .1),
+      ne-eqb k 1 (r .0 .0 .0 .0 .0 .0 .0 .0 .0 .0 .0 .0 .0 .1),
+      ne-eqb k 4 (r .0 .0 .0 .0 .0 .0 .0 .0 .0 .0 .0 .0 .1),
+      ne-eqb k 5 (r .0 .0 .0 .0 .0 .0 .0 .0 .0 .0 .0 .1),
+      ne-eqb k 6 (r .0 .0 .0 .0 .0 .0 .0 .0 .0 .0 .1),
+      ne-eqb k 7 (r .0 .0 .0 .0 .0 .0 .0 .0 .0 .1),
+      ne-eqb k 8 (r .0 .0 .0 .0 .0 .0 .0 .0 .1),
+      ne-eqb k 9 (r .0 .0 .0 .0 .0 .0 .0 .1),
+      ne-eqb k 10 (r .0 .0 .0 .0 .0 .0 .1),
+      ne-eqb k 11 (r .0 .0 .0 .0 .0 .1),
+      ne-eqb k 12 (r .0 .0 .0 .0 .1),
+      ne-eqb k 13 (r .0 .0 .0 .1),
+      ne-eqb k 14 (r .0 .0 .1),
+      ne-eqb k 15 (r .0 .1),
+      ne-eqb k 16 (r .1))
