@@ -1,7 +1,7 @@
 -- Where a record's fields end, where they are good: after its place and within the stream.
 use Prim.Native.Nat.{ℕ, _+_, _≤_, _<_}
 use mathlib.Core.Path.{_≡_, refl}
-use mathlib.Core.Bool.{Bool}
+use mathlib.Core.Bool.{Bool, true, false}
 use mathlib.Core.List.{List}
 use native.Mathlib.Omega.{arith}
 use lib.ListN.{length, getD}
@@ -10,6 +10,7 @@ use borrow.Author.Tests.{ltb-true}
 use Rattle.format.specs.declared.Refusal.{Refusal}
 use Rattle.format.specs.declared.Refusal.the-variants as R
 use Rattle.format.specs.declared.Number32.the-variants as N32
+use Rattle.format.specs.declared.SlotType.the-variants as S
 use Rattle.format.specs.declared.Heading.{Heading}
 use Rattle.format.specs.declared.Heading.the-variants as H
 use Rattle.format.specs.declared.Row.{Row}
@@ -17,10 +18,11 @@ use Rattle.format.specs.Bytes.{pick}
 use Rattle.format.specs.Numbers.{u32At}
 use Rattle.format.specs.Values.{valueAt}
 use Rattle.format.specs.Types.{primitiveOf, coded, codeAt, nameAt, positive}
-use Rattle.format.specs.Records.{onField, goodId, plain, headerAt, stringRecordAt, typedPrimitiveAt, referenceAt, nullsAt, longNullsAt, libraryAt}
+use Rattle.format.specs.Records.{onField, goodId, plain, headerAt, stringRecordAt, typedPrimitiveAt, referenceAt, nullsAt, longNullsAt, libraryAt, headingAt}
 use Rattle.types.specs.Keeps.{code-moves, name-moves}
 use Rattle.values.specs.Keeps.{value-moves}
 use Rattle.classes.specs.Ends.{EndsIn, number-moves, ends-pick, ends-number, ends-field}
+use Rattle.classes.specs.Moves.{class-ends, class-by-id-ends}
 use Rattle.records.specs.Stages.{namedAt, freeLibrary, onJudged, reference-parts, nulls-parts, string-parts, library-parts}
 
 module _ (s : List ℕ) where
@@ -86,31 +88,3 @@ module _ (s : List ℕ) where
 
       pub library-ends : EndsIn at (length s) (libraryAt s rows at)
       library-ends = rw (library-parts s at rows) (judged-ends (freeLibrary rows) R.BadId (namedAt s) at (λ v p h i. named-ends at v p h))
-
--- ---- all kinds
-
-pub heading-ends : (s : List ℕ) (rows : List Row) (k at : ℕ) → at < length s → EndsIn at (length s) (headingAt s rows k at)
-unfolding headingAt
-heading-ends s rows k at h =
-    or 0 (header-ends s at)
-    (or 1 (class-by-id-ends s rows at h)
-    (or 4 (class-ends s rows false at h)
-    (or 5 (class-ends s rows true at h)
-    (or 6 (string-ends s at rows)
-    (or 7 (binary-array-ends s rows at h)
-    (or 8 (typed-ends s at)
-    (or 9 (reference-ends s at)
-    (or 10 none
-    (or 11 none
-    (or 12 (library-ends s at rows)
-    (or 13 (nulls-ends s at)
-    (or 14 (long-nulls-ends s at)
-    (or 15 (primitive-array-ends s rows at h)
-    (or 16 (slot-array-ends s rows S.Object at h)
-    (slot-array-ends s rows S.Text at h)))))))))))))))
-  where
-    none : (at < at + 1) × (at + 1 ≤ length s)
-    none = (omega arith, omega arith)
-
-    or : (n : ℕ) {a b : Heading} → EndsIn at (length s) a → EndsIn at (length s) b → EndsIn at (length s) (pick (eqb k n) a b)
-    or n u v = ends-pick at (length s) (eqb k n) _ _ (λ t. u) (λ t. v)
