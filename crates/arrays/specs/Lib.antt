@@ -1,3 +1,4 @@
--- The stages of the array records with one law for each answer, the lengths of a rectangular array, and where the records end.
+-- Laws of the array records.
 pub mod Stages
 pub mod Lengths
+pub mod Moves

@@ -9,13 +9,17 @@ use Rattle.format.specs.declared.Refusal.the-variants as R
 use Rattle.format.specs.declared.SlotType.{SlotType}
 use Rattle.format.specs.declared.Number32.{Number32}
 use Rattle.format.specs.declared.Number32.the-variants as N32
+use Rattle.format.specs.declared.Field.{Field}
+use Rattle.format.specs.declared.Field.the-variants as F
+use Rattle.format.specs.declared.Slots.{Slots}
+use Rattle.format.specs.declared.Slots.the-variants as L
 use Rattle.format.specs.declared.Heading.{Heading}
 use Rattle.format.specs.declared.Heading.the-variants as H
 use Rattle.format.specs.declared.Row.{Row}
 use Rattle.format.specs.Bytes.{pick}
 use Rattle.format.specs.Numbers.{u32At, negative}
-use Rattle.format.specs.Types.{codeAt, coded, primitiveOf, alike}
-use Rattle.format.specs.Records.{onNumber, onField, goodId, slotted, slotArrayAt, withItems, primitiveArrayAt}
+use Rattle.format.specs.Types.{codeAt, coded, primitiveOf, typeByteAt, slotOf, typedAt, alike}
+use Rattle.format.specs.Records.{onNumber, onField, onSlots, goodId, infoKnown, slotted, slotArrayAt, withItems, primitiveArrayAt, goodRank, lengthsAt, itemsOf, itemTypeAt, rankAt, arrayTypeAt, binaryArrayAt}
 
 -- ---- an id that is free, and what follows it
 
@@ -79,3 +83,61 @@ pub primitive-array-is : (s : List ℕ) (rows : List Row) (at : ℕ)
     → primitiveArrayAt s rows at ≡ afterId rows (primitiveLengthAt s) (u32At s (at + 1))
 unfolding primitiveArrayAt afterId afterLength
 primitive-array-is s rows at = refl
+
+-- ---- kind 7
+
+pub binary-array-is : (s : List ℕ) (rows : List Row) (at : ℕ) → binaryArrayAt s rows at ≡ afterId rows (arrayTypeAt s rows) (u32At s (at + 1))
+unfolding binaryArrayAt afterId
+binary-array-is s rows at = refl
+
+module _ (s : List ℕ) (rows : List Row) (id : ℕ) where
+  -- the lengths, and the items
+  unfoldable pub shapeAt : ℕ → ℕ → Heading
+  shapeAt rank p = onSlots (itemTypeAt s rows id) (lengthsAt s rank 1 p)
+
+  -- the detail of the items' type, and the items
+  unfoldable pub itemInfoAt : ℕ → ℕ → ℕ → Heading
+  itemInfoAt n types infos = onField (λ end. itemsOf s id n infos end (typedAt s types infos .slot)) (infoKnown s rows (getD s types 0) infos)
+
+  module _ (type at : ℕ) where
+    pub rank-short : u32At s at ≡ N32.Short → rankAt s rows id type at ≡ H.Bad R.CutShort
+    unfolding rankAt
+    rank-short h = rw h
+
+    module _ (rank p : ℕ) (h : u32At s at ≡ N32.Value rank p) where
+      pub rank-good : goodRank type rank ≡ true → rankAt s rows id type at ≡ shapeAt rank p
+      unfolding rankAt shapeAt
+      rank-good g = rw (h, g)
+
+      pub rank-bad : goodRank type rank ≡ false → rankAt s rows id type at ≡ H.Bad R.BadCount
+      unfolding rankAt
+      rank-bad g = rw (h, g)
+
+  module _ (rank p : ℕ) where
+    pub shape-good : (n types : ℕ) → lengthsAt s rank 1 p ≡ L.Product n types → shapeAt rank p ≡ itemTypeAt s rows id n types
+    unfolding shapeAt
+    shape-good n types h = rw h
+
+    pub shape-bad : (f : Refusal) → lengthsAt s rank 1 p ≡ L.Fault f → shapeAt rank p ≡ H.Bad f
+    unfolding shapeAt
+    shape-bad f h = rw h
+
+  module _ (n types : ℕ) where
+    pub item-type-good : (infos : ℕ) → typeByteAt s types ≡ F.End infos → itemTypeAt s rows id n types ≡ itemInfoAt n types infos
+    unfolding itemTypeAt itemInfoAt
+    item-type-good infos h = rw h
+
+    pub item-type-bad : (f : Refusal) → typeByteAt s types ≡ F.Fault f → itemTypeAt s rows id n types ≡ H.Bad f
+    unfolding itemTypeAt
+    item-type-bad f h = rw h
+
+    -- b is the type byte
+    module _ (infos b : ℕ) (h : b ≡ getD s types 0) where
+      pub item-info-good : (end code : ℕ) (slot : SlotType) → infoKnown s rows b infos ≡ F.End end → code ≡ getD s infos 0 → slot ≡ slotOf b code
+          → itemInfoAt n types infos ≡ itemsOf s id n infos end slot
+      unfolding itemInfoAt typedAt
+      item-info-good end code slot i j k = rw (k, j, ← h, i)
+
+      pub item-info-bad : (f : Refusal) → infoKnown s rows b infos ≡ F.Fault f → itemInfoAt n types infos ≡ H.Bad f
+      unfolding itemInfoAt
+      item-info-bad f i = rw (← h, i)

@@ -1,24 +1,20 @@
 -- Where libraries, details, members and class records end: after their place, and within the stream.
 use Prim.Native.Nat.{ℕ, zero, suc, _+_, _-_, _≤_, _<_}
-use mathlib.Core.Path.{_≡_, refl, sym, _∙_}
+use mathlib.Core.Path.{_≡_}
 use mathlib.Core.Bool.{Bool, true, false}
 use mathlib.Core.List.{List}
 use native.Mathlib.Omega.{arith}
 use lib.ListN.{length, getD}
 use lib.Dec.{eqb}
-use Rattle.format.specs.declared.Refusal.{Refusal}
 use Rattle.format.specs.declared.Refusal.the-variants as R
-use Rattle.format.specs.declared.Field.{Field}
 use Rattle.format.specs.declared.Field.the-variants as F
-use Rattle.format.specs.declared.Heading.{Heading}
-use Rattle.format.specs.declared.Heading.the-variants as H
 use Rattle.format.specs.declared.Row.{Row}
 use Rattle.format.specs.Bytes.{pick, part}
 use Rattle.format.specs.Numbers.{le, u32At, negative}
 use Rattle.format.specs.Values.{times}
 use Rattle.format.specs.Types.{typeByteAt, nameAt, libraryIdAt, infoAt}
-use Rattle.format.specs.Rows.{blank, libraryRow, classRow}
-use Rattle.format.specs.Records.{goodClassId, knownLibrary, ownLibraryAt, infoKnown, infosAt, afterInfos, membersAt, classAt, ofClass, byRow, classByIdAt}
+use Rattle.format.specs.Rows.{libraryRow, classRow}
+use Rattle.format.specs.Records.{goodClassId, knownLibrary, ownLibraryAt, infoKnown, infosAt, afterInfos, membersAt, classAt, classByIdAt}
 use Rattle.fields.specs.Judged.{no-end}
 use Rattle.fields.specs.Sequence.{through}
 use Rattle.types.specs.Keeps.{name-moves, library-moves, names-kept, types-kept, info-kept, types-end}

@@ -6,11 +6,9 @@ use mathlib.Core.Bool.{Bool, true, false}
 use mathlib.Core.List.{List}
 use native.Mathlib.Omega.{arith}
 use lib.ListN.{length, getD}
-use lib.Dec.{eqb}
 use borrow.Author.Tests.{eq-eqb, ne-eqb}
 use Rattle.format.specs.declared.Refusal.{Refusal}
 use Rattle.format.specs.declared.Refusal.the-variants as R
-use Rattle.format.specs.declared.Number32.{Number32}
 use Rattle.format.specs.declared.Number32.the-variants as N32
 use Rattle.format.specs.declared.Field.{Field}
 use Rattle.format.specs.declared.Field.the-variants as F
@@ -118,16 +116,13 @@ module _ (s : List ℕ) (rows : List Row) where
     details-bad own f h = rw h
 
   -- what the fields of a class say, where they are good
-  abbrev full : ℕ → ℕ → ℕ → ℕ → ℕ → Heading
+  abbrev pub full : ℕ → ℕ → ℕ → ℕ → ℕ → Heading
   full id n types infos end = H.Fields (record { id = id; end = end; count = n; slots = n; first = typedAt s types infos; link = types })
 
   -- members whose names end at this place
   unfoldable pub typedMembersAt : Bool → ℕ → ℕ → ℕ → Heading
   typedMembersAt own id n types =
-      onField (λ infos.
-      onField (λ end. H.Fields (record { id = id; end = end; count = n; slots = n; first = typedAt s types infos; link = types }))
-      (detailsAt own n types infos))
-      (times (typeByteAt s) n types)
+      onField (λ infos. onField (full id n types infos) (detailsAt own n types infos)) (times (typeByteAt s) n types)
 
   module _ (own : Bool) (id n : ℕ) where
     module _ (types : ℕ) where
@@ -140,9 +135,7 @@ module _ (s : List ℕ) (rows : List Row) where
         unfolding typedMembersAt
         members-details-bad f g = rw (h, g)
 
-        pub members-end : (end : ℕ) → detailsAt own n types infos ≡ F.End end
-            → typedMembersAt own id n types
-            ≡ H.Fields (record { id = id; end = end; count = n; slots = n; first = typedAt s types infos; link = types })
+        pub members-end : (end : ℕ) → detailsAt own n types infos ≡ F.End end → typedMembersAt own id n types ≡ full id n types infos end
         unfolding typedMembersAt
         members-end end g = rw (h, g)
 

@@ -9,7 +9,7 @@ use format::Refusal;
 ghost use Prim.Native.Nat.{_+_, _-_, _≤_, _<_};
 ghost use mathlib.Core.Path.{_≡_};
 ghost use lib.ListN.{length, getD};
-ghost use Rattle.format.specs.Rows.{blank, roomOf, rowsOf};
+ghost use Rattle.format.specs.Rows.{blank, roomOf, rowsOf, classRow};
 ghost use Rattle.format.specs.Records.{goodClassId, knownLibrary, ownLibraryAt, infoKnown, infosAt, membersAt, classAt, within, ofClass, classByIdAt};
 ghost use Rattle.classes.specs.Stages.{detailsAt, typedMembersAt, namedClassAt, byMetadataAt};
 
@@ -32,6 +32,7 @@ fn known_library(s: &[u8], table: &[u32], n: usize, end: usize) -> Field
     requires { ⌜ (n ≤ roomOf (now table)) × (4 ≤ end) × (end ≤ length (now s)) ⌝ }
     ensures { λ r. ⌜ r ≡ knownLibrary (now (s .entry)) (rowsOf n (now (table .entry))) end ⌝ }
 {
+    // The four bytes are there: the number is never short.
     let Number32::Value(id, _) = num::u32_at(s, end - 4) else {
         return Field::Fault(Refusal::CutShort);
     };
@@ -241,6 +242,14 @@ fn of_class(s: &[u8], table: &[u32], n: usize, id: u32, end: usize, row: usize) 
     })
 }
 
+// The row of the class of this number, a record of kind 4 or 5: a row number plus 1, or 0.
+fn class_row(table: &[u32], n: usize, class: u32) -> usize
+    requires { ⌜ n ≤ roomOf (now table) ⌝ }
+    ensures { λ r. ⌜ r ≡ classRow class (rowsOf n (now (table .entry))) ⌝ }
+{
+    table::find_class(table, n, ObjectNo(class))
+}
+
 // A class by id whose ObjectId is read: the MetadataId, and the row of its class.
 fn by_metadata_at(s: &[u8], table: &[u32], n: usize, id: u32, at: usize) -> Heading
     requires { ⌜ (n ≤ roomOf (now table)) × (length (now s) ≤ 16777216) × (n ≤ 16777216) ⌝ }
@@ -249,7 +258,7 @@ fn by_metadata_at(s: &[u8], table: &[u32], n: usize, id: u32, at: usize) -> Head
     let Number32::Value(class, end) = num::u32_at(s, at) else {
         return Heading::Bad(Refusal::CutShort);
     };
-    let row = table::find_class(table, n, ObjectNo(class));
+    let row = class_row(table, n, class);
     if row == 0 {
         return Heading::Bad(Refusal::NoClass);
     }

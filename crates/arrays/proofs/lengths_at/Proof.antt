@@ -39,10 +39,11 @@ lengths-at-spec =
     (λ c. search needs)
     (λ c.
     let v = c .before .before .before .before in
-    let u = v .before .before in
-    (rw (c .times-length .ensures) (capped-within _),
-    u .before .before .loop .inv .1
-    ∙ rw (c .times-length .ensures)
-    (lengths-step _ _ _ _ (omega arith) _ _ (sym (u .u32-at .ensures) ∙ v .count .given .1) (sym (c .before .before .is-negative .ensures) ∙ c .before .if1 .left))))
+    let u = v .before .before in (
+      rw (c .times-length .ensures) (capped-within _),
+      u .before .before .loop .inv .1
+          ∙ rw (c .times-length .ensures)
+          (lengths-step _ _ _ _ (omega arith) _ _ (sym (u .u32-at .ensures) ∙ v .count .given .1) (sym (c .before .before .is-negative .ensures) ∙ c .before .if1 .left)),
+    ))
     (λ c κs. search needs)
     (λ c. c .judge .ensures ∙ sym (c .before .before .loop .inv .1 ∙ lengths-none _ _ _ _ (omega arith))))

@@ -25,9 +25,7 @@ typed-members-at-spec =
     (λ c. search needs)
     (λ c. search needs)
     (λ c.
-    let h = sym (c .before .before .before .before .before .before .before .before .type-bytes-at .ensures) ∙ c .before .before .before .before .before .before .infos .given .1 in
-    rw (c .typed-at .ensures) (sym (members-end _ _ _ _ _ _ _ h _ (sym (c .before .before .before .before .details-at .ensures) ∙ c .before .before .end .given .1))))
+    rw (c .typed-at .ensures) (sym (members-end _ _ _ _ _ _ _ (sym (c .before .before .before .before .before .before .before .before .type-bytes-at .ensures) ∙ c .before .before .before .before .before .before .infos .given .1) _ (sym (c .before .before .before .before .details-at .ensures) ∙ c .before .before .end .given .1))))
     (λ c.
-    let h = sym (c .before .before .before .before .before .before .before .type-bytes-at .ensures) ∙ c .before .before .before .before .before .infos .given .1 in
-    sym (members-details-bad _ _ _ _ _ _ _ h _ (sym (c .before .before .before .details-at .ensures) ∙ c .before .f .given .1)))
+    sym (members-details-bad _ _ _ _ _ _ _ (sym (c .before .before .before .before .before .before .before .type-bytes-at .ensures) ∙ c .before .before .before .before .before .infos .given .1) _ (sym (c .before .before .before .details-at .ensures) ∙ c .before .f .given .1)))
     (λ c. sym (types-bad _ _ _ _ _ _ _ (sym (c .before .before .before .type-bytes-at .ensures) ∙ c .before .f2 .given .1))))
