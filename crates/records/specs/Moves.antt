@@ -23,6 +23,7 @@ use Rattle.types.specs.Keeps.{code-moves, name-moves}
 use Rattle.values.specs.Keeps.{value-moves}
 use Rattle.classes.specs.Ends.{EndsIn, number-moves, ends-pick, ends-number, ends-field}
 use Rattle.classes.specs.Moves.{class-ends, class-by-id-ends}
+use Rattle.arrays.specs.Moves.{slot-array-ends, primitive-array-ends, binary-array-ends}
 use Rattle.records.specs.Stages.{namedAt, freeLibrary, onJudged, reference-parts, nulls-parts, string-parts, library-parts}
 
 module _ (s : List ℕ) where
@@ -88,3 +89,31 @@ module _ (s : List ℕ) where
 
       pub library-ends : EndsIn at (length s) (libraryAt s rows at)
       library-ends = rw (library-parts s at rows) (judged-ends (freeLibrary rows) R.BadId (namedAt s) at (λ v p h i. named-ends at v p h))
+
+-- ---- all kinds
+
+pub heading-ends : (s : List ℕ) (rows : List Row) (k at : ℕ) → at < length s → EndsIn at (length s) (headingAt s rows k at)
+unfolding headingAt
+heading-ends s rows k at h =
+    or 0 _ _ (header-ends s at)
+    (or 1 _ _ (class-by-id-ends s rows at)
+    (or 4 _ _ (class-ends s rows false at)
+    (or 5 _ _ (class-ends s rows true at)
+    (or 6 _ _ (string-ends s at rows)
+    (or 7 _ _ (binary-array-ends s rows at)
+    (or 8 _ _ (typed-ends s at)
+    (or 9 _ _ (reference-ends s at)
+    (or 10 _ _ none
+    (or 11 _ _ none
+    (or 12 _ _ (library-ends s at rows)
+    (or 13 _ _ (nulls-ends s at)
+    (or 14 _ _ (long-nulls-ends s at)
+    (or 15 _ _ (primitive-array-ends s rows at)
+    (or 16 _ _ (slot-array-ends s rows S.Object at)
+    (slot-array-ends s rows S.Text at)))))))))))))))
+  where
+    none : (at < at + 1) × (at + 1 ≤ length s)
+    none = (omega arith, omega arith)
+
+    or : (n : ℕ) (a b : Heading) → EndsIn at (length s) a → EndsIn at (length s) b → EndsIn at (length s) (pick (eqb k n) a b)
+    or n a b u v = ends-pick at (length s) (eqb k n) a b (λ t. u) (λ t. v)

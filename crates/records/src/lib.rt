@@ -278,3 +278,30 @@ pub fn library_at(s: &[u8], table: &[u32], n: usize, at: usize) -> Heading
     }
     Heading::Bad(Refusal::BadId)
 }
+
+// ---- all kinds
+
+// The fields of a record of a kind that is taken. 10 and 11 have none.
+pub fn heading_at(s: &[u8], table: &[u32], n: usize, k: u8, at: usize) -> Heading
+    requires { ⌜ (n ≤ roomOf (now table)) × (length (now s) ≤ 16777216) × (n ≤ 16777216) × (at < length (now s)) ⌝ }
+    ensures { λ r. ⌜ r ≡ headingAt (now (s .entry)) (rowsOf n (now (table .entry))) k at ⌝ }
+{
+    match k {
+        0 => header_at(s, at),
+        1 => classes::class_by_id_at(s, table, n, at),
+        4 => classes::class_at(s, table, n, false, at),
+        5 => classes::class_at(s, table, n, true, at),
+        6 => string_record_at(s, table, n, at),
+        7 => arrays::binary_array_at(s, table, n, at),
+        8 => typed_primitive_at(s, at),
+        9 => reference_at(s, at),
+        10 => arrays::plain_head(0, at + 1, 1),
+        11 => arrays::plain_head(0, at + 1, 0),
+        12 => library_at(s, table, n, at),
+        13 => nulls_at(s, at),
+        14 => long_nulls_at(s, at),
+        15 => arrays::primitive_array_at(s, table, n, at),
+        16 => arrays::slot_array_at(s, table, n, SlotType::Object, at),
+        _ => arrays::slot_array_at(s, table, n, SlotType::Text, at),
+    }
+}
