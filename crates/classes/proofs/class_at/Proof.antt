@@ -18,6 +18,10 @@ class-at-spec =
     (λ c κs. search needs)
     (λ c.
     c .named-class-at .ensures
-    ∙ sym (class-free _ _ _ _ _ _ (sym (c .before .before .before .before .before .before .u32-at .ensures) ∙ c .before .before .before .before .id .given .1) (sym (c .before .before .is-free-class-id .ensures) ∙ c .before .if1 .taken)))
+    ∙ sym (class-free _ _ _ _ _ _
+    (sym (c .before .before .before .before .before .before .u32-at .ensures) ∙ c .before .before .before .before .id .given .1)
+    (sym (c .before .before .is-free-class-id .ensures) ∙ c .before .if1 .taken)))
     (λ c.
-    sym (class-used _ _ _ _ _ _ (sym (c .before .before .before .before .before .u32-at .ensures) ∙ c .before .before .before .id .given .1) (sym (c .before .is-free-class-id .ensures) ∙ c .if1 .left))))
+    sym (class-used _ _ _ _ _ _
+    (sym (c .before .before .before .before .before .u32-at .ensures) ∙ c .before .before .before .id .given .1)
+    (sym (c .before .is-free-class-id .ensures) ∙ c .if1 .left))))

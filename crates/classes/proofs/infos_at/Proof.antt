@@ -29,10 +29,14 @@ infos-at-spec =
     (λ c. search needs)
     (λ c. search needs)
     (λ c.
-    sym (c .before .before .before .before .before .before .loop .inv .0 ∙ (infos-step _ _ _ _ _ (omega arith) ∙ rw (← c .before .before .before .info-known .ensures, c .before .f .given .1))))
+    sym (c .before .before .before .before .before .before .loop .inv .0
+    ∙ (infos-step _ _ _ _ _ (omega arith) ∙ rw (← c .before .before .before .info-known .ensures, c .before .f .given .1))))
     (λ c. search needs)
     (λ c. search needs)
     (λ c. search needs)
-    (λ c.
-    (c .before .before .before .before .before .before .loop .inv .0 ∙ (infos-step _ _ _ _ _ (omega arith) ∙ rw (← c .before .before .before .info-known .ensures, c .before .next .given .1)), omega arith))
+    (λ c. (
+      c .before .before .before .before .before .before .loop .inv .0
+          ∙ (infos-step _ _ _ _ _ (omega arith) ∙ rw (← c .before .before .before .info-known .ensures, c .before .next .given .1)),
+      omega arith,
+    ))
     (λ c. sym (c .before .loop .inv .0 ∙ infos-none _ _ _ _ _ (omega arith))))

@@ -13,9 +13,15 @@ known-library-spec =
     (λ c κs. search needs)
     (λ c. search needs)
     (λ c. search needs)
-    (λ c. absurd (four-there _ _ (c .before .before .before .before .before .pre .1) (c .before .before .before .before .before .pre .2) (sym (c .before .before .u32-at .ensures) ∙ c .enum-told .given .1)))
+    (λ c.
+    absurd (four-there _ _ (c .before .before .before .before .before .pre .1) (c .before .before .before .before .before .pre .2)
+    (sym (c .before .before .u32-at .ensures) ∙ c .enum-told .given .1)))
     (λ c κs. search needs)
     (λ c.
-    sym (known-lost _ _ _ _ _ (sym (c .before .before .before .before .before .u32-at .ensures) ∙ c .before .before .before .id .given .1) (sym (c .before .find-library .ensures) ∙ c .if1 .taken)))
+    sym (known-lost _ _ _ _ _
+    (sym (c .before .before .before .before .before .u32-at .ensures) ∙ c .before .before .before .id .given .1)
+    (sym (c .before .find-library .ensures) ∙ c .if1 .taken)))
     (λ c.
-    sym (known-end _ _ _ _ _ (sym (c .before .before .before .before .before .u32-at .ensures) ∙ c .before .before .before .id .given .1) (λ z. c .if1 .left (c .before .find-library .ensures ∙ z)))))
+    sym (known-end _ _ _ _ _
+    (sym (c .before .before .before .before .before .u32-at .ensures) ∙ c .before .before .before .id .given .1)
+    (λ z. c .if1 .left (c .before .find-library .ensures ∙ z)))))

@@ -15,5 +15,8 @@ own-library-at-spec =
     let w = library-before _ _ _ (sym (c .before .before .before .library-id-at .ensures) ∙ c .before .end .given .1) in
     (c .before .before .before .before .before .before .pre, w .0, w .1))
     (λ c. search needs)
-    (λ c. c .known-library .ensures ∙ sym (own-library-end _ _ _ _ (sym (c .before .before .before .before .library-id-at .ensures) ∙ c .before .before .end .given .1)))
+    (λ c.
+    c .known-library .ensures
+    ∙ sym (own-library-end _ _ _ _
+    (sym (c .before .before .before .before .library-id-at .ensures) ∙ c .before .before .end .given .1)))
     (λ c. sym (own-library-bad _ _ _ _ (sym (c .before .before .before .library-id-at .ensures) ∙ c .before .f .given .1))))
