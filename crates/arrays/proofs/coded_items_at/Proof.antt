@@ -1,6 +1,5 @@
 -- What follows the code is a function by cases of what the code answers.
 use borrow.Author.Needs.{needs}
-use mathlib.Core.Path.{sym, _∙_}
 use Rattle.arrays.proofs.coded_items_at.Statement.{statement}
 use Rattle.arrays.proofs.coded_items_at.Tie as tie
 
