@@ -15,7 +15,7 @@ use Rattle.format.specs.Bytes.{pick}
 use Rattle.format.specs.Numbers.{u32At}
 use Rattle.format.specs.Types.{nameAt, positive}
 use Rattle.format.specs.Rows.{libraryRow}
-use Rattle.format.specs.Records.{onNumber, onField, plain, goodId, headerAt, stringRecordAt, referenceAt, longNullsAt, libraryAt}
+use Rattle.format.specs.Records.{onNumber, onField, plain, goodId, stringRecordAt, referenceAt, longNullsAt, libraryAt}
 
 -- major and minor
 unfoldable pub versionAt : List ℕ → ℕ → ℕ → Heading
