@@ -1,10 +1,6 @@
 -- The fields of a record by its kind: one law for each kind that the definition names, and one for all others.
 use Prim.Native.Nat.{ℕ, _+_}
-<<<<<<< HEAD
-use mathlib.Core.Path.{_≡_, refl}
-=======
 use mathlib.Core.Path.{_≡_}
->>>>>>> records
 use mathlib.Core.Bool.{true, false}
 use mathlib.Core.List.{List}
 use borrow.Author.Tests.{ne-eqb}
@@ -12,15 +8,12 @@ use Rattle.format.specs.declared.SlotType.the-variants as S
 use Rattle.format.specs.declared.Row.{Row}
 use Rattle.format.specs.Records.{plain, headerAt, stringRecordAt, typedPrimitiveAt, referenceAt, nullsAt, longNullsAt, libraryAt, classAt, classByIdAt, slotArrayAt, primitiveArrayAt, binaryArrayAt, headingAt}
 
-<<<<<<< HEAD
-=======
 -- a kind that the definition does not name
 abbrev pub NoneOf : ℕ → Type 0
 NoneOf k =
     (((((((((((((((Unit {0} × (k ≡ 0 → ⊥)) × (k ≡ 1 → ⊥)) × (k ≡ 4 → ⊥)) × (k ≡ 5 → ⊥)) × (k ≡ 6 → ⊥)) × (k ≡ 7 → ⊥)) × (k ≡ 8 → ⊥)) ×
     (k ≡ 9 → ⊥)) × (k ≡ 10 → ⊥)) × (k ≡ 11 → ⊥)) × (k ≡ 12 → ⊥)) × (k ≡ 13 → ⊥)) × (k ≡ 14 → ⊥)) × (k ≡ 15 → ⊥)) × (k ≡ 16 → ⊥))
 
->>>>>>> records
 module _ (s : List ℕ) (rows : List Row) (k at : ℕ) where
   pub header-heading : k ≡ 0 → headingAt s rows k at ≡ headerAt s at
   unfolding headingAt
@@ -83,12 +76,7 @@ module _ (s : List ℕ) (rows : List Row) (k at : ℕ) where
   objects-heading h = rw h
 
   -- 17, and what never stands here
-<<<<<<< HEAD
-  pub strings-heading : (((((((((((((((Unit {0} × (k ≡ 0 → ⊥)) × (k ≡ 1 → ⊥)) × (k ≡ 4 → ⊥)) × (k ≡ 5 → ⊥)) × (k ≡ 6 → ⊥)) × (k ≡ 7 → ⊥)) × (k ≡ 8 → ⊥)) × (k ≡ 9 → ⊥)) × (k ≡ 10 → ⊥)) × (k ≡ 11 → ⊥)) × (k ≡ 12 → ⊥)) × (k ≡ 13 → ⊥)) × (k ≡ 14 → ⊥)) × (k ≡ 15 → ⊥)) × (k ≡ 16 → ⊥))
-      → headingAt s rows k at ≡ slotArrayAt s rows S.Text at
-=======
   pub strings-heading : NoneOf k → headingAt s rows k at ≡ slotArrayAt s rows S.Text at
->>>>>>> records
   unfolding headingAt
   strings-heading r =
       rw (

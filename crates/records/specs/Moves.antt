@@ -1,10 +1,6 @@
 -- Where a record's fields end, where they are good: after its place and within the stream.
 use Prim.Native.Nat.{ℕ, _+_, _≤_, _<_}
-<<<<<<< HEAD
-use mathlib.Core.Path.{_≡_, refl}
-=======
 use mathlib.Core.Path.{_≡_}
->>>>>>> records
 use mathlib.Core.Bool.{Bool, true, false}
 use mathlib.Core.List.{List}
 use native.Mathlib.Omega.{arith}
@@ -13,13 +9,8 @@ use lib.Dec.{ltb, eqb}
 use borrow.Author.Tests.{ltb-true}
 use Rattle.format.specs.declared.Refusal.{Refusal}
 use Rattle.format.specs.declared.Refusal.the-variants as R
-<<<<<<< HEAD
-use Rattle.format.specs.declared.Number32.the-variants as N32
-use Rattle.format.specs.declared.SlotType.the-variants as S
-=======
 use Rattle.format.specs.declared.SlotType.the-variants as S
 use Rattle.format.specs.declared.Head.{Head}
->>>>>>> records
 use Rattle.format.specs.declared.Heading.{Heading}
 use Rattle.format.specs.declared.Heading.the-variants as H
 use Rattle.format.specs.declared.Row.{Row}
@@ -126,10 +117,7 @@ heading-ends s rows k at h =
 
     or : (n : ℕ) (a b : Heading) → EndsIn at (length s) a → EndsIn at (length s) b → EndsIn at (length s) (pick (eqb k n) a b)
     or n a b u v = ends-pick at (length s) (eqb k n) a b (λ t. u) (λ t. v)
-<<<<<<< HEAD
-=======
 
 pub heading-moves : (s : List ℕ) (rows : List Row) (k at : ℕ) (h : Head) → at < length s → headingAt s rows k at ≡ H.Fields h
     → (at < h .end) × (h .end ≤ length s)
 heading-moves s rows k at h i q = rw q at (heading-ends s rows k at i)
->>>>>>> records
