@@ -1,0 +1,28 @@
+use Prim.Native.Nat.{_≤_, _<_, _-_}
+use mathlib.Core.Path.{_≡_}
+use borrow.Author.Needs.{needs}
+use native.Mathlib.Omega.{arith}
+use lib.ListN.{length, length-set}
+use Rattle.compare.proofs.hash.Statement.{statement}
+use Rattle.compare.proofs.hash.Tie as tie
+
+abbrev Inv-loop : tie.InvT-loop
+Inv-loop table l₀ i₀ l i = (i ≤ length table) × (l .a < 4294967291) × (l .b < 4294967291)
+
+abbrev μ-loop : tie.MeasureT-loop
+μ-loop table l₀ i₀ l i = length table - i
+
+pub hash-spec : {M : Type 1} → statement M
+hash-spec =
+    tie.close
+    (tie.spec
+    Inv-loop
+    μ-loop
+    (λ c. search needs)
+    (λ c. search needs)
+    (λ c. search needs)
+    (λ c κs. search needs)
+    (λ c. search needs)
+    (λ c. search needs)
+    (λ c. search needs)
+    (λ c. search needs))

@@ -1,0 +1,28 @@
+use Prim.Native.Nat.{_≤_, _<_, _-_}
+use mathlib.Core.Path.{_≡_}
+use borrow.Author.Needs.{needs}
+use native.Mathlib.Omega.{arith}
+use lib.ListN.{length, length-set}
+use Rattle.compare.proofs.litter.Statement.{statement}
+use Rattle.compare.proofs.litter.Tie as tie
+
+abbrev Inv-loop : tie.InvT-loop
+Inv-loop table₀ i₀ table i = length table ≡ length table₀
+
+abbrev μ-loop : tie.MeasureT-loop
+μ-loop table₀ i₀ table i = length table - i
+
+pub litter-spec : {M : Type 1} → statement M
+litter-spec =
+    tie.close
+    (tie.spec
+    Inv-loop
+    μ-loop
+    (λ c. search needs)
+    (λ c. search needs)
+    (λ c. search needs)
+    (λ c. search needs)
+    (λ c. simp length-set (omega arith))
+    (λ c. search needs)
+    (λ c. search needs)
+    (λ c. search needs))
