@@ -145,6 +145,12 @@ impl Maker<'_> {
                 let what = format!("damaged {}", self.lists[list].what);
                 self.damage(&what, &self.lists[list].stream.clone());
             }
+            46..=49 => {
+                let mut stream = self.whole();
+                let rows = rows_of(&stream);
+                stream.extend(edge_bytes(1 + self.random.below(3), &mut self.random));
+                self.push("bytes after the end", stream, rows);
+            }
             _ => {
                 let whole = self.whole();
                 self.damage("damaged", &whole);
