@@ -5,7 +5,7 @@ use crate::corpus::refused;
 use crate::reader::read;
 
 /// What the comparing program has space for.
-pub const MOST_BYTES: usize = 1_048_576;
+pub const MOST_BYTES: usize = 600_000;
 pub const MOST_WORDS: usize = 8_192;
 pub const MOST_STREAMS: usize = 1_000_000;
 
