@@ -3,9 +3,12 @@
 //! with it.
 
 pub mod by_hand;
+pub mod cases;
+pub mod corpus;
 pub mod generate;
 pub mod reader;
 pub mod same;
+pub mod show;
 pub mod stream;
 pub mod tidy;
 

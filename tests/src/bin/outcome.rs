@@ -2,13 +2,14 @@
 //! named; with `--tidy` also the tidy copy in hex; with `--corpus DIR` holds a
 //! folder of lists against its expected.tsv.
 
-use independent_reader::{read, tidy, Refusal};
+use independent_reader::corpus::{self, fnv_1a, refused};
+use independent_reader::{read, tidy};
 use std::io::Read;
 use std::path::Path;
 use std::process::ExitCode;
 
 const LISTING_BYTES: usize = 65_535;
-const LISTING_ROWS: usize = 1_024;
+const LISTING_ROWS: usize = corpus::ROWS;
 const TIDY_ROWS: usize = 1_048_576;
 const TIDY_BYTES: usize = 16_777_216;
 
@@ -67,10 +68,6 @@ fn row_lines(words: &[u32]) -> String {
     words.chunks(8).map(line).collect()
 }
 
-fn refused(refusal: &Refusal) -> String {
-    format!("refused {} at {}", refusal.number, refusal.place)
-}
-
 fn tidy_line(stream: &[u8]) -> String {
     let mut table = vec![0; TIDY_ROWS * 8];
     let mut out = vec![0; TIDY_BYTES];
@@ -81,27 +78,24 @@ fn tidy_line(stream: &[u8]) -> String {
 }
 
 fn corpus(folder: &Path) -> ExitCode {
-    let Ok(expected) = std::fs::read_to_string(folder.join("expected.tsv")) else {
-        return fail("no expected.tsv there");
+    let expected = match corpus::expected(folder) {
+        Ok(expected) => expected,
+        Err(why) => return fail(&why),
     };
-    let (mut agreements, mut lines) = (0, 0);
-    for line in expected.lines() {
-        let Some((name, wanted)) = line.split_once('\t') else {
-            return fail(&format!("no tab in: {line}"));
-        };
-        lines += 1;
+    let mut agreements = 0;
+    for (name, wanted) in &expected {
         let found = match std::fs::read(folder.join(name)) {
             Ok(stream) => corpus_outcome(&stream),
             Err(error) => error.to_string(),
         };
-        if found == wanted {
+        if found == *wanted {
             agreements += 1;
         } else {
             println!("{name}\n  wanted {wanted}\n  found  {found}");
         }
     }
-    println!("{agreements} of {lines} agree");
-    if agreements == lines {
+    println!("{agreements} of {} agree", expected.len());
+    if agreements == expected.len() {
         ExitCode::SUCCESS
     } else {
         ExitCode::FAILURE
@@ -109,18 +103,7 @@ fn corpus(folder: &Path) -> ExitCode {
 }
 
 fn corpus_outcome(stream: &[u8]) -> String {
-    format!("{} {}", corpus_reading(stream), corpus_tidy(stream))
-}
-
-fn corpus_reading(stream: &[u8]) -> String {
-    let mut table = vec![0; LISTING_ROWS * 8];
-    match read(stream, &mut table) {
-        Ok(rows) => {
-            let words = table[..rows * 8].iter().flat_map(|word| word.to_le_bytes());
-            format!("accepted {rows} {:016x}", fnv_1a(words))
-        }
-        Err(refusal) => refused(&refusal),
-    }
+    format!("{} {}", corpus::reading(stream), corpus_tidy(stream))
 }
 
 fn corpus_tidy(stream: &[u8]) -> String {
@@ -130,12 +113,4 @@ fn corpus_tidy(stream: &[u8]) -> String {
         Ok(length) => format!("tidy {length} {:016x}", fnv_1a(out[..length].iter().copied())),
         Err(refusal) => format!("tidy {}", refused(&refusal)),
     }
-}
-
-fn fnv_1a(bytes: impl Iterator<Item = u8>) -> u64 {
-    let mut hash = 0xcbf2_9ce4_8422_2325_u64;
-    for byte in bytes {
-        hash = (hash ^ u64::from(byte)).wrapping_mul(0x0100_0000_01b3);
-    }
-    hash
 }

@@ -1,0 +1,367 @@
+//! The streams on which the proved reader is compared with this one: made from
+//! a seed, written by hand, and real lists.
+
+use crate::by_hand::{self, Outcome};
+use crate::corpus;
+use crate::generate::{self, Random};
+use crate::reader::{read_records, OPEN_LIMIT, ROW_WORDS};
+use crate::show::MOST_WORDS;
+use crate::stream::{Member, Stream};
+use std::path::Path;
+
+pub struct Case {
+    pub what: String,
+    pub stream: Vec<u8>,
+    /// Words of the table.
+    pub words: usize,
+    pub known: Option<Known>,
+}
+
+/// What is known of the outcome besides what this reader finds.
+pub struct Known {
+    pub answer: String,
+    /// Hash of the rows, see [`corpus::rows_hash`].
+    pub rows: Option<String>,
+}
+
+/// Every stream that was written by hand.
+pub fn by_hand() -> Vec<Case> {
+    by_hand::cases().into_iter().map(hand_written).collect()
+}
+
+fn hand_written(case: by_hand::Case) -> Case {
+    let answer = match case.reading {
+        Outcome::Accepted(rows) => format!("accepted {rows}"),
+        Outcome::Refused(number, place) => format!("refused {number} at {place}"),
+    };
+    let what = format!("by hand: {}", case.what);
+    let known = Some(Known { answer, rows: None });
+    Case { what, stream: case.stream, words: case.words, known }
+}
+
+/// Every list of a folder, with what its expected.tsv says.
+pub fn lists(folder: &Path) -> Result<Vec<Case>, String> {
+    let expected = corpus::expected(folder)?;
+    expected.into_iter().map(|(name, outcome)| list(folder, &name, &outcome)).collect()
+}
+
+fn list(folder: &Path, name: &str, outcome: &str) -> Result<Case, String> {
+    let stream = std::fs::read(folder.join(name)).map_err(|error| format!("{name}: {error}"))?;
+    let known = Some(known(outcome).ok_or(format!("{name}: what is {outcome:?}?"))?);
+    Ok(Case { what: format!("list {name}"), stream, words: corpus::ROWS * ROW_WORDS, known })
+}
+
+/// The part of an outcome of expected.tsv that is about reading.
+fn known(outcome: &str) -> Option<Known> {
+    let words: Vec<&str> = outcome.split(' ').collect();
+    match words[..] {
+        ["accepted", rows, hash, "tidy", ..] => {
+            Some(Known { answer: format!("accepted {rows}"), rows: Some(hash.to_string()) })
+        }
+        ["refused", number, "at", place, "tidy", ..] => {
+            Some(Known { answer: format!("refused {number} at {place}"), rows: None })
+        }
+        _ => None,
+    }
+}
+
+/// At least `count` streams, the first half valid, the other damaged. Some of
+/// the damaged ones come from `lists`.
+pub fn generated(seed: u64, count: usize, lists: &[Case]) -> Vec<Case> {
+    let usual = |list: &&Case| list.stream.len() <= LONGEST_TO_DAMAGE;
+    let lists = lists.iter().filter(usual).collect();
+    let mut maker = Maker { random: Random::new(seed), lists, cases: Vec::new() };
+    for _ in 0..count.div_ceil(2) {
+        maker.valid();
+    }
+    if count > 1 {
+        maker.cuts();
+    }
+    while maker.cases.len() < count {
+        maker.damaged();
+    }
+    maker.cases
+}
+
+/// Longer lists differ from others in little but the time that they take.
+const LONGEST_TO_DAMAGE: usize = 16_384;
+
+/// Open objects past the limit, at most.
+const TOO_MANY: usize = 4;
+
+struct Maker<'l> {
+    random: Random,
+    lists: Vec<&'l Case>,
+    cases: Vec<Case>,
+}
+
+impl Maker<'_> {
+    /// `rows` are those that the stream needs, or about so many.
+    fn push(&mut self, what: &str, stream: Vec<u8>, rows: usize) {
+        let words = table_words(rows, &mut self.random);
+        self.cases.push(Case { what: what.to_string(), stream, words, known: None });
+    }
+
+    fn valid(&mut self) {
+        match self.random.below(10) {
+            0 => {
+                let open = 1 + self.random.below(OPEN_LIMIT);
+                let stream = nested(open, &mut self.random);
+                let rows = rows_of(&stream);
+                self.push("valid, nested", stream, rows);
+            }
+            _ => {
+                let stream = self.whole();
+                let rows = rows_of(&stream);
+                self.push("valid", stream, rows);
+            }
+        }
+    }
+
+    /// A stream that a right reader accepts; some are long.
+    fn whole(&mut self) -> Vec<u8> {
+        if self.random.chance(25) {
+            let list = generate::list(&mut self.random);
+            generate::pack(&list, &mut self.random)
+        } else {
+            generate::valid(&mut self.random)
+        }
+    }
+
+    fn damaged(&mut self) {
+        match self.random.below(200) {
+            0 => self.cuts(),
+            1..=5 => {
+                let open = OPEN_LIMIT + 1 + self.random.below(TOO_MANY);
+                let stream = nested(open, &mut self.random);
+                self.push("nested too deep", stream, 3 * open);
+            }
+            6..=25 => {
+                let stream = edge(&mut self.random);
+                self.push("edge of a field", stream, 4);
+            }
+            26..=45 if !self.lists.is_empty() => {
+                let list = self.random.below(self.lists.len());
+                let what = format!("damaged {}", self.lists[list].what);
+                self.damage(&what, &self.lists[list].stream.clone());
+            }
+            46..=49 => {
+                let mut stream = self.whole();
+                let rows = rows_of(&stream);
+                stream.extend(edge_bytes(1 + self.random.below(3), &mut self.random));
+                self.push("bytes after the end", stream, rows);
+            }
+            _ => {
+                let whole = self.whole();
+                self.damage("damaged", &whole);
+            }
+        }
+    }
+
+    fn damage(&mut self, what: &str, whole: &[u8]) {
+        let stream = generate::damaged(whole, &mut self.random);
+        self.push(what, stream, rows_of(whole));
+    }
+
+    /// One stream, cut at every place.
+    fn cuts(&mut self) {
+        let whole = generate::valid(&mut self.random);
+        let rows = rows_of(&whole);
+        for place in 0..whole.len() {
+            self.push(&format!("cut at {place}"), whole[..place].to_vec(), rows);
+        }
+    }
+}
+
+/// Rows that a stream needs, at most those of the largest table.
+fn rows_of(stream: &[u8]) -> usize {
+    let most = MOST_WORDS / ROW_WORDS;
+    read_records(stream, most).map_or(most, |reading| reading.records.len())
+}
+
+/// Mostly more than enough words; else the sizes at which a reader could go
+/// wrong.
+fn table_words(rows: usize, random: &mut Random) -> usize {
+    let enough = rows * ROW_WORDS;
+    let part_of_row = 1 + random.below(ROW_WORDS - 1);
+    let words = match random.below(24) {
+        0 => 0,
+        1 => part_of_row,
+        2 | 3 => enough.saturating_sub(ROW_WORDS),
+        4 => enough.saturating_sub(part_of_row),
+        5 => random.below(enough + 1),
+        6 | 7 => enough,
+        8 | 9 => enough + part_of_row,
+        10 if random.chance(10) => MOST_WORDS,
+        _ => enough + ROW_WORDS * (1 + random.below(8)),
+    };
+    words.min(MOST_WORDS)
+}
+
+/// Objects one in the other, `open` of them at once, with nulls on both sides
+/// of the slot that holds the next.
+fn nested(open: usize, random: &mut Random) -> Vec<u8> {
+    let (before, after) = (random.below(3), random.below(3));
+    let slots = before + 1 + after;
+    let members: Vec<Member> = vec![("", 2, &[]); slots];
+    let array_outside = random.chance(30);
+    let first_class = if array_outside { 2 } else { 1 };
+    let mut stream = Stream::new();
+    for id in 1..=open as i32 {
+        let known = id > first_class && random.chance(80);
+        stream = if id < first_class {
+            stream.objects(id, slots as i32)
+        } else if known {
+            stream.by_id(id, first_class)
+        } else {
+            stream.system(id, "P", &members)
+        };
+        stream = nulls(stream, before);
+    }
+    stream = stream.null();
+    for _ in 0..open {
+        stream = nulls(stream, after);
+    }
+    stream.end().0
+}
+
+fn nulls(stream: Stream, count: usize) -> Stream {
+    match count {
+        0 => stream,
+        1 => stream.null(),
+        _ => stream.nulls(count as u8),
+    }
+}
+
+/// A short stream with one field at the edge of what is allowed, on either
+/// side.
+fn edge(random: &mut Random) -> Vec<u8> {
+    let slot = Stream::new().objects(1, 1);
+    let stream = match random.below(5) {
+        0 => {
+            let text = edge_text(random);
+            Stream::new().bytes(&[6]).int(1).bytes(&[text.len() as u8]).bytes(&text)
+        }
+        1 => {
+            let prefix = edge_prefix(random);
+            Stream::new().bytes(&[6]).int(1).bytes(&prefix).bytes(&[b'A'; 130])
+        }
+        2 => slot.typed(3, &edge_char(random)),
+        3 => slot.bytes(&[8, 5]).text(&edge_decimal(random)),
+        _ => {
+            let code = random.below(19) as u8;
+            let value = edge_bytes(random.pick(&[1, 2, 4, 8, 8]), random);
+            slot.typed(code, &value)
+        }
+    };
+    stream.end().0
+}
+
+/// Bytes next to which a rule of UTF-8, of prefixes or of a value changes.
+const EDGES: [u8; 30] = [
+    0x00, 0x01, 0x02, 0x07, 0x08, 0x1F, 0x20, 0x3F, 0x40, 0x5F, 0x7F, 0x80, 0x8F, 0x90, 0x9F, 0xA0,
+    0xBF, 0xC0, 0xC1, 0xC2, 0xDF, 0xE0, 0xE1, 0xED, 0xEE, 0xEF, 0xF0, 0xF4, 0xF5, 0xFF,
+];
+const CONTINUATIONS: [u8; 6] = [0x80, 0x8F, 0x90, 0x9F, 0xA0, 0xBF];
+
+fn edge_bytes(count: usize, random: &mut Random) -> Vec<u8> {
+    (0..count).map(|_| random.pick(&EDGES)).collect()
+}
+
+/// Mostly the right number of continuation bytes after the first.
+fn edge_char(random: &mut Random) -> Vec<u8> {
+    let mut bytes = edge_bytes(1, random);
+    let more = match bytes[0] {
+        0x00..=0xBF => 0,
+        0xC0..=0xDF => 1,
+        0xE0..=0xEF => 2,
+        _ => 3,
+    };
+    for _ in 0..more {
+        bytes.push(if random.chance(8) {
+            random.pick(&EDGES)
+        } else {
+            random.pick(&CONTINUATIONS)
+        });
+    }
+    if random.chance(8) {
+        bytes.pop();
+    }
+    bytes
+}
+
+fn edge_text(random: &mut Random) -> Vec<u8> {
+    (0..random.below(4)).flat_map(|_| edge_char(random)).collect()
+}
+
+fn edge_prefix(random: &mut Random) -> Vec<u8> {
+    match random.below(4) {
+        // The text's own length in two bytes, or nearly.
+        0 => vec![0x82, random.below(3) as u8],
+        1 => edge_bytes(1, random),
+        _ => {
+            let count = random.below(6);
+            let mut bytes: Vec<u8> = (0..count).map(|_| random.pick(&[0x80, 0x82, 0xFF])).collect();
+            bytes.push(random.pick(&EDGES));
+            bytes
+        }
+    }
+}
+
+fn edge_decimal(random: &mut Random) -> String {
+    let sign = random.pick(&["", "", "-"]);
+    let zeros = "0".repeat(random.pick(&[0, 0, 1, 5]));
+    let fraction = random.pick(&["", "", ".", ".0", ".000", ".5", ".0001"]);
+    let mut text = format!("{sign}{zeros}{}{fraction}", edge_whole(random));
+    if random.chance(15) {
+        let place = random.below(text.len() + 1);
+        text.insert(place, random.pick(&['-', '.', '+', 'E', ' ', '/', ':', '\u{661}']));
+    }
+    text
+}
+
+/// The largest whole part or one that differs from it in a digit, or any.
+fn edge_whole(random: &mut Random) -> String {
+    let mut digits = b"79228162514264337593543950335".to_vec();
+    match random.below(4) {
+        0 => {}
+        1 => {
+            let place = random.below(digits.len());
+            digits[place] = b'0' + random.below(10) as u8;
+        }
+        2 => digits.push(b'0'),
+        _ => digits = (0..random.below(31)).map(|_| b'0' + random.below(10) as u8).collect(),
+    }
+    digits.into_iter().map(char::from).collect()
+}
+
+#[cfg(test)]
+mod tests {
+    use super::*;
+    use crate::show::{found, MOST_BYTES};
+
+    #[test]
+    fn the_first_half_is_valid() {
+        for case in generated(7, 2_000, &[]).into_iter().take(1_000) {
+            let enough = found(&case.stream, MOST_WORDS);
+            assert!(enough.outcome.is_ok(), "{}: {:02X?}", enough.answer, case.stream);
+        }
+    }
+
+    #[test]
+    fn one_seed_gives_the_same_streams() {
+        let all = |seed| -> Vec<(Vec<u8>, usize)> {
+            let cases = generated(seed, 500, &[]).into_iter();
+            cases.map(|case| (case.stream, case.words)).collect()
+        };
+        assert_eq!(all(3), all(3));
+        assert_ne!(all(3), all(4));
+    }
+
+    #[test]
+    fn everything_fits_the_comparing_program() {
+        for case in generated(5, 2_000, &[]).iter().chain(&by_hand()) {
+            assert!(case.stream.len() <= MOST_BYTES && case.words <= MOST_WORDS);
+        }
+    }
+}
