@@ -107,7 +107,7 @@ fn take_object(
         let next = frames::fill(frames, m, 1, t);
         return add_row(table, m, r, next);
     }
-    if m.depth < 64 {
+    if m.depth < Reader::OPEN {
         let row = (m.rows + 1) as u32;
         let next = frames::open_object(frames, m, row, h, t);
         return add_row(table, m, r, next);
