@@ -11,10 +11,11 @@ use Rattle.format.specs.Types.{primitiveOf, codeAt, typeByteAt, nameAt, library
 use Rattle.format.specs.Rows.{words, findFrom, objectRow, classRow, libraryRow, linkOf, linked}
 use Rattle.format.specs.Records.{allowed, kindOf, kindAt, ownLibraryAt, headerAt, stringRecordAt, typedPrimitiveAt, referenceAt, nullsAt, longNullsAt, libraryAt, infoKnown, infosAt, membersAt, classAt, classByIdAt, slotArrayAt, primitiveArrayAt, lengthsAt, itemTypeAt, rankAt, binaryArrayAt, headingAt}
 use Rattle.format.specs.Machine.{close, filled, opened, add, object, nullRun, ending, act, recordStep, valueStep, step, finish, run, readOf, readAnswer, tableWords}
+use Rattle.format.specs.View.{recordText, rowText, rowQuestion, textView}
 use Rattle.format.specs.Contents.{enc, encs}
 use Rattle.format.specs.Says.{numbersFrom, libraryName, detailFrom, membersFrom, classFrom, arrayFrom, objectsIn, orderOf, whatFrom, spread, nodesOf, nodesFrom, says}
 use Rattle.format.specs.Tidy.{sameDetail, sameMembers, sameClass, numberIn, entered, allEntered, libraryRecords, recordsOf, afterWhat, pack, runOf, written, waiting, squeeze, tidyRecords, tidyOf, tidyAnswer, tidyOutput, tidyTable}
-use Rattle.format.specs.Examples.{Example, entry, hex, hexOnto, accepts, refuses, writes, as-read, needs, uncomputed, holds, failing, None}
+use Rattle.format.specs.Examples.{Example, entry, hex, hexOnto, accepts, refuses, writes, as-read, needs, uncomputed, textsFrom, holds, failing, None}
 
 -- the header with these ids
 abbrev pub headerOf : (root headerId : ℕ) → List ℕ
@@ -59,24 +60,28 @@ case12 =
     ∷ 10 ∷ 28 ∷ 29 ∷ 0 ∷ 2 ∷ 255 ∷ 0 ∷ 1
     ∷ 11 ∷ 29 ∷ 30 ∷ 0 ∷ 0 ∷ 0 ∷ 0 ∷ 0 ∷ []
 
+-- row 1 has a text of four bytes, 12E5
+abbrev pub text : List ℕ
+text = 1 ∷ 4 ∷ hex 4 0x31324535
+
 pub table : List Example
 table =
     entry [] 64 64 (refuses 2 0) as-read
-    ∷ entry case2 64 64 (accepts (stringRows 1)) (writes case2)
-    ∷ entry (headerOf 1 4294967295 ++ (Str ++ (11 ∷ []))) 64 64 (accepts (stringRows 1)) (writes case2)
-    ∷ entry (headerOf 7 1 ++ (stringOf 7 ++ (11 ∷ []))) 64 64 (accepts (stringRows 7)) (writes case2)
+    ∷ entry case2 64 64 (accepts (stringRows 1) text) (writes case2)
+    ∷ entry (headerOf 1 4294967295 ++ (Str ++ (11 ∷ []))) 64 64 (accepts (stringRows 1) text) (writes case2)
+    ∷ entry (headerOf 7 1 ++ (stringOf 7 ++ (11 ∷ []))) 64 64 (accepts (stringRows 7) text) (writes case2)
     ∷ entry (H ++ Str) 64 64 (refuses 2 27) as-read
     ∷ entry (case2 ++ (0 ∷ [])) 64 64 (refuses 17 28) as-read
     ∷ entry (headerOf 2 1 ++ (Str ++ (11 ∷ []))) 64 64 (refuses 18 0) as-read
     ∷ entry (H ++ (6 ∷ (leBytes 4 1 ++ (0x84 ∷ 0x00 ∷ hex 5 0x313245350B)))) 64 64 (refuses 7 17) as-read
-    ∷ entry (H ++ (A 3 ++ (13 ∷ 3 ∷ 11 ∷ []))) 64 64 (accepts case7) (writes (H ++ (A 3 ++ (13 ∷ 3 ∷ 11 ∷ []))))
+    ∷ entry (H ++ (A 3 ++ (13 ∷ 3 ∷ 11 ∷ []))) 64 64 (accepts case7 []) (writes (H ++ (A 3 ++ (13 ∷ 3 ∷ 11 ∷ []))))
     ∷ entry (H ++ (A 3 ++ (13 ∷ 4 ∷ []))) 64 64 (refuses 9 26) as-read
     ∷ entry (H ++ (A 3 ++ (13 ∷ 0 ∷ 11 ∷ []))) 64 64 (refuses 5 28) as-read
     ∷ entry (H ++ (A 1 ++ (9 ∷ (leBytes 4 5 ++ (11 ∷ []))))) 64 64 (refuses 19 26) as-read
     ∷ entry (H ++ (A 1 ++ (8 ∷ 5 ∷ hex 5 0x0431324535))) 64 64 (refuses 11 26) as-read
-    ∷ entry (H ++ (A 256 ++ (13 ∷ 255 ∷ 10 ∷ 11 ∷ []))) 64 64 (accepts case12) (writes (H ++ (A 256 ++ (14 ∷ (leBytes 4 256 ++ (11 ∷ []))))))
+    ∷ entry (H ++ (A 256 ++ (13 ∷ 255 ∷ 10 ∷ 11 ∷ []))) 64 64 (accepts case12 []) (writes (H ++ (A 256 ++ (14 ∷ (leBytes 4 256 ++ (11 ∷ []))))))
     ∷ []
 
 pub counter-examples : None (failing 0 table)
-unfolding table holds failing tidyTable tidyOutput tidyAnswer tidyOf tidyRecords squeeze waiting written runOf pack afterWhat recordsOf libraryRecords allEntered entered numberIn sameClass sameMembers sameDetail says nodesFrom nodesOf spread whatFrom orderOf objectsIn arrayFrom classFrom membersFrom detailFrom libraryName numbersFrom encs enc tableWords readAnswer readOf run finish step valueStep recordStep act ending nullRun object add opened filled close headingAt binaryArrayAt rankAt itemTypeAt lengthsAt primitiveArrayAt slotArrayAt classByIdAt classAt membersAt infosAt infoKnown libraryAt longNullsAt nullsAt referenceAt typedPrimitiveAt stringRecordAt headerAt ownLibraryAt kindAt kindOf allowed linked linkOf libraryRow classRow objectRow findFrom words passedOf passed moved typedAt slotOf infoAt libraryIdAt nameAt typeByteAt codeAt primitiveOf itemsAt times valueAt dateTimeAt decimalAt decimalText decimal decimalAfter decimalByte digit fractionDigit wholeDigit charAt scalarAt booleanAt bytesAt stringAt textAt wellFormed after stepOf leadOf hiOf loOf needOf groupsOf prefixIn leBytes u64At u32At le laid sameBytes hexOnto
+unfolding table holds failing tidyTable tidyOutput tidyAnswer tidyOf tidyRecords squeeze waiting written runOf pack afterWhat recordsOf libraryRecords allEntered entered numberIn sameClass sameMembers sameDetail says nodesFrom nodesOf spread whatFrom orderOf objectsIn arrayFrom classFrom membersFrom detailFrom libraryName numbersFrom encs enc tableWords readAnswer readOf run finish step valueStep recordStep act ending nullRun object add opened filled close headingAt binaryArrayAt rankAt itemTypeAt lengthsAt primitiveArrayAt slotArrayAt classByIdAt classAt membersAt infosAt infoKnown libraryAt longNullsAt nullsAt referenceAt typedPrimitiveAt stringRecordAt headerAt ownLibraryAt kindAt kindOf allowed linked linkOf libraryRow classRow objectRow findFrom words passedOf passed moved typedAt slotOf infoAt libraryIdAt nameAt typeByteAt codeAt primitiveOf itemsAt times valueAt dateTimeAt decimalAt decimalText decimal decimalAfter decimalByte digit fractionDigit wholeDigit charAt scalarAt booleanAt bytesAt stringAt textAt wellFormed after stepOf leadOf hiOf loOf needOf groupsOf prefixIn leBytes u64At u32At le laid sameBytes hexOnto textsFrom rowQuestion textView rowText recordText
 counter-examples = tt

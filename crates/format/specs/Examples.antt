@@ -6,8 +6,9 @@ use mathlib.Core.List.{List, [], _∷_, _++_}
 use lib.ListN.{length, replicate}
 use lib.Dec.{eqb}
 use Rattle.format.specs.Bytes.{pick, sameBytes, laid}
-use Rattle.format.specs.Replies.{Reply, reply, readReply, tidyReply}
+use Rattle.format.specs.Replies.{Reply, reply, readReply, rowReply, tidyReply}
 use Rattle.format.specs.Machine.{Outcome, readOf, readAnswer, tableWords}
+use Rattle.format.specs.View.{rowQuestion, textView}
 use Rattle.format.specs.Tidy.{tidyAnswer, tidyOutput, tidyTable}
 
 -- n bytes, written as one number in base 16
@@ -19,7 +20,8 @@ abbrev pub hex : ℕ → ℕ → List ℕ
 hex n x = hexOnto n x []
 
 pub data ToRead : Type 0 where
-  accepts : (words : List ℕ) → ToRead
+  -- the rows' words; then, for each row with text, its number, how long the text is, and the text
+  accepts : (words texts : List ℕ) → ToRead
   refuses : (number place : ℕ) → ToRead
 
 pub data ToTidy : Type 0 where
@@ -41,20 +43,44 @@ pub record Example : Type 0 where
 abbrev pub entry : List ℕ → ℕ → ℕ → ToRead → ToTidy → Example
 entry s n o r t = record { stream = s; words = n; out = o; read = r; tidy = t }
 
+-- what is shown of a row: nothing where the question answers 21 and the text is empty
+abbrev pub shownText : ℕ → ℕ → List ℕ → List ℕ
+shownText zero i t = i ∷ length t ∷ t
+shownText (suc k) i [] = pick (eqb k 20) [] (k ∷ [])
+shownText (suc k) i (b ∷ t) = k ∷ b ∷ t
+
 abbrev pub sameReply : Reply → Reply → Bool
 sameReply a b = eqb (a .number) (b .number) && (eqb (a .place) (b .place) && eqb (a .value) (b .value))
 
 -- the reply and every word of the table after reading
 abbrev pub readReplyOf : ToRead → Reply
-readReplyOf (accepts ws) = reply 0 0 (length ws / 8)
+readReplyOf (accepts ws texts) = reply 0 0 (length ws / 8)
 readReplyOf (refuses n p) = reply n p 0
 
 abbrev pub wordsOf : ℕ → ToRead → List ℕ
-wordsOf n (accepts ws) = ws ++ replicate (n - length ws) 0
+wordsOf n (accepts ws texts) = ws ++ replicate (n - length ws) 0
 wordsOf n (refuses k p) = replicate n 0
 
+-- the texts of n rows from row i on, by the row question and the text view
+unfoldable pub textsFrom : List ℕ → List ℕ → ℕ → ℕ → List ℕ
+textsFrom s table zero i = []
+textsFrom s table (suc n) i =
+    shownText (rowReply (rowQuestion s table i) .number) i (textView s table i) ++ textsFrom s table n (suc i)
+
+abbrev pub textsOf : ToRead → List ℕ
+textsOf (accepts ws texts) = texts
+textsOf (refuses n p) = []
+
+-- every row is asked, and one that is not there
+abbrev pub asked : ToRead → ℕ
+asked (accepts ws texts) = suc (length ws / 8)
+asked (refuses n p) = 1
+
+abbrev pub textsHold : Example → List ℕ → Bool
+textsHold e table = sameBytes (textsFrom (e .stream) table (asked (e .read)) 0) (textsOf (e .read))
+
 abbrev pub readHolds : Example → Outcome → Bool
-readHolds e o = sameReply (readReply (readAnswer o)) (readReplyOf (e .read)) && sameBytes (tableWords (e .words) o) (wordsOf (e .words) (e .read))
+readHolds e o = textsHold e (tableWords (e .words) o) && (sameReply (readReply (readAnswer o)) (readReplyOf (e .read)) && sameBytes (tableWords (e .words) o) (wordsOf (e .words) (e .read)))
 
 -- the reply, every byte of the output and every word of the table after tidying; the output was full of AA before
 abbrev pub before : Example → List ℕ

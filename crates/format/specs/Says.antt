@@ -1,6 +1,7 @@
 -- What a list says (01, The tidy copy, "Two lists say the same when"): its records and member values in order, library records left out, null
 -- runs spread, classes and libraries by content, owners and targets by object order. No id and no packing is left.
 use Prim.Native.Nat.{ℕ, zero, suc, _+_, _-_, _*_}
+use mathlib.Core.Path.{_≡_}
 use mathlib.Core.Bool.{Bool, true, false}
 use mathlib.Core.List.{List, [], _∷_, _++_}
 use lib.ListN.{length, getD, take}
@@ -173,3 +174,7 @@ nodesFrom s rows (r ∷ rs) = nodesOf s rows r ++ nodesFrom s rows rs
 -- what a stream says whose reading has these rows
 unfoldable pub says : List ℕ → List Row → Model
 says s rows = record { root = orderOf rows (getD rows 0 blank .link); nodes = nodesFrom s rows rows }
+
+-- two lists say the same: the one of this stream with these rows, and the other
+abbrev pub SayTheSame : List ℕ → List Row → List ℕ → List Row → Type 0
+SayTheSame s rows t others = says s rows ≡ says t others

@@ -5,7 +5,7 @@
 use independent_reader::by_hand::{self, OUT, WORDS};
 use independent_reader::generate::{damaged, valid, Random};
 use independent_reader::reader::{read_records, Reply, ROW_WORDS};
-use independent_reader::{read, tidy};
+use independent_reader::{read, row_text, tidy};
 
 /// Longer null runs are not spread by whoever checks the table.
 const LONGEST_SPREAD: u64 = 2000;
@@ -94,10 +94,24 @@ fn reading(entry: &Entry) -> String {
         Ok(rows) => {
             let words: String =
                 table[..rows * ROW_WORDS].iter().map(|word| format!("{word} ∷ ")).collect();
-            format!("(accepts ({words}[]))")
+            format!("(accepts ({words}[]) {})", texts(&entry.stream, &table, rows))
         }
         Err(refusal) => format!("(refuses {} {})", refusal.number, refusal.place),
     }
+}
+
+/// For each row with text: its number, how long the text is, and the text.
+fn texts(stream: &[u8], table: &[u32], rows: usize) -> String {
+    let mut numbers = String::new();
+    for row in 0..rows {
+        let Some(text) = row_text(stream, table, row) else { continue };
+        numbers.push_str(&format!("{row} ∷ {} ∷ ", text.len()));
+        text.iter().for_each(|byte| numbers.push_str(&format!("{byte} ∷ ")));
+    }
+    if numbers.is_empty() {
+        return "[]".into();
+    }
+    format!("({numbers}[])")
 }
 
 fn tidying(entry: &Entry) -> String {
