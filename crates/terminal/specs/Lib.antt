@@ -1,0 +1,2 @@
+-- What the exported forms answer.
+pub mod Terminal
