@@ -1,3 +1,4 @@
+-- The measure is how many arguments are left.
 use Prim.Native.Nat.{_-_}
 use borrow.Author.Needs.{needs}
 use Rattle.cases.proofs.main.Statement.{statement}

@@ -1,3 +1,4 @@
+-- The measure is how many streams may still come; the slices keep their lengths.
 use Prim.Native.Nat.{_-_}
 use mathlib.Core.Path.{_≡_}
 use borrow.Author.Needs.{needs}

@@ -1,3 +1,4 @@
+-- Both lanes stay below the modulus.
 use Prim.Native.Nat.{_≤_, _<_, _-_}
 use mathlib.Core.Path.{_≡_}
 use borrow.Author.Needs.{needs}

@@ -1,3 +1,4 @@
+-- Each part is as long as it was asked for, after the tests.
 use native.Mathlib.Omega.{arith}
 use lib.ListN.{length, length-take, length-append, length-drop}
 use borrow.Author.Needs.{needs}

@@ -1,8 +1,8 @@
+-- Each arm has its own refusal's number.
 use borrow.Author.Needs.{needs}
 use Rattle.format.proofs.number_of.Statement.{statement}
 use Rattle.format.proofs.number_of.Tie as tie
 
--- Each arm has its own refusal's number.
 pub number-of-spec : {M : Type 1} → statement M
 number-of-spec =
     tie.close

@@ -1,3 +1,4 @@
+-- The invariant: what is left to run gives the whole (`Runs`). The measure is what is left of the stream, which each step shortens.
 use mathlib.Core.Path.{_≡_, refl, _∙_}
 use Prim.Native.Nat.{_-_}
 use native.Mathlib.Omega.{arith}

@@ -1,3 +1,4 @@
+-- Each arm is a clause of `dueOf`.
 use Rattle.reader.specs.Due.{dueOf}
 use borrow.Author.Needs.{needs}
 use Rattle.reader.proofs.due_in.Statement.{statement}

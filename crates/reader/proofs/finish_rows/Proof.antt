@@ -1,3 +1,4 @@
+-- One law for each end; the links make the rows those of the outcome.
 use mathlib.Core.Path.{ap, _∙_}
 use native.Mathlib.Omega.{arith}
 use Rattle.format.specs.Rows.{rowsOf}

@@ -1,3 +1,4 @@
+-- The header's step begins the run; each answer of it is an end or the start of the loop.
 use mathlib.Core.Path.{_≡_, ap, _∙_}
 use native.Mathlib.Omega.{arith}
 use lib.ListN.{length}

@@ -1,3 +1,4 @@
+-- What the next slot waits for decides which of the two steps it is.
 use mathlib.Core.Path.{_≡_, sym, ap, _∙_}
 use Rattle.format.specs.Rows.{roomOf}
 use Rattle.steps.specs.Held.{stateOf}

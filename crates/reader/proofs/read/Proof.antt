@@ -1,3 +1,4 @@
+-- The words that are left after clearing are those of the outcome.
 use Rattle.reader.specs.Ends.{accepted-room, left-rows, left-zeros}
 use borrow.Author.Needs.{needs}
 use Rattle.reader.proofs.read.Statement.{statement}

@@ -1,3 +1,4 @@
+-- A depth of 0 is the top level.
 use mathlib.Core.Path.{sym}
 use Rattle.frames.specs.Laws.{where-top, where-inside}
 use Rattle.reader.proofs.where_in.Statement.{statement}

@@ -1,3 +1,4 @@
+-- The index stays within the end; the measure is what is left.
 use Prim.Native.Nat.{_≤_, _-_}
 use borrow.Author.Needs.{needs}
 use Rattle.show.proofs.words.Statement.{statement}

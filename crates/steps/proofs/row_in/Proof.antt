@@ -1,3 +1,4 @@
+-- The slot word is the law of `less`; all else is the struct itself.
 use mathlib.Core.Path.{_≡_, refl, sym, _∙_}
 use mathlib.Core.List.{List, []}
 use Prim.Native.Nat.{ℕ}

@@ -1,3 +1,4 @@
+-- A heading is good or bad; `act` is handed on by what it is known to be.
 use mathlib.Core.Path.{_≡_, refl, sym, _∙_}
 use mathlib.Core.List.{List, []}
 use Prim.Native.Nat.{ℕ}

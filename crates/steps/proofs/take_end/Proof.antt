@@ -1,3 +1,4 @@
+-- One law for a table with room, one for a full one.
 use mathlib.Core.Path.{_≡_, refl, sym, _∙_}
 use mathlib.Core.List.{List, []}
 use Prim.Native.Nat.{ℕ}

@@ -1,3 +1,4 @@
+-- The clause of `act` for each kind, after what the callee ensures.
 use mathlib.Core.Path.{_≡_, refl, sym, _∙_}
 use mathlib.Core.List.{List, []}
 use Prim.Native.Nat.{ℕ}

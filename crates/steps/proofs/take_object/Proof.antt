@@ -1,3 +1,4 @@
+-- One law for each way: no slots, opened, too deep; each takes the row, the stack and the added row from its callee.
 use mathlib.Core.Path.{_≡_, refl, sym, _∙_}
 use mathlib.Core.List.{List, []}
 use Prim.Native.Nat.{ℕ}

@@ -1,3 +1,4 @@
+-- The test of the slots left, then what `pass` found.
 use mathlib.Core.Path.{_≡_, refl, sym, _∙_}
 use mathlib.Core.List.{List, []}
 use Prim.Native.Nat.{ℕ}

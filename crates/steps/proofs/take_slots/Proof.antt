@@ -1,3 +1,4 @@
+-- The row, the filled slots and the added row, put together by one law.
 use mathlib.Core.Path.{_≡_, refl, sym, _∙_}
 use mathlib.Core.List.{List, []}
 use Prim.Native.Nat.{ℕ}

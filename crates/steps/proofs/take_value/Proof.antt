@@ -1,3 +1,4 @@
+-- The value's end bounds the row; the callee's slots are the definition's.
 use mathlib.Core.Path.{_≡_, refl, sym, _∙_}
 use mathlib.Core.List.{List, []}
 use Prim.Native.Nat.{ℕ}
