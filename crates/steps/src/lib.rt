@@ -18,13 +18,19 @@ ghost use Rattle.format.specs.Types.{moved};
 ghost use Rattle.format.specs.Machine.{rowIn, rowApart, add, object, nullRun, ending, act, valueStep, valueHead};
 ghost use Rattle.frames.specs.Frames.{openOf};
 ghost use Rattle.steps.specs.Held.{stateOf, after, Held, Short};
-ghost use Rattle.steps.specs.Laws.{slotsTaken, libraryTaken};
+ghost use Rattle.steps.specs.Laws.{slotsTaken, libraryTaken, inTurn};
 
 // After a step: on, at the end record with the number of rows and the place after it, or refused.
 pub enum Step {
     Go(Reader),
     Ended(usize, usize),
     Refuse(Refusal, usize),
+}
+
+// Whether an object may be opened.
+pub enum Opening {
+    Good,
+    Bad(Refusal),
 }
 
 // ---- rows
@@ -87,6 +93,19 @@ fn add_row(table: &mut [u32], m: Reader, r: Row, next: Reader) -> Step
 
 // ---- steps
 
+// Two tests in turn: the first that fails refuses, whatever the other says.
+fn in_turn(a: bool, x: Refusal, b: bool, y: Refusal) -> Opening
+    ensures { λ o. ⌜ o ≡ inTurn a x b y ⌝ }
+{
+    if a {
+        if b {
+            return Opening::Good;
+        }
+        return Opening::Bad(y);
+    }
+    Opening::Bad(x)
+}
+
 // An object: opened where it has slots to fill, else it fills its own slot.
 fn take_object(
     table: &mut [u32],
@@ -107,12 +126,17 @@ fn take_object(
         let next = frames::fill(frames, m, 1, t);
         return add_row(table, m, r, next);
     }
-    if m.depth < Reader::OPEN {
-        let row = (m.rows + 1) as u32;
-        let next = frames::open_object(frames, m, row, h, t);
-        return add_row(table, m, r, next);
+    let shallow = m.depth < Reader::OPEN;
+    let roomy = m.rows < table::room(table);
+    let o = in_turn(shallow, Refusal::TooDeep, roomy, Refusal::NoRoom);
+    match o {
+        Opening::Good => {
+            let row = (m.rows + 1) as u32;
+            let next = frames::open_object(frames, m, row, h, t);
+            add_row(table, m, r, next)
+        }
+        Opening::Bad(f) => Step::Refuse(f, m.at),
     }
-    Step::Refuse(Refusal::TooDeep, m.at)
 }
 
 // A record that fills k slots of the object it stands in.

@@ -172,3 +172,10 @@ module _ (id : ℕ) (rows : List Row) where
 
   pub library-at : 0 < libraryRow id rows → Found isLibrary id rows (libraryRow id rows - 1)
   library-at h = library-found (libraryRow id rows - 1) (omega arith)
+
+-- an answer among the first n rows is at most n
+pub found-le : (f id n : ℕ) (t : List ℕ) → f ≡ objectRow id (rowsOf n t) → f ≤ n
+found-le f id n t e =
+    let l : length (rowsOf n t) ≡ n = length-rowsOf n t in
+    let w : objectRow id (rowsOf n t) ≤ length (rowsOf n t) = object-le id (rowsOf n t) in
+    omega arith

@@ -235,7 +235,7 @@ pub fn find_library(table: &[u32], n: usize, id: LibraryNo) -> usize
 
 // Whether row i is a reference with no target.
 fn is_lost(table: &[u32], n: usize, i: usize) -> bool
-    requires { ⌜ n ≤ roomOf (now table) ⌝ }
+    requires { ⌜ (i < n) × (n ≤ roomOf (now table)) ⌝ }
     ensures { λ r. ⌜ r ≡ isLost (rowsOf n (now (table .entry))) (getD (rowsOf n (now (table .entry))) i blank) ⌝ }
 {
     let r = row_at(table, n, i);
@@ -262,7 +262,7 @@ pub fn first_lost(table: &[u32], n: usize) -> usize
 
 // The link of row i. It is a row number plus 1, which has to fit a word.
 fn link_of(table: &[u32], n: usize, i: usize) -> u32
-    requires { ⌜ (n ≤ roomOf (now table)) × (n < 4294967296) ⌝ }
+    requires { ⌜ (i < n) × (n ≤ roomOf (now table)) × (n < 4294967296) ⌝ }
     ensures { λ r. ⌜ r ≡ linkOf (rowsOf n (now (table .entry))) (getD (rowsOf n (now (table .entry))) i blank) ⌝ }
 {
     let r = row_at(table, n, i);

@@ -1,9 +1,7 @@
--- The row's kind picks the link, one law for each arm. A row number plus 1 is at most n, so it fits a word (`object-le`).
+-- The row's kind picks the link, one law for each arm. A row number plus 1 is at most n, so it fits a word (`found-le`).
 use native.Mathlib.Omega.{arith}
 use borrow.Author.Needs.{needs}
-use Rattle.format.specs.Rows.{rowsOf}
-use Rattle.table.specs.Rows.{length-rowsOf}
-use Rattle.table.specs.Find.{object-le}
+use Rattle.table.specs.Find.{found-le}
 use Rattle.table.specs.Links.{link-reference, link-root, link-kept, link-none}
 use Rattle.table.proofs.link_of.Statement.{statement}
 use Rattle.table.proofs.link_of.Tie as tie
@@ -14,13 +12,9 @@ link-of-spec =
     (tie.spec
     (λ c κs. search needs)
     (λ c κs. search needs)
-    (λ c.
-    let a = c .before .before .before .before .args in
-    omega (arith, object-le (c .before .before .row-at .result .id) (rowsOf (a .n) (a .table .now)), length-rowsOf (a .n) (a .table .now)))
+    (λ c. omega (arith, found-le _ _ _ _ (c .find-object .ensures)))
     (λ c κs. search needs)
-    (λ c.
-    let a = c .before .before .before .before .args in
-    omega (arith, object-le (c .before .before .row-at .result .id) (rowsOf (a .n) (a .table .now)), length-rowsOf (a .n) (a .table .now)))
+    (λ c. omega (arith, found-le _ _ _ _ (c .find-object2 .ensures)))
     (λ c. link-reference _ _ _ (c .before .before .row-at .ensures) _ (c .before .match .keys1) (c .find-object .ensures))
     (λ c. link-root _ _ _ (c .before .before .row-at .ensures) _ (c .before .match .keys2) (c .find-object2 .ensures))
     (λ c. link-kept _ _ _ (c .before .row-at .ensures) (c .match .keys3))
