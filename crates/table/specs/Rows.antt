@@ -112,8 +112,11 @@ from-drop t i =
 chunk-row : (n i : ℕ) (t : List ℕ) → getD (rowsOf n t) i blank ≡ rowOf (getD (chunks 8 n t) i [])
 chunk-row n i t = rw (rowsOf-chunks n t) (List·getD-map rowOf (chunks 8 n t) i [])
 
+pub row-drop : (n i : ℕ) (t : List ℕ) → i < n → rowOf (drop (8 * i) t) ≡ getD (rowsOf n t) i blank
+row-drop n i t h = sym (chunk-row n i t ∙ ap rowOf (chunk-at 8 n i t h) ∙ row-take (drop (8 * i) t))
+
 pub row-in : (n i : ℕ) (t : List ℕ) → i < n → rowAt t i ≡ getD (rowsOf n t) i blank
-row-in n i t h = sym (chunk-row n i t ∙ ap rowOf (chunk-at 8 n i t h) ∙ row-take (drop (8 * i) t) ∙ from-drop t i)
+row-in n i t h = sym (from-drop t i) ∙ row-drop n i t h
 
 pub row-out : (n i : ℕ) (t : List ℕ) → n ≤ i → blank ≡ getD (rowsOf n t) i blank
 row-out n i t h =
