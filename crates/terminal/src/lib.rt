@@ -1,10 +1,15 @@
 // The public jobs in the forms that C and Rust call. Nothing else is public to a user.
 use format::ReadAnswer;
+use format::Refusal;
+use format::RowAnswer;
+use format::Text;
 ghost use mathlib.Core.Path.{_≡_};
 ghost use lib.ListN.{length};
 ghost use Rattle.format.specs.Rows.{roomOf};
 ghost use Rattle.format.specs.Machine.{readOf, readAnswer, tableWords};
-ghost use Rattle.terminal.specs.Terminal.{Answered};
+ghost use Rattle.format.specs.View.{rowQuestion};
+ghost use Rattle.format.specs.Replies.{rowReply};
+ghost use Rattle.terminal.specs.Terminal.{Answered, Shown};
 
 // Reads a stream into a table of rows. Answers 0, or the number of the refusal; `place` is then its place, and `rows` is how many rows there
 // are where there is none.
@@ -29,6 +34,43 @@ pub extern "C" fn strelinga_read(
             *place = at as u64;
             *rows = 0;
             format::number_of(r)
+        }
+    }
+}
+
+// Whether a row has text. Answers 0, or 21 where it has none.
+#[no_mangle]
+pub extern "C" fn strelinga_row_question(stream: &[u8], table: &[u32], row: u64) -> u32
+    ensures { λ n. ⌜ n ≡ rowReply (rowQuestion (now (stream .entry)) (now (table .entry)) row) .number ⌝ }
+{
+    match view::row_question(stream, table, row as usize) {
+        RowAnswer::HasText => 0,
+        RowAnswer::NoSuchRow => format::number_of(Refusal::NoSuchRow),
+    }
+}
+
+// The text of a row: `from` is its place in the stream and `length` how many bytes it has, both 0 where there is none. Answers as the row
+// question does.
+#[no_mangle]
+pub extern "C" fn strelinga_text_view(
+    stream: &[u8],
+    table: &[u32],
+    row: u64,
+    from: &mut u64,
+    length: &mut u64,
+) -> u32
+    ensures { λ n. ⌜ Shown (now (stream .entry)) (now (table .entry)) row n (now (from .exit)) (now (length .exit)) ⌝ }
+{
+    match view::row_text(stream, table, row as usize) {
+        Text::Part(a, b) => {
+            *from = a as u64;
+            *length = (b - a) as u64;
+            0
+        }
+        Text::Fault(_) => {
+            *from = 0;
+            *length = 0;
+            format::number_of(Refusal::NoSuchRow)
         }
     }
 }

@@ -106,7 +106,7 @@ no-part : (f : Refusal) (from to : ℕ) → T.Fault f ≡ T.Part from to → ⊥
 no-part f from to q = let z : _≡_ {A = ℕ} 0 1 = cc in omega arith
 
 -- from and to are the two ends of a part
-abbrev Inside : List ℕ → ℕ → ℕ → Type 0
+abbrev pub Inside : List ℕ → ℕ → ℕ → Type 0
 Inside s from to = (from ≤ to) × (to ≤ length s)
 
 after-inside : (s : List ℕ) (v : Number32) (from to : ℕ) → afterId s v ≡ T.Part from to → Inside s from to

@@ -29,7 +29,7 @@ fn record_text(s: &[u8], at: usize) -> Text
 }
 
 // Where the text of a row stands: only a record that ends at the end word is the row's own.
-fn row_text(s: &[u8], table: &[u32], row: usize) -> Text
+pub fn row_text(s: &[u8], table: &[u32], row: usize) -> Text
     ensures { λ r. ⌜ r ≡ rowText (now (s .entry)) (now (table .entry)) row ⌝ }
 {
     let n = table::room(table);
