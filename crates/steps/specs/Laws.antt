@@ -43,10 +43,6 @@ slotsTaken room st kind h k t = add room st (rowIn st kind h) (filled (st .stack
 unfoldable pub libraryTaken : ℕ → State → ℕ → Head → Next
 libraryTaken room st kind h = add room st (rowApart st kind h) (st .stack)
 
--- two tests in turn: the first that fails refuses
-unfoldable pub inTurn : Bool → Refusal → Bool → Refusal → Opening
-inTurn a x b y = pick a (pick b P.Good (P.Bad y)) (P.Bad x)
-
 -- ---- a row more
 
 pub row-of : (t f : List ℕ) (m : Reader) (kind : ℕ) (h : Head) (slot : ℕ) → slot ≡ m .top .count - m .top .left
@@ -84,6 +80,10 @@ module _ (room : ℕ) (t u f : List ℕ) (m : Reader) (h : Head) where
       rw (l, le-ltb (m .rows) room w)
 
 -- ---- an object
+
+-- two tests in turn: the first that fails refuses
+unfoldable pub inTurn : Bool → Refusal → Bool → Refusal → Opening
+inTurn a x b y = pick a (pick b P.Good (P.Bad y)) (P.Bad x)
 
 module _ (a b : Bool) (x y : Refusal) where
   pub turn-good : a ≡ true → b ≡ true → P.Good ≡ inTurn a x b y
