@@ -1,0 +1,2 @@
+-- What tidying puts into words of rows.
+pub mod Marks
