@@ -1,0 +1,12 @@
+-- A word less 1 is the row's number.
+use borrow.Author.Needs.{needs}
+use Rattle.marks.proofs.row_named.Statement.{statement}
+use Rattle.marks.proofs.row_named.Tie as tie
+
+pub row-named-spec : {M : Type 1} → statement M
+row-named-spec =
+    tie.close
+    (tie.spec
+    (λ c κs. search needs)
+    (λ c κs. search needs)
+    (λ c. rw (← c .before .less .ensures) (c .row-at .ensures)))
