@@ -1,4 +1,5 @@
--- A row written over, an object's number, a library's first row and a class's type bytes: one law for each way that a step ends.
+-- A row that a word names, a row written over, an object's number, a library's first row and a class's type bytes: one law for each way that
+-- a step ends.
 use Prim.Native.Nat.{ℕ, _+_, _-_, _≤_}
 use mathlib.Core.Path.{_≡_, sym}
 use mathlib.Core.Bool.{Bool, true, false}
@@ -10,7 +11,10 @@ use borrow.Author.Tests.{eq-eqb, ne-eqb}
 use Rattle.format.specs.declared.Row.{Row}
 use Rattle.format.specs.Rows.{blank, rowsOf, isObject, isClass}
 use Rattle.table.specs.Rows.{length-rowsOf}
-use Rattle.marks.specs.Marks.{withId, withSlot, withCount, word, pass, numberOne, firstLibrary, typesPlace, placeOne, needed, firsts, placed, numbered, marked}
+use Rattle.marks.specs.Marks.{rowAt, withId, withSlot, withCount, word, pass, numberOne, firstLibrary, typesPlace, placeOne, needed, firsts, placed, numbered, marked}
+
+pub row-is : (rows : List Row) (f j : ℕ) (r : Row) → j ≡ f - 1 → r ≡ getD rows j blank → r ≡ rowAt rows f
+row-is rows f j r e q = rw (← e) q
 
 pub put-past : (n i : ℕ) (t : List ℕ) (r : Row) → n ≤ i → rowsOf n t ≡ set (rowsOf n t) i r
 put-past n i t r h =

@@ -30,11 +30,11 @@ pub fn word(n: usize) -> u32
     (n % 4294967296) as u32
 }
 
-// The number after this one, which is 0 after the greatest.
-fn next(n: u32) -> u32
-    ensures { λ r. ⌜ r ≡ word (n + 1) ⌝ }
+// A sum as a word has it: the greatest word plus 1 is 0.
+fn plus(n: u32, k: u32) -> u32
+    ensures { λ r. ⌜ r ≡ word (n + k) ⌝ }
 {
-    word((n as usize) + 1)
+    word((n as usize) + (k as usize))
 }
 
 // Four bytes as a number, the low one first.
@@ -252,7 +252,7 @@ fn number_one(table: &mut [u32], n: usize, i: usize, last: ObjectNo) -> ObjectNo
 {
     let r = table::row_at(table, n, i);
     if table::is_object(r.kind) {
-        let number = next(last.0);
+        let number = plus(last.0, 1);
         put_named(table, n, i, with_id(r, number));
         return ObjectNo(number);
     }
@@ -470,8 +470,8 @@ fn need(s: &[u8], table: &mut [u32], n: usize, p: usize, last: LibraryNo) -> Lib
     let f = library_at(s, table, n, p);
     let g = row_named(table, n, f);
     if g.slot == 0 {
-        let number = next(last.0);
-        let placed = with_slot(g, next(word(p)));
+        let number = plus(last.0, 1);
+        let placed = with_slot(g, plus(word(p), 1));
         put_named(table, n, less(f as usize, 1), with_link(placed, number));
         return LibraryNo(number);
     }
