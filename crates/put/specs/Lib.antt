@@ -1,0 +1,2 @@
+-- What the writers put out.
+pub mod Out

@@ -1,0 +1,2 @@
+-- The copy that is written from marked rows.
+pub mod Copy

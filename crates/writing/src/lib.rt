@@ -1,0 +1,7 @@
+// Writes the tidy copy from marked rows.
+
+// Nulls of one object that wait to be written: the row of the object plus 1, and how many.
+pub struct Gathered {
+    pub owner: u32,
+    pub count: usize,
+}
