@@ -1,0 +1,2 @@
+-- The copy written from marked rows is the tidy copy of what the rows say.
+pub mod Stands
