@@ -4,3 +4,4 @@ pub mod Marked
 pub mod Tests
 pub mod Alike
 pub mod Names
+pub mod Equal
