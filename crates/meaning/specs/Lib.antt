@@ -4,4 +4,5 @@ pub mod Marked
 pub mod Tests
 pub mod Alike
 pub mod Names
+pub mod Members
 pub mod Equal

@@ -27,10 +27,10 @@ use Rattle.classes.specs.Moves.{names-there, types-there, infos-moves}
 use Rattle.same.specs.Laws.{same-eq}
 use Rattle.table.specs.Find.{find-hit, library-at}
 use Rattle.strings.specs.Laws.{string-moves}
-use Rattle.marks.specs.Marks.{sameTail, sameName, firstLibrary, libraryAt, sameBetween, typesPlace, itemType, word, withId, withSlot, firstClass}
+use Rattle.marks.specs.Marks.{sameTail, sameName, firstLibrary, libraryAt, sameBetween, typesPlace, itemType, word, withId, withSlot, firstClass, isFirst}
 use Rattle.meaning.specs.Stands.{StringStands, OwnStands, of-system, of-library, ClassStands, ArrayStands, RowStands, the-header, by-id, a-class, a-string, an-array, a-primitive, a-reference, nulls, the-end, a-library, primitives, objects, texts, a-value, Stands}
-use Rattle.meaning.specs.Marked.{Placed, Firsts, infoFields, classFields, arrayFields, All, none, both, nameAtField, libraryFirst}
-use Rattle.meaning.specs.Tests.{bool-ext, both-of, both-true, apart, true-same, find-alike, find-some}
+use Rattle.meaning.specs.Marked.{Placed, Firsts, infoFields, classFields, arrayFields, rowFields, fieldsFrom, All, none, both, nameAtField, libraryFirst}
+use Rattle.meaning.specs.Tests.{bool-ext, both-of, both-true, apart, pick-of, true-same, find-alike, find-some}
 use Rattle.meaning.specs.Alike.{same-strings}
 
 -- ---- what stands at a row, by its kind
@@ -144,6 +144,10 @@ pub record NamesLibrary (s : List ℕ) (rows : List Row) (p : ℕ) : Type 0 wher
   pub kind : getD rows row blank .kind ≡ 12
   pub room : p + 4 ≤ length s
 
+pub all-append : {P : ℕ → Type 0} {xs ys : List ℕ} → All P xs → All P ys → All P (xs ++ ys)
+all-append none b = b
+all-append (both x a) b = both x (all-append a b)
+
 module _ (s : List ℕ) (rows : List Row) where
   known-told : (end e : ℕ) → knownLibrary s rows end ≡ F.End e → (e ≡ end) × (0 < libraryRow (numberFrom s (end - 4)) rows)
   known-told end e q = go (eqb (libraryRow (numberFrom s (end - 4)) rows) 0) refl q
@@ -205,10 +209,6 @@ module _ (s : List ℕ) (rows : List Row) where
 
   info-field : (type p e : ℕ) → infoKnown s rows type p ≡ F.End e → All (NamesLibrary s rows) (pick (eqb type 4) ((e - 4) ∷ []) [])
   info-field type p e q = picked (λ (l : List ℕ). All (NamesLibrary s rows) l) (eqb type 4) (λ t. both (class-info p e (rw (eqb-true type 4 t) at q) .0) none) (λ t. none)
-
-  all-append : {P : ℕ → Type 0} {xs ys : List ℕ} → All P xs → All P ys → All P (xs ++ ys)
-  all-append none b = b
-  all-append (both x a) b = both x (all-append a b)
 
   pub infos-name : (n types p e : ℕ) → infosAt s rows n types p ≡ F.End e → All (NamesLibrary s rows) (infoFields s n types p)
   unfolding infosAt infoFields
@@ -427,3 +427,53 @@ module _ (s : List ℕ) (rows ps fs : List Row) (fi : Firsts s rows ps fs) where
       let test : Row → Bool = λ (r : Row). eqb (r .kind) 12 && eqb (r .id) id in
       let e = find-alike test test 0 fs ps (fi .size) (λ i h. firsts-word test (λ r x. refl) i) in
       ap (λ (x : ℕ). getD fs (x - 1) blank .count) e ∙ firsts-word (λ (r : Row). r .count) (λ r x. refl) (findFrom test 0 ps - 1)
+
+-- ---- every field of all rows
+
+rows-all : (P : ℕ → Type 0) (s : List ℕ) (i : ℕ) (rows : List Row)
+    → ((k : ℕ) → k < length rows → All P (rowFields s (i + k) (getD rows k blank))) → All P (fieldsFrom s i rows)
+unfolding fieldsFrom
+rows-all P s i [] h = none
+rows-all P s i (r ∷ rows) h =
+    let z : i + 0 ≡ i = omega arith in
+    all-append (subst (λ (n : ℕ). All P (rowFields s n r)) z (h 0 (omega arith))) (rows-all P s (i + 1) rows next)
+  where
+    next : (k : ℕ) → k < length rows → All P (rowFields s (i + 1 + k) (getD rows k blank))
+    next k l =
+        let z : i + suc k ≡ i + 1 + k = omega arith in
+        subst (λ (n : ℕ). All P (rowFields s n (getD rows k blank))) z (h (suc k) (omega arith))
+
+module _ (s : List ℕ) (rows ps fs : List Row) (st : Stands s rows) (pl : Placed s rows ps) (fi : Firsts s rows ps fs) where
+  row-names : (i : ℕ) → i < length rows → All (NamesLibrary s rows) (rowFields s i (getD fs i blank))
+  unfolding rowFields
+  row-names i h =
+      picked (All (NamesLibrary s rows)) (isFirst i q) classes
+      (λ e. picked (All (NamesLibrary s rows)) (eqb (q .kind) 7) arrays (λ e. none))
+    where
+      q : Row
+      q = getD fs i blank
+
+      kind : q .kind ≡ getD rows i blank .kind
+      kind = firsts-word s rows ps fs fi (λ (r : Row). r .kind) (λ r x. refl) i ∙ placed-kind s rows ps st pl i h
+
+      classes : isFirst i q ≡ true → All (NamesLibrary s rows) (classFields s q)
+      classes e =
+          let k = ap isClass (sym kind) ∙ pick-of (isClass (q .kind)) (eqb (q .link) (i + 1)) e .0 in
+          let p = placed-class s rows ps st pl i h k in
+          class-names s rows (getD rows i blank) (class-at s rows st i h k) q kind
+          (firsts-word s rows ps fs fi (λ (r : Row). r .end) (λ r x. refl) i ∙ ap (λ (r : Row). r .end) p)
+          (firsts-word s rows ps fs fi (λ (r : Row). r .count) (λ r x. refl) i ∙ ap (λ (r : Row). r .count) p)
+          (firsts-word s rows ps fs fi (λ (r : Row). r .slot) (λ r x. refl) i ∙ ap (λ (r : Row). r .slot) p)
+
+      arrays : eqb (q .kind) 7 ≡ true → All (NamesLibrary s rows) (arrayFields s q)
+      arrays e =
+          let k = sym kind ∙ eqb-true (q .kind) 7 e in
+          array-names s rows (getD rows i blank) (array-at s rows st i h k) q
+          (firsts-word s rows ps fs fi (λ (r : Row). r .offset) (λ r x. refl) i
+          ∙ ap (λ (r : Row). r .offset) (pl .object i h (ap isObject k) (ap isClass k)))
+
+  pub fields-name : All (NamesLibrary s rows) (fieldsFrom s 0 fs)
+  fields-name =
+      rows-all (NamesLibrary s rows) s 0 fs (λ k h.
+      let z : 0 + k ≡ k = omega arith in
+      subst (λ (n : ℕ). All (NamesLibrary s rows) (rowFields s n (getD fs k blank))) (sym z) (row-names k (omega (arith, fi .size, pl .size))))
