@@ -367,26 +367,28 @@ module _ (s : List ℕ) (rows ps : List Row) (st : Stands s rows) (pl : Placed s
       ap (λ (x : ℕ). getD ps (x - 1) blank .count) (placed-library (numberFrom s p) ∙ e)
       ∙ (ap (λ (x : ℕ). getD ps x blank .count) o ∙ ap (λ (r : Row). r .count) (pl .library j h k))
 
-  pub library-first : (p : ℕ) → NamesLibrary s rows p → First s rows ps p
+  pub first-of : (p j : ℕ) → libraryRow (numberFrom s p) rows ≡ suc j → j < length rows → getD rows j blank .kind ≡ 12 → First s rows ps p
   unfolding libraryFirst
-  library-first p w =
-      let j = w .row in
+  first-of p j found inside kind =
       let name = textFrom s (getD rows j blank .offset + 5) in
       let test : Row → Bool = λ (r : Row). eqb (r .kind) 12 && sameBytes name (textFrom s (r .offset + 5)) in
-      let n = field-name p j (w .found) in
-      let own = both-true (eqb (getD rows j blank .kind) 12) (sameBytes name name) (eq-eqb (getD rows j blank .kind) 12 (w .kind)) (true-same name name refl) in
-      let x = find-some test 0 rows j (w .inside) own in
+      let n = field-name p j found in
+      let own = both-true (eqb (getD rows j blank .kind) 12) (sameBytes name name) (eq-eqb (getD rows j blank .kind) 12 kind) (true-same name name refl) in
+      let x = find-some test 0 rows j inside own in
       let e : findFrom test 0 rows ≡ suc (x .0) = x .1 ∙ omega arith in
       let y = find-hit test rows (x .0) e in
       let z = both-of (eqb (getD rows (x .0) blank .kind) 12) (sameBytes name (textFrom s (getD rows (x .0) blank .offset + 5))) (y .1) in
       record {
         row = x .0;
-        same = library-count p j (w .found) (w .inside) (w .kind) ∙ (library-scan j (w .inside) (w .kind) ∙ ap (libraryFirst s rows) (sym n));
+        same = library-count p j found inside kind ∙ (library-scan j inside kind ∙ ap (libraryFirst s rows) (sym n));
         first = ap (libraryFirst s rows) n ∙ e;
         inside = y .0;
         kind = eqb-true (getD rows (x .0) blank .kind) 12 (z .0);
         name = sym (n ∙ same-eq name (textFrom s (getD rows (x .0) blank .offset + 5)) (z .1));
       }
+
+  pub library-first : (p : ℕ) → NamesLibrary s rows p → First s rows ps p
+  library-first p w = first-of p (w .row) (w .found) (w .inside) (w .kind)
 
   -- two fields lead to one first row where they say one name
   pub same-library : (p q : ℕ) → NamesLibrary s rows p → NamesLibrary s rows q
