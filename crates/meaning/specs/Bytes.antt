@@ -2,7 +2,7 @@
 use Prim.Native.Nat.{ℕ, zero, suc, _+_, _-_, _≤_, _<_}
 use mathlib.Core.Path.{_≡_, refl, sym, ap, ap₂, _∙_}
 use mathlib.Core.Bool.{Bool, true, false}
-use mathlib.Core.List.{List, [], _∷_, _++_}
+use mathlib.Core.List.{List, [], _∷_, _++_, append-assoc}
 use native.Mathlib.Omega.{arith}
 use lib.ListN.{length, getD, drop, length-append, length-drop}
 use lib.Seq.{take-at}
@@ -38,6 +38,10 @@ use Rattle.meaning.specs.Marked.{All, none, both, infoFields, nameAtFiel
 
 -- ---- texts, numbers and codes
 
+-- a part that was written in three, and what follows it
+pub joined : (a b c l : List ℕ) → (a ++ (b ++ c)) ++ l ≡ a ++ (b ++ (c ++ l))
+joined a b c l = rw (append-assoc a (b ++ c) l, append-assoc b c l)
+
 -- bytes that stand before what stands at e
 between-is : (s b : List ℕ) (p e : ℕ) → p ≤ e → e ≤ length s → drop p s ≡ b ++ drop e s → between s p e ≡ b
 between-is s b p e h g c =
@@ -64,12 +68,17 @@ module _ (s : List ℕ) (byte : Bytes s) where
       let n : w .0 ≡ length (part s a (e - a)) = omega arith in
       rw (t .text, w .1 .says) (ap (λ (k : ℕ). prefixBytes k ++ part s a (e - a)) n)
 
+  -- any four bytes are a number
+  pub number-there : (p : ℕ) → p + 4 ≤ length s → between s p (p + 4) ≡ leBytes 4 (numberFrom s p)
+  number-there p h =
+      let d : p + 4 - p ≡ 4 = omega arith in
+      let l = length-part s p 4 h in
+      rw d (sym (rw l at (leBytes-le (part s p 4) (bytes-part s p 4 byte))))
+
   pub number-is : (p v : ℕ) → u32At s p ≡ N32.Value v (p + 4) → between s p (p + 4) ≡ leBytes 4 v
   number-is p v q =
       let w = u32-says s p v (p + 4) q in
-      let d : p + 4 - p ≡ 4 = omega arith in
-      let l = length-part s p 4 (w .within) in
-      rw (d, w .value) (sym (rw l at (leBytes-le (part s p 4) (bytes-part s p 4 byte))))
+      number-there p (w .within) ∙ ap (leBytes 4) (sym (w .value))
 
 module _ (s : List ℕ) where
   pub number-from : (p v e : ℕ) → u32At s p ≡ N32.Value v e → numberFrom s p ≡ v
@@ -166,6 +175,17 @@ module _ (s : List ℕ) (rows : List Row) where
   needs-is (suc (suc (suc (suc (suc (suc zero)))))) p e h q = refl
   needs-is (suc (suc (suc (suc (suc (suc (suc zero))))))) p e h q = refl
   needs-is (suc (suc (suc (suc (suc (suc (suc (suc type)))))))) p e h q = absurd (omega arith)
+
+-- a library's new number changes no type byte
+pub same-type : (ls : Libraries) (d : Detail (List ℕ)) → typeByte (detailBy ls d) ≡ typeByte d
+same-type ls (primitive c) = refl
+same-type ls text = refl
+same-type ls object = refl
+same-type ls (system n) = refl
+same-type ls (class n l) = refl
+same-type ls objects = refl
+same-type ls texts = refl
+same-type ls (primitives c) = refl
 
 -- rows rs have the numbers of ls: the library whose number stands at p has in rs the number that its name has in ls
 abbrev pub Numbered : List ℕ → List Row → List Row → Libraries → ℕ → Type 0

@@ -29,19 +29,9 @@ use Rattle.marks.specs.Marks.{word, typesPlace}
 use Rattle.writing.specs.Copy.{libraryNumber, infosOut, classOut, detailsOut}
 use Rattle.meaning.specs.Stands.{OwnStands, of-system, of-library, ClassStands}
 use Rattle.meaning.specs.Marked.{All, infoFields, classFields, nameAtField, namesOf}
-use Rattle.meaning.specs.Bytes.{text-kept, number-is, name-stands, between-none, type-is, Numbered, all-left, all-right, all-first, names-append, infos-need, infos-is}
+use Rattle.meaning.specs.Bytes.{joined, text-kept, number-is, name-stands, between-none, type-is, same-type, Numbered, all-left, all-right, all-first, names-append, infos-need, infos-is}
 
 -- ---- names and type bytes
-
-pub same-type : (ls : Libraries) (d : Detail (List ℕ)) → typeByte (detailBy ls d) ≡ typeByte d
-same-type ls (primitive c) = refl
-same-type ls text = refl
-same-type ls object = refl
-same-type ls (system n) = refl
-same-type ls (class n l) = refl
-same-type ls objects = refl
-same-type ls texts = refl
-same-type ls (primitives c) = refl
 
 module _ (s : List ℕ) (rows : List Row) (ls : Libraries) where
   pub members-count : (n names types infos : ℕ) → length (membersBy ls (membersFrom s rows n names types infos)) ≡ n
@@ -135,17 +125,13 @@ module _ (s : List ℕ) (rows : List Row) (r : Row) (c : ClassStands s rows r) w
 
 -- ---- the record
 
--- what is written before the details, then the details
-joined : (a b x y z : List ℕ) → (a ++ (b ++ (x ++ y))) ++ z ≡ a ++ (b ++ (x ++ (y ++ z)))
-joined a b x y z = rw (append-assoc a (b ++ (x ++ y)) z, append-assoc b (x ++ y) z, append-assoc x y z)
-
-module _ (s : List ℕ) (rs : List Row) (q : Row) (kind offset end slot count : ℕ)
+module _ (s : List ℕ) (q : Row) (kind offset end slot count : ℕ)
     (k : q .kind ≡ kind) (o : q .offset ≡ offset) (e : q .end ≡ end) (t : q .slot ≡ slot) (n : q .count ≡ count) where
-  class-out : classOut s rs q
+  class-out : (rs : List Row) → classOut s rs q
       ≡ headOut (kind % 256) (q .id) ++ (between s (offset + 5) (slot + count)
       ++ (infosOut s rs count slot (slot + count) ++ pick (eqb kind 5) (leBytes 4 (libraryNumber s rs (end - 4))) []))
   unfolding classOut detailsOut
-  class-out = rw (k, o, e, t, n)
+  class-out rs = rw (k, o, e, t, n)
 
   class-fields : classFields s q ≡ infoFields s count slot (slot + count) ++ pick (eqb kind 5) ((end - 4) ∷ []) []
   unfolding classFields
@@ -157,7 +143,8 @@ module _ (ls : Libraries) (id : ℕ) (c : Class) (head infos : List ℕ)
   both-parts : head ++ infos ≡ classBytes (c .name) (membersBy ls (c .members))
   both-parts =
       let ms = membersBy ls (c .members) in
-      ap₂ (λ (x y : List ℕ). x ++ y) h i ∙ joined (stringBytes (c .name)) (leBytes 4 (length ms)) (namesBytes ms) (typesBytes ms) (infosBytes ms)
+      ap₂ (λ (x y : List ℕ). x ++ y) h i ∙ joined (stringBytes (c .name)) (leBytes 4 (length ms)) (namesBytes ms ++ typesBytes ms) (infosBytes ms)
+      ∙ ap (λ (l : List ℕ). stringBytes (c .name) ++ (leBytes 4 (length ms) ++ l)) (append-assoc (namesBytes ms) (typesBytes ms) (infosBytes ms))
 
   system-bytes : c .from ≡ theSystem → headOut 4 id ++ (head ++ (infos ++ [])) ≡ enc (classBy ls id c (c .from))
   unfolding enc
@@ -189,7 +176,7 @@ module _ (s : List ℕ) (rows : List Row) (r : Row) (c : ClassStands s rows r) (
   unfolding namesOf
   class-need =
       let infos = infoFields s (r .count) (c .types) (c .types + r .count) in
-      ap (namesOf s rows) (class-fields s [] q (r .kind) (r .offset) (r .end) (c .types) (r .count) k o e t n)
+      ap (namesOf s rows) (class-fields s q (r .kind) (r .offset) (r .end) (c .types) (r .count) k o e t n)
       ∙ names-append s rows infos (pick (eqb (r .kind) 5) ((r .end - 4) ∷ []) [])
       ∙ ap₂ (λ (x y : List (List ℕ)). x ++ y) (members-need ∙ ap membersNeed (sym (members-from s rows r c))) (own-need (c .own))
     where
@@ -221,7 +208,7 @@ module _ (s : List ℕ) (rows : List Row) (r : Row) (c : ClassStands s rows r) (
       P = Numbered s rows rs ls
 
       there : (kind : ℕ) → q .kind ≡ kind → All P (fields ++ pick (eqb kind 5) ((r .end - 4) ∷ []) [])
-      there kind h = subst (All P) (class-fields s rs q kind (r .offset) (r .end) (c .types) (r .count) h o e t n) a
+      there kind h = subst (All P) (class-fields s q kind (r .offset) (r .end) (c .types) (r .count) h o e t n) a
 
       infos-so : All P fields → infos ≡ infosBytes (membersBy ls (classFrom s rows r .members))
       infos-so b =
@@ -231,11 +218,11 @@ module _ (s : List ℕ) (rows : List Row) (r : Row) (c : ClassStands s rows r) (
       go : OwnStands s rows r (c .infos-end) → classOut s rs q ≡ enc (classBy ls (q .id) (classFrom s rows r) (classFrom s rows r .from))
       go (of-system h z) =
           let b = there 4 (k ∙ h) in
-          class-out s rs q 4 (r .offset) (r .end) (c .types) (r .count) (k ∙ h) o e t n
+          class-out s q 4 (r .offset) (r .end) (c .types) (r .count) (k ∙ h) o e t n rs
           ∙ system-bytes ls (q .id) (classFrom s rows r) head infos (head-is s rows r c byte ls) (infos-so (all-left P fields [] b)) (from-system s rows r h)
       go (of-library h z) =
           let b = there 5 (k ∙ h) in
-          class-out s rs q 5 (r .offset) (r .end) (c .types) (r .count) (k ∙ h) o e t n
+          class-out s q 5 (r .offset) (r .end) (c .types) (r .count) (k ∙ h) o e t n rs
           ∙ library-bytes ls (q .id) (classFrom s rows r) head infos (head-is s rows r c byte ls) (infos-so (all-left P fields ((r .end - 4) ∷ []) b))
           (nameAtField s rows (r .end - 4)) (libraryNumber s rs (r .end - 4)) (from-library s rows r h)
           (all-first P (r .end - 4) [] (all-right P fields ((r .end - 4) ∷ []) b))

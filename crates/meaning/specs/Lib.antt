@@ -3,3 +3,4 @@ pub mod Stands
 pub mod Marked
 pub mod Bytes
 pub mod ClassBytes
+pub mod ArrayBytes
