@@ -5,15 +5,14 @@ use mathlib.Core.List.{List, [], _∷_, _++_}
 use native.Mathlib.Omega.{arith}
 use lib.ListN.{length, getD}
 use lib.Dec.{eqb}
-use Rattle.format.specs.declared.Number32.the-variants as N32
 use Rattle.format.specs.declared.Field.the-variants as F
 use Rattle.format.specs.declared.Row.{Row}
 use Rattle.format.specs.Bytes.{pick}
-use Rattle.format.specs.Numbers.{leBytes, u32At}
+use Rattle.format.specs.Numbers.{leBytes}
 use Rattle.format.specs.Types.{typeByteAt}
 use Rattle.format.specs.Records.{infoKnown}
 use Rattle.format.specs.Contents.{Detail, typeByte, infoBytes, numbersBytes, array, enc}
-use Rattle.format.specs.Says.{What, anArray, numberFrom, numbersFrom, detailFrom, afterInfo, arrayFrom}
+use Rattle.format.specs.Says.{anArray, numberFrom, numbersFrom, detailFrom, afterInfo, arrayFrom}
 use Rattle.format.specs.Tidy.{Libraries, detailNeeds, detailBy}
 use Rattle.fields.specs.Parts.{part-through}
 use Rattle.num.specs.Le.{Bytes}
@@ -47,14 +46,14 @@ abbrev pub arrayItem : List ℕ → List Row → Row → Detail (List ℕ)
 arrayItem s rows r = detailFrom s rows (getD s (itemType s r) 0) (itemType s r + 1)
 
 -- where its items begin
-abbrev pub arrayItems : List ℕ → Row → ℕ
-arrayItems s r = afterInfo s (getD s (itemType s r) 0) (itemType s r + 1)
+abbrev pub itemsPlace : List ℕ → Row → ℕ
+itemsPlace s r = afterInfo s (getD s (itemType s r) 0) (itemType s r + 1)
 
 abbrev pub arrayLengths : List ℕ → Row → List ℕ
 arrayLengths s r = numbersFrom s (numberFrom s (r .offset + 6)) (r .offset + 10)
 
 pub array-from : (s : List ℕ) (rows : List Row) (r : Row)
-    → arrayFrom s rows r ≡ anArray (getD s (r .offset + 5) 0) (arrayLengths s r) (arrayItem s rows r) (between s (arrayItems s r) (r .end))
+    → arrayFrom s rows r ≡ anArray (getD s (r .offset + 5) 0) (arrayLengths s r) (arrayItem s rows r) (between s (itemsPlace s r) (r .end))
 unfolding arrayFrom itemType
 array-from s rows r = refl
 
@@ -98,7 +97,7 @@ module _ (s : List ℕ) (byte : Bytes s) (rows rs : List Row) (ls : Libraries) w
 -- what stands at the item type
 record ItemStands (s : List ℕ) (rows : List Row) (r : Row) : Type 0 where
   typed : typeByteAt s (itemType s r) ≡ F.End (itemType s r + 1)
-  known : infoKnown s rows (getD s (itemType s r) 0) (itemType s r + 1) ≡ F.End (arrayItems s r)
+  known : infoKnown s rows (getD s (itemType s r) 0) (itemType s r + 1) ≡ F.End (itemsPlace s r)
 
 item-stands : (s : List ℕ) (rows : List Row) (r : Row) → ArrayStands s rows r → ItemStands s rows r
 unfolding itemType
@@ -112,7 +111,7 @@ item-stands s rows r c =
 
 -- a row q that is as r is, but for its number
 module _ (s : List ℕ) (rows : List Row) (r : Row) (c : ArrayStands s rows r) (q : Row) (o : q .offset ≡ r .offset) where
-  array-fields : arrayFields s q ≡ pick (eqb (getD s (itemType s r) 0) 4) ((arrayItems s r - 4) ∷ []) []
+  array-fields : arrayFields s q ≡ pick (eqb (getD s (itemType s r) 0) 4) ((itemsPlace s r - 4) ∷ []) []
   unfolding arrayFields itemType
   array-fields = rw o
 
@@ -120,23 +119,23 @@ module _ (s : List ℕ) (rows : List Row) (r : Row) (c : ArrayStands s rows r) (
   array-need =
       let i = item-stands s rows r c in
       let w = type-told s (itemType s r) (itemType s r + 1) (i .typed) in
-      ap (namesOf s rows) array-fields ∙ needs-is s rows (getD s (itemType s r) 0) (itemType s r + 1) (arrayItems s r) (w .0) (i .known)
+      ap (namesOf s rows) array-fields ∙ needs-is s rows (getD s (itemType s r) 0) (itemType s r + 1) (itemsPlace s r) (w .0) (i .known)
 
   module _ (e : q .end ≡ r .end) (rs : List Row) where
-    array-out : bodyOut s rs (itemType s q) (arrayItems s q) q
+    array-out : bodyOut s rs (itemType s q) (itemsPlace s q) q
         ≡ headOut 7 (q .id) ++ (between s (r .offset + 5) (itemType s r + 1)
-        ++ (infoOut s rs (getD s (itemType s r) 0) (itemType s r + 1) (arrayItems s r) ++ between s (arrayItems s r) (r .end)))
+        ++ (infoOut s rs (getD s (itemType s r) 0) (itemType s r + 1) (itemsPlace s r) ++ between s (itemsPlace s r) (r .end)))
     unfolding bodyOut itemsOut itemType
     array-out = rw (o, e)
 
     pub array-is : (byte : Bytes s) (ls : Libraries) → All (Numbered s rows rs ls) (arrayFields s q)
-        → bodyOut s rs (itemType s q) (arrayItems s q) q
-        ≡ enc (array (q .id) (getD s (r .offset + 5) 0) (arrayLengths s r) (detailBy ls (arrayItem s rows r)) (between s (arrayItems s r) (r .end)))
+        → bodyOut s rs (itemType s q) (itemsPlace s q) q
+        ≡ enc (array (q .id) (getD s (r .offset + 5) 0) (arrayLengths s r) (detailBy ls (arrayItem s rows r)) (between s (itemsPlace s r) (r .end)))
     unfolding itemType
     array-is byte ls a =
         let i = item-stands s rows r c in
         let P = Numbered s rows rs ls in
         let b = subst (All P) array-fields a in
         array-out
-        ∙ array-bytes s byte rows rs ls (r .offset) (r .end) (q .id) (numberFrom s (r .offset + 6)) (itemType s r) (arrayItems s r) refl refl (i .typed) (i .known)
-        (field-of P (getD s (itemType s r) 0) (arrayItems s r - 4) b)
+        ∙ array-bytes s byte rows rs ls (r .offset) (r .end) (q .id) (numberFrom s (r .offset + 6)) (itemType s r) (itemsPlace s r) refl refl (i .typed) (i .known)
+        (field-of P (getD s (itemType s r) 0) (itemsPlace s r - 4) b)

@@ -9,20 +9,19 @@ use lib.Seq.{take-at}
 use lib.Dec.{eqb}
 use Rattle.format.specs.declared.Refusal.the-variants as R
 use Rattle.format.specs.declared.Number32.the-variants as N32
-use Rattle.format.specs.declared.Text.the-variants as T
 use Rattle.format.specs.declared.Field.the-variants as F
 use Rattle.format.specs.declared.Row.{Row}
 use Rattle.format.specs.Bytes.{pick, part, sameBytes}
 use Rattle.format.specs.Numbers.{leBytes, u32At}
 use Rattle.format.specs.Prefix.{prefixBytes}
-use Rattle.format.specs.Text.{wellFormed, stringAt, stringBytes}
+use Rattle.format.specs.Text.{wellFormed, stringBytes}
 use Rattle.format.specs.Values.{onEnd, times}
 use Rattle.format.specs.Types.{codeNumber, codeAt, typeByteAt, nameAt, libraryIdAt, infoAt}
 use Rattle.format.specs.Records.{knownLibrary, infoKnown, infosAt}
 use Rattle.format.specs.Contents.{Detail, primitive, text, object, system, class, objects, texts, primitives, typeByte, infoBytes, infosBytes}
-use Rattle.format.specs.Says.{textFrom, afterText, numberFrom, codeFrom, libraryName, detailFrom, afterInfo, membersFrom}
+use Rattle.format.specs.Says.{textFrom, afterText, numberFrom, codeFrom, detailFrom, afterInfo, membersFrom}
 use Rattle.format.specs.Tidy.{numberIn, Libraries, detailNeeds, membersNeed, detailBy, membersBy}
-use Rattle.fields.specs.Parts.{length-part, part-cons, part-through}
+use Rattle.fields.specs.Parts.{length-part, part-cons}
 use Rattle.fields.specs.Judged.{judged-taken}
 use Rattle.fields.specs.Sequence.{through}
 use Rattle.num.specs.Le.{Bytes, bytes-part, leBytes-le}
@@ -109,13 +108,13 @@ module _ (s : List ℕ) where
 -- ---- the details of types
 
 -- what stands where a detail of type 4 ends at e: the class's name, then the LibraryId
-record ClassInfo (s : List ℕ) (p e : ℕ) : Type 0 where
-  named : nameAt s p ≡ F.End (e - 4)
-  number : ℕ
-  known : u32At s (e - 4) ≡ N32.Value number e
-  moves : (p ≤ e - 4) × (e ≡ e - 4 + 4)
+pub record ClassInfo (s : List ℕ) (p e : ℕ) : Type 0 where
+  pub named : nameAt s p ≡ F.End (e - 4)
+  pub number : ℕ
+  pub numbered : u32At s (e - 4) ≡ N32.Value number e
+  pub moves : (p < e - 4) × (e ≡ e - 4 + 4)
 
-class-info : (s : List ℕ) (rows : List Row) (p e : ℕ) → infoKnown s rows 4 p ≡ F.End e → ClassInfo s p e
+pub class-info : (s : List ℕ) (rows : List Row) (p e : ℕ) → infoKnown s rows 4 p ≡ F.End e → ClassInfo s p e
 unfolding infoKnown infoAt
 class-info s rows p e q =
     let x = through (knownLibrary s rows) (onEnd (libraryIdAt s) (nameAt s p)) e q in
@@ -123,7 +122,7 @@ class-info s rows p e q =
     go (y .0) (x .0) (y .1) (y .2) (known-moves s rows (x .0) e (x .2))
   where
     at : (m v : ℕ) → m ≡ e - 4 → e ≡ m + 4 → p < m → nameAt s p ≡ F.End m → u32At s m ≡ N32.Value v e → ClassInfo s p e
-    at m v d g h n u = record { named = rw d at n; number = v; known = rw d at u; moves = (omega arith, omega arith) }
+    at m v d g h n u = record { named = rw d at n; number = v; numbered = rw d at u; moves = (omega arith, omega arith) }
 
     go : (m x : ℕ) → nameAt s p ≡ F.End m → libraryIdAt s m ≡ F.End x → e ≡ x → ClassInfo s p e
     go m x n l k =
@@ -158,7 +157,7 @@ module _ (s : List ℕ) (rows : List Row) where
   type-is (suc (suc (suc (suc (suc (suc (suc zero))))))) p h = refl
   type-is (suc (suc (suc (suc (suc (suc (suc (suc type)))))))) p h = absurd (omega arith)
 
-  class-detail : (p e : ℕ) → ClassInfo s p e → detailFrom s rows 4 p ≡ class (textFrom s p) (nameAtField s rows (e - 4))
+  pub class-detail : (p e : ℕ) → ClassInfo s p e → detailFrom s rows 4 p ≡ class (textFrom s p) (nameAtField s rows (e - 4))
   unfolding detailFrom nameAtField
   class-detail p e c = rw (c .named)
 
@@ -211,13 +210,13 @@ module _ (s : List ℕ) (byte : Bytes s) (rows rs : List Row) (ls : Libraries) w
 -- ---- the details of members
 
 -- one detail, whose type byte stands at types, and those after it
-record First (s : List ℕ) (rows : List Row) (n types p e t : ℕ) : Type 0 where
-  low : getD s types 0 ≤ 7
-  known : infoKnown s rows (getD s types 0) p ≡ F.End (afterInfo s (getD s types 0) p)
-  infos : infosAt s rows n (types + 1) (afterInfo s (getD s types 0) p) ≡ F.End e
-  type-bytes : times (typeByteAt s) n (types + 1) ≡ F.End t
+pub record First (s : List ℕ) (rows : List Row) (n types p e t : ℕ) : Type 0 where
+  pub low : getD s types 0 ≤ 7
+  pub known : infoKnown s rows (getD s types 0) p ≡ F.End (afterInfo s (getD s types 0) p)
+  pub infos : infosAt s rows n (types + 1) (afterInfo s (getD s types 0) p) ≡ F.End e
+  pub type-bytes : times (typeByteAt s) n (types + 1) ≡ F.End t
 
-first-is : (s : List ℕ) (rows : List Row) (n types p e t : ℕ) → infosAt s rows (suc n) types p ≡ F.End e → times (typeByteAt s) (suc n) types ≡ F.End t
+pub first-is : (s : List ℕ) (rows : List Row) (n types p e t : ℕ) → infosAt s rows (suc n) types p ≡ F.End e → times (typeByteAt s) (suc n) types ≡ F.End t
     → First s rows n types p e t
 unfolding infosAt times
 first-is s rows n types p e t q r =

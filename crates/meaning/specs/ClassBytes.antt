@@ -1,7 +1,6 @@
 -- The bytes written for a class record are those of the class that it says, with its new number and the new numbers of its libraries.
-use Prim.Native.Nat.{ℕ, zero, suc, _+_, _-_, _%_, _≤_, _<_}
+use Prim.Native.Nat.{ℕ, zero, suc, _+_, _-_, _%_, _≤_}
 use mathlib.Core.Path.{_≡_, refl, sym, ap, ap₂, subst, _∙_}
-use mathlib.Core.Bool.{Bool, true, false}
 use mathlib.Core.List.{List, [], _∷_, _++_, append-assoc, append-nil}
 use native.Mathlib.Omega.{arith}
 use lib.ListN.{length, getD}
@@ -14,10 +13,9 @@ use Rattle.format.specs.Numbers.{leBytes, u32At}
 use Rattle.format.specs.Text.{stringBytes}
 use Rattle.format.specs.Values.{times}
 use Rattle.format.specs.Types.{nameAt, typeByteAt, placeOr}
-use Rattle.format.specs.Rows.{isClass}
-use Rattle.format.specs.Contents.{Detail, primitive, text, object, system, class, objects, texts, primitives, Member, typeByte, namesBytes, typesBytes, infosBytes, classBytes, systemClass, libraryClass, enc}
+use Rattle.format.specs.Contents.{Member, namesBytes, typesBytes, infosBytes, classBytes, enc}
 use Rattle.format.specs.Says.{From, theSystem, theLibrary, Class, textFrom, afterText, numberFrom, libraryName, detailFrom, afterInfo, membersFrom, classFrom}
-use Rattle.format.specs.Tidy.{numberIn, Libraries, membersNeed, fromNeeds, classNeeds, detailBy, membersBy, classBy}
+use Rattle.format.specs.Tidy.{numberIn, Libraries, membersNeed, fromNeeds, classNeeds, membersBy, classBy}
 use Rattle.fields.specs.Parts.{part-through}
 use Rattle.fields.specs.Sequence.{through}
 use Rattle.num.specs.Le.{Bytes}
@@ -64,18 +62,15 @@ module _ (s : List ℕ) (byte : Bytes s) (rows : List Row) (ls : Libraries) wher
   names-is (suc n) names types infos e q =
       let x = through (times (nameAt s) n) (nameAt s names) e q in
       let d : afterText s names ≡ x .0 = ap (placeOr names) (x .1) in
-      go (afterText s names) (x .1 ∙ ap F.End (sym d)) (ap (times (nameAt s) n) d ∙ x .2)
-      (names-is n (afterText s names) (types + 1) (afterInfo s (getD s types 0) infos) e)
+      let r : times (nameAt s) n (afterText s names) ≡ F.End e = ap (times (nameAt s) n) d ∙ x .2 in
+      go (afterText s names) (x .1 ∙ ap F.End (sym d)) r
+      ∙ ap (λ (l : List ℕ). stringBytes (textFrom s names) ++ l) (names-is n (afterText s names) (types + 1) (afterInfo s (getD s types 0) infos) e r)
     where
-      go : (m : ℕ) → nameAt s names ≡ F.End m → times (nameAt s) n m ≡ F.End e
-          → (times (nameAt s) n m ≡ F.End e → between s m e ≡ namesBytes (membersBy ls (membersFrom s rows n m (types + 1) (afterInfo s (getD s types 0) infos))))
-          → between s names e
-          ≡ stringBytes (textFrom s names) ++ namesBytes (membersBy ls (membersFrom s rows n m (types + 1) (afterInfo s (getD s types 0) infos)))
-      go m h r again =
+      go : (m : ℕ) → nameAt s names ≡ F.End m → times (nameAt s) n m ≡ F.End e → between s names e ≡ stringBytes (textFrom s names) ++ between s m e
+      go m h r =
           let a = name-moves s names m h in
           let b = names-within s n m e (m + length s) (omega arith) (omega arith) r in
-          part-through s names m e (omega arith) (omega arith)
-          ∙ ap₂ (λ (x y : List ℕ). x ++ y) (text-kept s byte names m (name-stands s names m h)) (again r)
+          part-through s names m e (omega arith) (omega arith) ∙ ap (λ (l : List ℕ). l ++ between s m e) (text-kept s byte names m (name-stands s names m h))
 
 -- ---- what stands before the details
 
@@ -107,8 +102,8 @@ module _ (s : List ℕ) (rows : List Row) (r : Row) (c : ClassStands s rows r) w
     head-is =
         go (r .offset + 5) (c .name-end) (r .count) (c .types) (classFrom s rows r .members) (c .named) (c .counted) (c .names) (c .type-bytes) members-from
       where
-        go : (p ne n types : ℕ) (ms : List (Member (List ℕ))) → nameAt s p ≡ F.End ne → u32At s ne ≡ N32.Value n (ne + 4) → times (nameAt s) n (ne + 4) ≡ F.End types
-            → times (typeByteAt s) n types ≡ F.End (types + n) → ms ≡ membersFrom s rows n (ne + 4) types (types + n)
+        go : (p ne n types : ℕ) (ms : List (Member (List ℕ))) → nameAt s p ≡ F.End ne → u32At s ne ≡ N32.Value n (ne + 4)
+            → times (nameAt s) n (ne + 4) ≡ F.End types → times (typeByteAt s) n types ≡ F.End (types + n) → ms ≡ membersFrom s rows n (ne + 4) types (types + n)
             → between s p (types + n)
             ≡ stringBytes (textFrom s p) ++ (leBytes 4 (length (membersBy ls ms)) ++ (namesBytes (membersBy ls ms) ++ typesBytes (membersBy ls ms)))
         go p ne n types ms a b d f m =
@@ -138,7 +133,8 @@ module _ (s : List ℕ) (q : Row) (kind offset end slot count : ℕ)
   class-fields = rw (k, e, t, n)
 
 module _ (ls : Libraries) (id : ℕ) (c : Class) (head infos : List ℕ)
-    (h : head ≡ stringBytes (c .name) ++ (leBytes 4 (length (membersBy ls (c .members))) ++ (namesBytes (membersBy ls (c .members)) ++ typesBytes (membersBy ls (c .members)))))
+    (h : head ≡ stringBytes (c .name) ++ (leBytes 4 (length (membersBy ls (c .members)))
+    ++ (namesBytes (membersBy ls (c .members)) ++ typesBytes (membersBy ls (c .members)))))
     (i : infos ≡ infosBytes (membersBy ls (c .members))) where
   both-parts : head ++ infos ≡ classBytes (c .name) (membersBy ls (c .members))
   both-parts =
@@ -161,11 +157,11 @@ module _ (ls : Libraries) (id : ℕ) (c : Class) (head infos : List ℕ)
       ∙ ap (λ (z : From). enc (classBy ls id c z)) (sym f)
 
 module _ (s : List ℕ) (rows : List Row) (r : Row) where
-  from-system : r .kind ≡ 4 → classFrom s rows r .from ≡ theSystem
+  pub from-system : r .kind ≡ 4 → classFrom s rows r .from ≡ theSystem
   unfolding classFrom
   from-system k = ap (λ (z : ℕ). pick (eqb z 5) (theLibrary (libraryName s rows (numberFrom s (r .end - 4)))) theSystem) k
 
-  from-library : r .kind ≡ 5 → classFrom s rows r .from ≡ theLibrary (nameAtField s rows (r .end - 4))
+  pub from-library : r .kind ≡ 5 → classFrom s rows r .from ≡ theLibrary (nameAtField s rows (r .end - 4))
   unfolding classFrom nameAtField
   from-library k = ap (λ (z : ℕ). pick (eqb z 5) (theLibrary (libraryName s rows (numberFrom s (r .end - 4)))) theSystem) k
 

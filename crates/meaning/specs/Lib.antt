@@ -4,3 +4,5 @@ pub mod Marked
 pub mod Bytes
 pub mod ClassBytes
 pub mod ArrayBytes
+pub mod RecordBytes
+pub mod Said
