@@ -6,3 +6,8 @@ pub mod Alike
 pub mod Names
 pub mod Members
 pub mod Equal
+pub mod Bytes
+pub mod ClassBytes
+pub mod ArrayBytes
+pub mod RecordBytes
+pub mod Said
