@@ -2,3 +2,5 @@
 pub mod Stands
 pub mod Marked
 pub mod Passes
+pub mod Entered
+pub mod Needs

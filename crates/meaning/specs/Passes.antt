@@ -54,6 +54,10 @@ module _ (new : ℕ → Row → Row) (rows : List Row) where
           let lt : j < i = omega (arith, n) in
           getD-set-other rs i j (new i (getD rows i blank)) blank n ∙ v .done j lt k
 
+  -- a row that the pass leaves
+  half-kept : (i : ℕ) (rs : List Row) → Half new rows i rs → set rs i (getD rows i blank) ≡ rs
+  half-kept i rs v = rw (← (v .rest i (omega arith))) (set-getD rs i blank)
+
   -- what a new row does not change, no row of a half changes
   module _ (frame : Row → Row) (keeps : (j : ℕ) (r : Row) → frame (new j r) ≡ frame r) where
     pub half-frame : (i : ℕ) (rs : List Row) → Half new rows i rs → (j : ℕ) → frame (getD rs j blank) ≡ frame (getD rows j blank)
@@ -159,8 +163,7 @@ module _ (rows : List Row) (few : length rows < 4294967296) where
       go false q o w =
           let t : orderOf rows (suc i) ≡ orderOf rows (i + 1) = ap (orderOf rows) (omega arith) in
           let k : c ≡ orderOf rows (i + 1) = omega arith in
-          let x : set rs i (getD rows i blank) ≡ rs = rw (← (v .rest i (omega arith))) (set-getD rs i blank) in
-          record { count-is = k; half = rw x at w }
+          record { count-is = k; half = rw (half-kept (numberedRow rows) rows i rs v) at w }
 
   number-step : (i : ℕ) (st : Pass) → i < length rows → Numbering rows i st → Numbering rows (i + 1) (numberOne i st)
   unfolding numberOne
@@ -181,28 +184,28 @@ placedRow s rows i r =
     pick (eqb (r .kind) 12) (withCount r (firstLibrary s rows r)) (pick (isClass (r .kind)) (withSlot r (word (typesPlace s r))) r)
 
 -- what neither numbering nor placing changes
-abbrev named : Row → Row
-named r = record { kind = r .kind; offset = r .offset; end = r .end; id = 0; owner = r .owner; slot = 0; link = r .link; count = 0 }
+abbrev unmarked : Row → Row
+unmarked r = record { kind = r .kind; offset = r .offset; end = r .end; id = 0; owner = r .owner; slot = 0; link = r .link; count = 0 }
 
-numbered-named : (rows : List Row) (j : ℕ) (r : Row) → named (numberedRow rows j r) ≡ named r
+numbered-unmarked : (rows : List Row) (j : ℕ) (r : Row) → unmarked (numberedRow rows j r) ≡ unmarked r
 unfolding numberedRow
-numbered-named rows j r = go (isObject (r .kind))
+numbered-unmarked rows j r = go (isObject (r .kind))
   where
-    go : (b : Bool) → named (pick b (withId r (orderOf rows (suc j))) r) ≡ named r
+    go : (b : Bool) → unmarked (pick b (withId r (orderOf rows (suc j))) r) ≡ unmarked r
     go true = refl
     go false = refl
 
-placed-named : (s : List ℕ) (rows : List Row) (j : ℕ) (r : Row) → named (placedRow s rows j r) ≡ named r
+placed-unmarked : (s : List ℕ) (rows : List Row) (j : ℕ) (r : Row) → unmarked (placedRow s rows j r) ≡ unmarked r
 unfolding placedRow
-placed-named s rows j r = go (eqb (r .kind) 12) (isClass (r .kind))
+placed-unmarked s rows j r = go (eqb (r .kind) 12) (isClass (r .kind))
   where
-    go : (a b : Bool) → named (pick a (withCount r (firstLibrary s rows r)) (pick b (withSlot r (word (typesPlace s r))) r)) ≡ named r
+    go : (a b : Bool) → unmarked (pick a (withCount r (firstLibrary s rows r)) (pick b (withSlot r (word (typesPlace s r))) r)) ≡ unmarked r
     go true b = refl
     go false true = refl
     go false false = refl
 
--- a library's first row is found by names alone
-library-alike : (s : List ℕ) (rs rows : List Row) (r : Row) → length rs ≡ length rows → ((j : ℕ) → named (getD rs j blank) ≡ named (getD rows j blank))
+-- a library's first row is found by its name
+library-alike : (s : List ℕ) (rs rows : List Row) (r : Row) → length rs ≡ length rows → ((j : ℕ) → unmarked (getD rs j blank) ≡ unmarked (getD rows j blank))
     → firstLibrary s rs r ≡ firstLibrary s rows r
 unfolding firstLibrary sameName sameTail
 library-alike s rs rows r l f = find-alike (sameName s r) (sameName s r) 0 rs rows l (λ j. ap (sameName s r) (f j))
@@ -211,7 +214,7 @@ module _ (s : List ℕ) (rows : List Row) where
   place-step : (i : ℕ) (rs : List Row) → i < length rows → Half (placedRow s rows) rows i rs → Half (placedRow s rows) rows (i + 1) (placeOne s i rs)
   unfolding placeOne placedRow
   place-step i rs l v =
-      rw (v .rest i (omega arith), library-alike s rs rows (getD rows i blank) (v .size) (half-frame (placedRow s rows) rows named (placed-named s rows) i rs v))
+      rw (v .rest i (omega arith), library-alike s rs rows (getD rows i blank) (v .size) (half-frame (placedRow s rows) rows unmarked (placed-unmarked s rows) i rs v))
       (go (eqb (getD rows i blank .kind) 12) (isClass (getD rows i blank .kind)) (half-next (placedRow s rows) rows i rs l v))
     where
       r : Row
@@ -222,8 +225,7 @@ module _ (s : List ℕ) (rows : List Row) where
       go true b h = h
       go false true h = h
       go false false h =
-          let x : set rs i r ≡ rs = rw (← (v .rest i (omega arith))) (set-getD rs i blank) in
-          rw x at h
+          rw (half-kept (placedRow s rows) rows i rs v) at h
 
   placing : Half (placedRow s rows) rows (length rows) (placed s rows)
   unfolding placed
@@ -272,7 +274,7 @@ placed-rows s rows few =
           at i l
           ∙ (ap (placedRow s ns i) (numbered-other rows i (getD rows i blank) (library-not-object (getD rows i blank .kind) k))
           ∙ (placed-library s ns i (getD rows i blank) (eq-eqb (getD rows i blank .kind) 12 k)
-          ∙ ap (withCount (getD rows i blank)) (library-alike s ns rows (getD rows i blank) (N .size) (half-frame (numberedRow rows) rows named (numbered-named rows) (length rows) ns N))));
+          ∙ ap (withCount (getD rows i blank)) (library-alike s ns rows (getD rows i blank) (N .size) (half-frame (numberedRow rows) rows unmarked (numbered-unmarked rows) (length rows) ns N))));
       object = λ i l o c.
           at i l
           ∙ (ap (placedRow s ns i) (numbered-object rows i (getD rows i blank) o)
@@ -379,8 +381,7 @@ module _ (s : List ℕ) (rows : List Row) where
           → Half (firstedRow s rows) rows (i + 1) (pick b (set rs i (withLink r (firstClass s rows r))) rs)
       go true h = h
       go false h =
-          let x : set rs i r ≡ rs = rw (← (v .rest i (omega arith))) (set-getD rs i blank) in
-          rw x at h
+          rw (half-kept (firstedRow s rows) rows i rs v) at h
 
   firsting : Half (firstedRow s rows) rows (length rows) (firsts s rows)
   unfolding firsts
