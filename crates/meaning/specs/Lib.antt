@@ -4,3 +4,4 @@ pub mod Marked
 pub mod Passes
 pub mod Entered
 pub mod Needs
+pub mod Stamps

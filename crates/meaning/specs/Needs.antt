@@ -84,7 +84,7 @@ need-is s p k st t e q =
     let z : suc k - 1 ≡ k = omega arith in
     rw (e, z, q)
 
-need-like : (s : List ℕ) (fs : List Row) (p : ℕ) (st : Pass) → Aimed s fs p → Like fs (st .rows) → Like fs (need s p st .rows)
+pub need-like : (s : List ℕ) (fs : List Row) (p : ℕ) (st : Pass) → Aimed s fs p → Like fs (st .rows) → Like fs (need s p st .rows)
 need-like s fs p st a v =
     let e : libraryAt s (st .rows) p ≡ suc (a .row) = like-at s fs (st .rows) v p ∙ a .aims in
     go (eqb (getD (st .rows) (a .row) blank .slot) 0) (need-is s p (a .row) st (eqb (getD (st .rows) (a .row) blank .slot) 0) e refl)
@@ -131,7 +131,7 @@ unfolding needAll
 all-like s fs [] st a v = v
 all-like s fs (p ∷ ps) st (both h a) v = all-like s fs ps (need s p st) a (need-like s fs p st h v)
 
-all-keeps : (s : List ℕ) (ps : List ℕ) (j x : ℕ) (st : Pass) → getD (st .rows) j blank .slot ≡ suc x
+pub all-keeps : (s : List ℕ) (ps : List ℕ) (j x : ℕ) (st : Pass) → getD (st .rows) j blank .slot ≡ suc x
     → getD (needAll s ps st .rows) j blank ≡ getD (st .rows) j blank
 unfolding needAll
 all-keeps s [] j x st h = refl
