@@ -5,3 +5,4 @@ pub mod Passes
 pub mod Entered
 pub mod Needs
 pub mod Stamps
+pub mod LibrariesOut

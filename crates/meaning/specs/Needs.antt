@@ -1,6 +1,6 @@
 -- Libraries are numbered by first need: the pass goes through the fields that name them, in order, and leaves in a library's first row its new
 -- number and the place of the field that needs it first.
-use Prim.Native.Nat.{ℕ, zero, suc, _+_, _-_, _%_, _≤_, _<_}
+use Prim.Native.Nat.{ℕ, zero, suc, _+_, _-_, _<_}
 use mathlib.Core.Path.{_≡_, refl, sym, ap, _∙_}
 use mathlib.Core.Bool.{Bool, true, false, true≢false}
 use mathlib.Core.List.{List, [], _∷_, _++_}
@@ -9,12 +9,12 @@ use native.Mathlib.Numerals.{add-one}
 use lib.ListN.{length, getD, drop, set, length-set, drop-of-length-le}
 use lib.Seq.{drop-cons, getD-set-same, getD-set-other}
 use lib.Dec.{eqb}
-use borrow.Author.Tests.{eqb-true, eqb-false, eq-eqb, ne-eqb}
+use borrow.Author.Tests.{eqb-true, eqb-false, eq-eqb}
 use Rattle.format.specs.declared.Row.{Row}
-use Rattle.format.specs.Bytes.{pick, sameBytes}
+use Rattle.format.specs.Bytes.{pick}
 use Rattle.format.specs.Rows.{blank, isClass, withLink}
 use Rattle.format.specs.Says.{afterInfo}
-use Rattle.marks.specs.Marks.{Pass, pass, sweep, word, rowAt, withSlot, libraryAt, need, needInfo, needInfos, needClass, itemType, needArray, isFirst, needsRow, needOne, needed, infosPlace}
+use Rattle.marks.specs.Marks.{Pass, pass, sweep, word, withSlot, libraryAt, need, needInfo, needInfos, needClass, itemType, needArray, isFirst, needsRow, needOne, needed, infosPlace}
 use Rattle.meaning.specs.Marked.{infoFields, classFields, arrayFields, rowFields, fieldsFrom, All, none, both}
 use Rattle.meaning.specs.Passes.{looked, at-alike}
 
@@ -75,7 +75,12 @@ like-set fs rs k x y l h v =
 
 -- ---- one field
 
--- the library's first row gets a number if it has none
+-- row k, a library's first row, gets the next number and the place of its field
+abbrev pub entering : ℕ → ℕ → Pass → Pass
+entering p k st =
+    pass (word (st .count + 1)) (set (st .rows) k (withLink (withSlot (getD (st .rows) k blank) (word (p + 1))) (word (st .count + 1))))
+
+-- it does if it has none
 pub need-is : (s : List ℕ) (p k : ℕ) (st : Pass) (t : Bool) → libraryAt s (st .rows) p ≡ suc k → eqb (getD (st .rows) k blank .slot) 0 ≡ t
     → need s p st
     ≡ pick t (pass (word (st .count + 1)) (set (st .rows) k (withLink (withSlot (getD (st .rows) k blank) (word (p + 1))) (word (st .count + 1))))) st
@@ -99,21 +104,14 @@ need-like s fs p st a v =
 -- a row that has a number keeps it
 need-keeps : (s : List ℕ) (p j x : ℕ) (st : Pass) → getD (st .rows) j blank .slot ≡ suc x → getD (need s p st .rows) j blank ≡ getD (st .rows) j blank
 unfolding need
-need-keeps s p j x st h = go (libraryAt s (st .rows) p - 1)
+need-keeps s p j x st h = go (libraryAt s (st .rows) p - 1) (eqb (getD (st .rows) (libraryAt s (st .rows) p - 1) blank .slot) 0) refl
   where
-    go : (k : ℕ)
-        → getD (pick (eqb (getD (st .rows) k blank .slot) 0) (pass (word (st .count + 1)) (set (st .rows) k (withLink (withSlot (getD (st .rows) k blank) (word (p + 1))) (word (st .count + 1))))) st .rows) j blank
-        ≡ getD (st .rows) j blank
-    go k = by k (eqb (getD (st .rows) k blank .slot) 0) refl
-      where
-        by : (k : ℕ) (t : Bool) → eqb (getD (st .rows) k blank .slot) 0 ≡ t
-            → getD (pick t (pass (word (st .count + 1)) (set (st .rows) k (withLink (withSlot (getD (st .rows) k blank) (word (p + 1))) (word (st .count + 1))))) st .rows) j blank
-            ≡ getD (st .rows) j blank
-        by k true q =
-            let e = eqb-true (getD (st .rows) k blank .slot) 0 q in
-            getD-set-other (st .rows) k j (withLink (withSlot (getD (st .rows) k blank) (word (p + 1))) (word (st .count + 1))) blank
-            (λ y. let w : getD (st .rows) j blank .slot ≡ getD (st .rows) k blank .slot = ap (λ (i : ℕ). getD (st .rows) i blank .slot) y in omega arith)
-        by k false q = refl
+    go : (k : ℕ) (t : Bool) → eqb (getD (st .rows) k blank .slot) 0 ≡ t → getD (pick t (entering p k st) st .rows) j blank ≡ getD (st .rows) j blank
+    go k true q =
+        let e = eqb-true (getD (st .rows) k blank .slot) 0 q in
+        getD-set-other (st .rows) k j (withLink (withSlot (getD (st .rows) k blank) (word (p + 1))) (word (st .count + 1))) blank
+        (λ y. let w : getD (st .rows) j blank .slot ≡ getD (st .rows) k blank .slot = ap (λ (i : ℕ). getD (st .rows) i blank .slot) y in omega arith)
+    go k false q = refl
 
 -- ---- all fields
 

@@ -1,6 +1,6 @@
 -- What the passes of tidying leave in each row: new numbers of objects, first rows of libraries, places of type bytes, first rows of classes.
 -- A pass sets words that its own tests do not look at, so each row gets what the rows before the pass say.
-use Prim.Native.Nat.{ℕ, zero, suc, _+_, _-_, _%_, _≤_, _<_}
+use Prim.Native.Nat.{ℕ, zero, suc, _+_, _-_, _≤_, _<_}
 use mathlib.Core.Path.{_≡_, refl, sym, ap, _∙_}
 use mathlib.Core.Bool.{Bool, true, false, _&&_, _||_, true≢false}
 use mathlib.Core.List.{List, [], _∷_, _++_}

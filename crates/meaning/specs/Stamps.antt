@@ -1,5 +1,5 @@
 -- What the pass leaves in a library's first row: the number that the library has in the table of names, and the place of the field that entered it.
-use Prim.Native.Nat.{ℕ, zero, suc, _+_, _-_, _%_, _≤_, _<_}
+use Prim.Native.Nat.{ℕ, zero, suc, _+_, _-_, _≤_, _<_}
 use mathlib.Core.Path.{_≡_, refl, sym, ap, _∙_}
 use mathlib.Core.Bool.{Bool, true, false, _&&_, true≢false}
 use mathlib.Core.List.{List, [], _∷_, _++_}
@@ -10,7 +10,7 @@ use lib.Dec.{eqb}
 use borrow.Author.Tests.{eqb-true, eqb-false, eq-eqb, ne-eqb}
 use Rattle.format.specs.declared.Row.{Row}
 use Rattle.format.specs.Bytes.{pick, sameBytes}
-use Rattle.format.specs.Rows.{blank, findFrom, withLink}
+use Rattle.format.specs.Rows.{blank, withLink}
 use Rattle.format.specs.Says.{textFrom}
 use Rattle.format.specs.Tidy.{numberIn, Libraries, entered, allEntered}
 use Rattle.same.specs.Laws.{same-eq, same-refl}
@@ -18,7 +18,7 @@ use Rattle.table.specs.Find.{find-hit}
 use Rattle.marks.specs.Marks.{Pass, pass, word, rowAt, withSlot, libraryAt, need, needed}
 use Rattle.meaning.specs.Marked.{nameAtField, namesOf, libraryFirst, fieldsFrom, All, none, both}
 use Rattle.meaning.specs.Entered.{Counted, counted-more, number-new, number-other, entered-new, entered-old, entered-has, librariesFor, all-more}
-use Rattle.meaning.specs.Needs.{Like, Aimed, like-self, like-at, need-is, need-like, needAll, all-needs, all-keeps, all-left, all-right, all-first, needed-fields, needed-like}
+use Rattle.meaning.specs.Needs.{Like, Aimed, like-self, like-at, entering, need-is, need-like, needAll, all-needs, all-keeps, all-left, all-right, all-first, needed-fields, needed-like}
 
 -- ---- premises
 
@@ -137,8 +137,8 @@ module _ (s : List ℕ) (rows fs : List Row) where
   -- a library that is not in the table
   inv-new : (ls : Libraries) (b p k : ℕ) (n : List ℕ) (st : Pass) → b ≤ p → p < 4294967295 → libraryFirst s rows n ≡ suc k → k < length fs
       → numberIn (sameBytes n) ls ≡ 0 → Inv s rows fs ls b st
-      → Like fs (set (st .rows) k (withLink (withSlot (getD (st .rows) k blank) (word (p + 1))) (word (st .count + 1))))
-      → Inv s rows fs (ls ++ ((suc (length ls), n) ∷ [])) (suc p) (pass (word (st .count + 1)) (set (st .rows) k (withLink (withSlot (getD (st .rows) k blank) (word (p + 1))) (word (st .count + 1)))))
+      → Like fs (entering p k st .rows)
+      → Inv s rows fs (ls ++ ((suc (length ls), n) ∷ [])) (suc p) (entering p k st)
   inv-new ls b p k n st h small f l e v w =
       record {
         count-is = c ∙ sym len;
@@ -245,7 +245,7 @@ module _ (s : List ℕ) (rows fs : List Row) where
       g : Row
       g = withLink (withSlot (getD (st .rows) k blank) (word (p + 1))) (word (st .count + 1))
 
-      go : (t : Bool) → need s p st ≡ pick t (pass (word (st .count + 1)) (set (st .rows) k g)) st → eqb (numberIn (sameBytes n) ls) 0 ≡ t
+      go : (t : Bool) → need s p st ≡ pick t (entering p k st) st → eqb (numberIn (sameBytes n) ls) 0 ≡ t
           → eqb (getD (need s p st .rows) k blank .slot) (word (p + 1)) ≡ t
       go true q t =
           let z = v .like .size in
