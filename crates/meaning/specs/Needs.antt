@@ -82,8 +82,7 @@ entering p k st =
 
 -- it does if it has none
 pub need-is : (s : List ℕ) (p k : ℕ) (st : Pass) (t : Bool) → libraryAt s (st .rows) p ≡ suc k → eqb (getD (st .rows) k blank .slot) 0 ≡ t
-    → need s p st
-    ≡ pick t (pass (word (st .count + 1)) (set (st .rows) k (withLink (withSlot (getD (st .rows) k blank) (word (p + 1))) (word (st .count + 1))))) st
+    → need s p st ≡ pick t (entering p k st) st
 unfolding need
 need-is s p k st t e q =
     let z : suc k - 1 ≡ k = omega arith in
@@ -94,10 +93,7 @@ need-like s fs p st a v =
     let e : libraryAt s (st .rows) p ≡ suc (a .row) = like-at s fs (st .rows) v p ∙ a .aims in
     go (eqb (getD (st .rows) (a .row) blank .slot) 0) (need-is s p (a .row) st (eqb (getD (st .rows) (a .row) blank .slot) 0) e refl)
   where
-    go : (t : Bool)
-        → need s p st
-        ≡ pick t (pass (word (st .count + 1)) (set (st .rows) (a .row) (withLink (withSlot (getD (st .rows) (a .row) blank) (word (p + 1))) (word (st .count + 1))))) st
-        → Like fs (need s p st .rows)
+    go : (t : Bool) → need s p st ≡ pick t (entering p (a .row) st) st → Like fs (need s p st .rows)
     go true q = rw q (like-set fs (st .rows) (a .row) (word (p + 1)) (word (st .count + 1)) (a .inside) (a .library) v)
     go false q = rw q v
 

@@ -38,7 +38,7 @@ pub record Fields (s : List ℕ) (rows fs : List Row) : Type 0 where
   pub limit : ℕ
   pub small : limit < 4294967296
   pub rising : Rising limit 0 (fieldsFrom s 0 fs)
-  pub fresh : (j : ℕ) → j < length fs → getD fs j blank .kind ≡ 12 → (getD fs j blank .slot ≡ 0) × (getD fs j blank .link ≡ 0)
+  pub fresh : (j : ℕ) → j < length fs → getD fs j blank .kind ≡ 12 → getD fs j blank .slot ≡ 0
 
 -- ---- rising places
 
@@ -94,7 +94,7 @@ other-name s rows n m j k e f h = go (sameBytes n m) refl
 
 -- the first row of the library of this name, when the table is ls and the fields so far are before b
 pub record Stamped (ls : Libraries) (b : ℕ) (n : List ℕ) (g : Row) : Type 0 where
-  pub number : g .link ≡ numberIn (sameBytes n) ls
+  pub number : (m : ℕ) → numberIn (sameBytes n) ls ≡ suc m → g .link ≡ suc m
   pub stamp : eqb (g .slot) 0 ≡ eqb (numberIn (sameBytes n) ls) 0
   pub low : g .slot ≤ b
 
@@ -120,7 +120,7 @@ inv-from s rows fs ls b m st h v =
     }
 
 module _ (s : List ℕ) (rows fs : List Row) where
-  inv-start : ((j : ℕ) → j < length fs → getD fs j blank .kind ≡ 12 → (getD fs j blank .slot ≡ 0) × (getD fs j blank .link ≡ 0)) → Inv s rows fs [] 0 (pass 0 fs)
+  inv-start : ((j : ℕ) → j < length fs → getD fs j blank .kind ≡ 12 → getD fs j blank .slot ≡ 0) → Inv s rows fs [] 0 (pass 0 fs)
   unfolding numberIn
   inv-start fresh =
       record {
@@ -129,9 +129,8 @@ module _ (s : List ℕ) (rows fs : List Row) where
         counted = tt;
         like = like-self fs;
         each = λ n j e l k.
-            let f = fresh j l k in
-            let z = f .0 in
-            record { number = f .1; stamp = eq-eqb (getD fs j blank .slot) 0 z; low = omega arith };
+            let z = fresh j l k in
+            record { number = λ m q. absurd (omega arith); stamp = eq-eqb (getD fs j blank .slot) 0 z; low = omega arith };
       }
 
   -- a library that is not in the table
@@ -167,7 +166,7 @@ module _ (s : List ℕ) (rows fs : List Row) where
       stamped =
           let t : word (p + 1) ≡ suc p = omega arith in
           record {
-            number = c ∙ sym new;
+            number = λ m q. c ∙ (sym new ∙ q);
             stamp = rw (t, new) (ne-eqb (suc p) 0 (λ q. omega arith) ∙ sym (ne-eqb (suc (length ls)) 0 (λ q. omega arith)));
             low = omega arith;
           }
@@ -176,7 +175,7 @@ module _ (s : List ℕ) (rows fs : List Row) where
       old m r d x =
           let t = number-other (sameBytes m) ls (suc (length ls)) n d in
           let y = x .low in
-          record { number = x .number ∙ sym t; stamp = x .stamp ∙ ap (λ (z : ℕ). eqb z 0) (sym t); low = omega arith }
+          record { number = λ i q. x .number i (sym t ∙ q); stamp = x .stamp ∙ ap (λ (z : ℕ). eqb z 0) (sym t); low = omega arith }
 
       go : (m : List ℕ) (j : ℕ) → libraryFirst s rows m ≡ suc j → j < length fs → getD fs j blank .kind ≡ 12 → (t : Bool) → eqb j k ≡ t
           → Stamped more (suc p) m (getD (set (st .rows) k g) j blank)
@@ -289,7 +288,7 @@ module _ (s : List ℕ) (rows fs : List Row) (F : Fields s rows fs) where
   numbered-field ps p qs e =
       record {
         stamp = ap (λ (g : Row). eqb (g .slot) (word (p + 1))) row ∙ stamp-step s rows fs ls p before small a v;
-        number = ap (λ (g : Row). g .link) row ∙ x .number;
+        number = ap (λ (g : Row). g .link) row ∙ (x .number (has .0) (has .1) ∙ sym (has .1));
         later = λ names. all-more names (entered n ls) (sameBytes n) (has .0) (has .1) ∙ sym (has .1);
       }
     where
