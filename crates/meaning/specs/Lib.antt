@@ -11,3 +11,8 @@ pub mod ClassBytes
 pub mod ArrayBytes
 pub mod RecordBytes
 pub mod Said
+pub mod Passes
+pub mod Entered
+pub mod Needs
+pub mod Stamps
+pub mod LibrariesOut
