@@ -1,14 +1,13 @@
 -- The rows of a stream that is taken are rows that stand, with their links: every reference and the header name an object.
 use Prim.Native.Nat.{ℕ, zero, suc, _+_, _-_, _≤_, _<_}
 use mathlib.Core.Path.{_≡_, refl, sym, ap, subst, _∙_}
-use mathlib.Core.Bool.{Bool, true, false}
+use mathlib.Core.Bool.{true}
 use mathlib.Core.List.{List, [], _∷_, _++_}
 use native.Mathlib.Omega.{arith}
 use lib.ListN.{length, getD, take}
 use lib.Seq.{length-take-le, take-suc, getD-take, getD-append-seam}
 use lib.Dec.{ltb, eqb}
 use borrow.Author.Tests.{ltb-false, eqb-true, eqb-false}
-use Rattle.format.specs.declared.Refusal.{Refusal}
 use Rattle.format.specs.declared.Where.the-variants as W
 use Rattle.format.specs.declared.Row.{Row}
 use Rattle.format.specs.Rows.{blank, isObject, objectRow, findFrom, isLost, linked}
@@ -18,7 +17,7 @@ use Rattle.fields.specs.Judged.{picked}
 use Rattle.table.specs.Find.{find-none}
 use Rattle.table.specs.Links.{length-linked, lost-if}
 use Rattle.reader.specs.Fine.{Fine, NextFine, record-fine, step-fine}
-use Rattle.standing.specs.Standing.{Stood, stood-moves, Owned, apart, within, Standing}
+use Rattle.standing.specs.Standing.{stood-moves, Owned, apart, within, Standing}
 use Rattle.standing.specs.Steps.{endOf, Placed, Gathered, Whole, NextGathered, each-more, length-more, end-more, record-gathered, step-gathered}
 
 -- ---- the rows with the end record

@@ -2,3 +2,6 @@
 pub mod Standing
 pub mod Steps
 pub mod Accepted
+pub mod Fields
+pub mod Linked
+pub mod Members

@@ -1,5 +1,5 @@
 -- What holds of the rows between two steps. A step adds one row, and keeps it.
-use Prim.Native.Nat.{ℕ, zero, suc, _+_, _-_, _≤_, _<_}
+use Prim.Native.Nat.{ℕ, suc, _+_, _-_, _<_}
 use mathlib.Core.Path.{_≡_, refl, sym, ap, subst, _∙_}
 use mathlib.Core.Bool.{Bool, true, false, _||_}
 use mathlib.Core.List.{List, [], _∷_, _++_}
@@ -31,8 +31,8 @@ use Rattle.format.specs.Rows.{blank, isObject}
 use Rattle.format.specs.Records.{allowed, kindAt, headingAt}
 use Rattle.format.specs.Machine.{Open, State, Next, go, ended, refuse, close, filledBy, filled, opened, rowIn, rowApart, add, object, runOver, nullRun, ending, act, onKind, recordStep, valueHead, onValue, valueStep, whereIn, bySlot, step}
 use Rattle.fields.specs.Judged.{picked}
-use Rattle.records.specs.Kinds.{Stands, kind-within, kind-byte}
-use Rattle.standing.specs.Standing.{Known, value, Recorded, Valued, Stood, a-record, a-value, Owned, apart, within, allowed-known, taken-low}
+use Rattle.records.specs.Kinds.{kind-within, kind-byte}
+use Rattle.standing.specs.Standing.{Known, value, Stood, a-record, a-value, Owned, apart, within, allowed-known, taken-low}
 
 -- ---- a row after others
 
