@@ -11,8 +11,8 @@ use borrow.Author.Tests.{ltb-true, ltb-false}
 use Rattle.format.specs.declared.Row.{Row}
 use Rattle.format.specs.Rows.{blank, isObject, isClass, findFrom, objectRow, classRow, libraryRow, withLink, linkOf, linked}
 use Rattle.table.specs.Find.{Found, object-at, class-at}
-use Rattle.table.specs.Links.{length-linked, linked-at, link-reference, link-root, link-kept}
-use Rattle.standing.specs.Standing.{Standing, record-at}
+use Rattle.table.specs.Links.{length-linked, linked-at, object-linked, link-reference, link-root, link-kept}
+use Rattle.standing.specs.Standing.{Owned, apart, within, Standing, record-at}
 use Rattle.standing.specs.Accepted.{Taken}
 use Rattle.standing.specs.Fields.{by-id-row}
 
@@ -74,6 +74,16 @@ module _ (raw : List Row) where
   pub link-at : (i : ℕ) → i < length raw → getD (linked raw) i blank .link ≡ linkOf raw (getD raw i blank)
   link-at i h = ap (λ (r : Row). r .link) (linked-at raw i h)
 
+  pub owned-linked : (i o : ℕ) → Owned raw i o → Owned (linked raw) i o
+  owned-linked i o (apart e) = apart e
+  owned-linked i o (within a b k) = within a b (ap isObject (same-kind (o - 1)) ∙ k)
+
+  pub found-linked : (kinds : ℕ → Bool) (id i : ℕ) → Found kinds id raw i → Found kinds id (linked raw) i
+  found-linked kinds id i f =
+      let l = length-linked raw in
+      let h = f .inside in
+      record { inside = omega arith; kind = ap kinds (same-kind i) ∙ f .kind; same = same-id i ∙ f .same }
+
 -- ---- a kind 1 goes to its class
 
 -- the class of row i is row link - 1, before it
@@ -113,6 +123,17 @@ module _ {s : List ℕ} {raw : List Row} (w : Standing s raw) (i : ℕ) (h : i <
   pub one-link : getD (linked raw) i blank .link ≡ getD raw i blank .link
   one-link = link-at raw i h ∙ sym (link-kept raw (getD raw i blank) (getD raw i blank) refl k)
 
+  pub to-class-linked : ToClass (linked raw) i (getD (linked raw) i blank .link) (getD (linked raw) i blank .count)
+  to-class-linked =
+      let c = to-class in
+      let j : ℕ = getD raw i blank .link - 1 in
+      rw one-link (record {
+        some = c .some;
+        before = c .before;
+        class = ap isClass (same-kind raw j) ∙ c .class;
+        same-count = same-count raw i ∙ (c .same-count ∙ sym (same-count raw j));
+      })
+
 -- ---- references and the header go to objects
 
 -- the object of this number is row link - 1
@@ -125,6 +146,10 @@ to-object : (rows : List Row) (id link : ℕ) → link ≡ objectRow id rows →
 to-object rows id link e n =
     let h : 0 < objectRow id rows = omega (arith, n) in
     record { finds = e; some = omega arith; found = rw e (object-at id rows h) }
+
+pub to-object-linked : (raw : List Row) (id link : ℕ) → ToObject raw id link → ToObject (linked raw) id link
+to-object-linked raw id link w =
+    record { finds = w .finds ∙ sym (object-linked id raw); some = w .some; found = found-linked raw isObject id (link - 1) (w .found) }
 
 module _ {s : List ℕ} {room : ℕ} {rows : List Row} (w : Taken s room rows) where
   pub reference-link : (i : ℕ) → i < length (w .raw) → getD (w .raw) i blank .kind ≡ 9

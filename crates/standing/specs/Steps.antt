@@ -83,7 +83,7 @@ module _ (rows : List Row) (r : Row) where
   owned-more o (apart e) = apart e
   owned-more o (within a b k) =
       let n = length-more in
-      within a (omega arith) (rw (List·getD-append rows (r ∷ []) blank (o - 1) b) k)
+      within a (omega arith) (rw (List·getD-append rows (r ∷ []) blank (o - 1) (omega arith)) k)
 
 -- ---- open objects
 
