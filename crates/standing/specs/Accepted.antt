@@ -68,6 +68,7 @@ whole-stands s rows at w h c f =
       next = λ i l. placed (suc i) l .begins ∙ end-before s front last i (omega arith);
       ends = ap (λ (r : Row). r .end) (last-at s front last) ∙ omega arith;
       owners = λ i l. owned-all s front last i _ (omega arith) (placed i l .owned);
+      libraries = λ i l. placed i l .library-apart;
       some = omega arith;
       counted = omega arith;
       fits = f;

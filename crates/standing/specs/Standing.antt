@@ -89,6 +89,8 @@ pub record Standing (s : List ℕ) (rows : List Row) : Type 0 where
   pub next : (i : ℕ) → suc i < length rows → getD rows (suc i) blank .offset ≡ getD rows i blank .end
   pub ends : getD rows (length rows - 1) blank .end ≡ length s
   pub owners : (i : ℕ) → i < length rows → Owned rows i (getD rows i blank .owner)
+  -- a library fills no slot
+  pub libraries : (i : ℕ) → i < length rows → getD rows i blank .kind ≡ 12 → getD rows i blank .slot ≡ 0
   pub some : 0 < length rows
   pub counted : length rows ≤ length s
   pub fits : length s ≤ 16777216

@@ -48,6 +48,7 @@ pub record Placed (s : List ℕ) (before : List Row) (r : Row) : Type 0 where
   pub headed : length before ≡ 0 → r .kind ≡ 0
   pub begins : r .offset ≡ endOf before
   pub owned : Owned before (length before) (r .owner)
+  pub library-apart : r .kind ≡ 12 → r .slot ≡ 0
 
 -- each row follows those before it, and none is the end record
 abbrev pub Going : List ℕ → List Row → Type 0
@@ -167,12 +168,12 @@ module _ (s : List ℕ) (room : ℕ) (st : State) (w : Gathered s st) where
       let x = open-more (st .rows) r (st .stack) (w .owners) in
       add-gathered r (filled (st .stack) k t) p n (close-owners (st .rows ++ (r ∷ [])) (filledBy (st .stack .cur) k t) (st .stack .below) (x .0) (x .1))
 
-  module _ (kind : ℕ) (h : Head) (a : (o l : ℕ) → Owned (st .rows) (length (st .rows)) o → Placed s (st .rows) (rowOwned st kind h o l)) where
-    own : Placed s (st .rows) (rowIn st kind h)
-    own = a (st .stack .cur .owner) (st .stack .cur .count - st .stack .cur .left) (w .owners .0)
+  module _ (kind : ℕ) (h : Head) (a : (o l : ℕ) → Owned (st .rows) (length (st .rows)) o → (kind ≡ 12 → l ≡ 0) → Placed s (st .rows) (rowOwned st kind h o l)) where
+    own : (kind ≡ 12 → ⊥) → Placed s (st .rows) (rowIn st kind h)
+    own x = a (st .stack .cur .owner) (st .stack .cur .count - st .stack .cur .left) (w .owners .0) (λ e. absurd (x e))
 
-    slots-gathered : (k : ℕ) (t : Typed) → (kind ≡ 11 → ⊥) → NextGathered s (add room st (rowIn st kind h) (filled (st .stack) k t))
-    slots-gathered k t n = fill-gathered (rowIn st kind h) k t own n
+    slots-gathered : (k : ℕ) (t : Typed) → (kind ≡ 11 → ⊥) → (kind ≡ 12 → ⊥) → NextGathered s (add room st (rowIn st kind h) (filled (st .stack) k t))
+    slots-gathered k t n x = fill-gathered (rowIn st kind h) k t (own x) n
 
     open-owners : isObject kind ≡ true → (t : Typed) → OpenOwners (st .rows ++ (rowIn st kind h ∷ [])) (opened (st .stack) (length (st .rows) + 1) h t)
     unfolding opened
@@ -185,25 +186,25 @@ module _ (s : List ℕ) (room : ℕ) (st : State) (w : Gathered s st) where
     object-gathered : isObject kind ≡ true → (t : Typed) → NextGathered s (object room st kind h t)
     unfolding object
     object-gathered i t =
-        picked (NextGathered s) (eqb (h .slots) 0) (λ z. slots-gathered 1 t (not-kind isObject 11 refl kind i))
+        picked (NextGathered s) (eqb (h .slots) 0) (λ z. slots-gathered 1 t (not-kind isObject 11 refl kind i) (not-kind isObject 12 refl kind i))
         (λ z. picked (NextGathered s) (ltb (length (st .stack .below)) 64)
-        (λ d. add-gathered (rowIn st kind h) (opened (st .stack) (length (st .rows) + 1) h t) own (not-kind isObject 11 refl kind i) (open-owners i t))
+        (λ d. add-gathered (rowIn st kind h) (opened (st .stack) (length (st .rows) + 1) h t) (own (not-kind isObject 12 refl kind i)) (not-kind isObject 11 refl kind i) (open-owners i t))
         (λ d. tt))
 
-    over-gathered : (p : Passed) → (kind ≡ 11 → ⊥) → NextGathered s (runOver room st kind h p)
-    over-gathered (O.Over t) n = slots-gathered (h .count) t n
-    over-gathered O.Crossed n = tt
+    over-gathered : (p : Passed) → (kind ≡ 11 → ⊥) → (kind ≡ 12 → ⊥) → NextGathered s (runOver room st kind h p)
+    over-gathered (O.Over t) n x = slots-gathered (h .count) t n x
+    over-gathered O.Crossed n x = tt
 
-    run-gathered : (kind ≡ 11 → ⊥) → NextGathered s (nullRun s room st kind h)
+    run-gathered : (kind ≡ 11 → ⊥) → (kind ≡ 12 → ⊥) → NextGathered s (nullRun s room st kind h)
     unfolding nullRun
-    run-gathered n =
+    run-gathered n x =
         picked (NextGathered s) (ltb (st .stack .cur .left) (h .count)) (λ t. tt)
-        (λ t. over-gathered (passedOf s (st .stack .cur .typed) (h .count)) n)
+        (λ t. over-gathered (passedOf s (st .stack .cur .typed) (h .count)) n x)
 
     apart-gathered : (kind ≡ 11 → ⊥) → NextGathered s (add room st (rowApart st kind h) (st .stack))
     apart-gathered n =
         let r = rowApart st kind h in
-        add-gathered r (st .stack) (a 0 0 (apart refl)) n (open-more (st .rows) r (st .stack) (w .owners))
+        add-gathered r (st .stack) (a 0 0 (apart refl) (λ e. refl)) n (open-more (st .rows) r (st .stack) (w .owners))
 
     end-gathered : kind ≡ 11 → NextGathered s (ending room st h)
     unfolding ending
@@ -214,7 +215,7 @@ module _ (s : List ℕ) (room : ℕ) (st : State) (w : Gathered s st) where
           last = rowIn st 11 h;
           parts = refl;
           each = w .each;
-          placed = subst (λ (k : ℕ). Placed s (st .rows) (rowIn st k h)) e own;
+          placed = subst (λ (k : ℕ). Placed s (st .rows) (rowIn st k h)) e (own (λ q. omega arith));
           kind = refl;
           end = refl;
         })
@@ -225,17 +226,17 @@ module _ (s : List ℕ) (room : ℕ) (st : State) (w : Gathered s st) where
     unfolding act
     good-gathered =
         picked (NextGathered s) (isObject kind) (λ t. object-gathered t (moved s (st .stack .cur .typed)))
-        (λ t. picked (NextGathered s) (eqb kind 13 || eqb kind 14) (λ u. run-gathered (not-kind (λ k. eqb k 13 || eqb k 14) 11 refl kind u))
+        (λ t. picked (NextGathered s) (eqb kind 13 || eqb kind 14) (λ u. run-gathered (not-kind (λ k. eqb k 13 || eqb k 14) 11 refl kind u) (not-kind (λ k. eqb k 13 || eqb k 14) 12 refl kind u))
         (λ u. picked (NextGathered s) (eqb kind 12) (λ v. apart-gathered (not-kind (λ k. eqb k 12) 11 refl kind v))
         (λ v. picked (NextGathered s) (eqb kind 11) (λ x. end-gathered (eqb-true kind 11 x))
-        (λ x. slots-gathered 1 (moved s (st .stack .cur .typed)) (eqb-false kind 11 x)))))
+        (λ x. slots-gathered 1 (moved s (st .stack .cur .typed)) (eqb-false kind 11 x) (eqb-false kind 12 v)))))
 
   -- a kind that is the header's exactly where no row stands before it
   module _ (v : Where) (z : (k : ℕ) → allowed v k ≡ true → (k ≡ 0 → length (st .rows) ≡ 0) × (length (st .rows) ≡ 0 → k ≡ 0)) where
     act-gathered : (kind : ℕ) → kindAt s v (st .at) ≡ K.Taken kind → (x : Heading) → headingAt s (st .rows) kind (st .at) ≡ x
         → NextGathered s (act s room st kind x)
     unfolding act
-    act-gathered kind q (H.Fields h) e = good-gathered kind h (λ o l x.
+    act-gathered kind q (H.Fields h) e = good-gathered kind h (λ o l x y.
         let b = kind-byte s v (st .at) kind q in
         let f = z kind (b .fits) in
         record {
@@ -255,6 +256,7 @@ module _ (s : List ℕ) (room : ℕ) (st : State) (w : Gathered s st) where
           headed = f .1;
           begins = sym (w .place);
           owned = x;
+          library-apart = y;
         })
     act-gathered kind q (H.Bad f) e = tt
 
@@ -270,14 +272,15 @@ module _ (s : List ℕ) (room : ℕ) (st : State) (w : Gathered s st) where
   module _ (some : 0 < length (st .rows)) where
     value-gathered : (c : PrimitiveCode) (v : Field) → valueAt s c (st .at) ≡ v → NextGathered s (onValue s room st v)
     value-gathered c (F.End end) e =
-        slots-gathered 32 (valueHead end) (λ o l x. record {
+        slots-gathered 32 (valueHead end) (λ o l x y. record {
           said = a-value (record { code = c; kind = refl; reads = e; no-id = refl; no-link = refl; no-count = refl });
           known = value refl;
           header-first = λ q. absurd (omega arith);
           headed = λ q. absurd (omega arith);
           begins = sym (w .place);
           owned = x;
-        }) 1 (moved s (st .stack .cur .typed)) (λ q. omega arith)
+          library-apart = y;
+        }) 1 (moved s (st .stack .cur .typed)) (λ q. omega arith) (λ q. omega arith)
     value-gathered c (F.Fault f) e = tt
 
     slot-record : (v : Where) → (allowed v 0 ≡ false) → NextGathered s (recordStep s room st v)
