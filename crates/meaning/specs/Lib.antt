@@ -16,3 +16,4 @@ pub mod Entered
 pub mod Needs
 pub mod Stamps
 pub mod LibrariesOut
+pub mod Small
