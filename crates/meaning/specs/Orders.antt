@@ -47,7 +47,7 @@ module _ (rows : List Row) where
   order-le i j h =
       let a : i + (j - i) ≡ j = omega arith in
       let e : objectsIn (take j rows) ≡ objectsIn (take i rows) + objectsIn (take (j - i) (drop i rows)) =
-          ap (λ (n : ℕ). objectsIn (take n rows)) (sym a) ∙ (ap objectsIn (take-add i (j - i) rows) ∙ objects-append (take i rows) (take (j - i) (drop i rows))) in
+      ap (λ (n : ℕ). objectsIn (take n rows)) (sym a) ∙ (ap objectsIn (take-add i (j - i) rows) ∙ objects-append (take i rows) (take (j - i) (drop i rows))) in
       omega arith
 
 -- ---- nodes of a row
@@ -194,6 +194,14 @@ class-is-object k e = class-kind k e (λ (n : ℕ). isObject n ≡ true) refl re
 unfoldable pub itemNeeds : List ℕ → List Row → Row → List (List ℕ)
 itemNeeds s rows r = detailNeeds (detailFrom s rows (getD s (itemType s r) 0) (itemType s r + 1))
 
+-- row i is the first of its class
+abbrev pub isNew : List ℕ → List Row → ℕ → Row → Bool
+isNew s rows i r = pick (isClass (r .kind)) (eqb (classFirst s rows (classFrom s rows r)) (i + 1)) false
+
+-- the libraries that row i needs
+unfoldable pub rowNeeds : List ℕ → List Row → ℕ → Row → List (List ℕ)
+rowNeeds s rows i r = pick (isNew s rows i r) (classNeeds (classFrom s rows r)) (pick (eqb (r .kind) 7) (itemNeeds s rows r) [])
+
 -- a row's kind, and what was written after it
 pub data Adds (s : List ℕ) (rows : List Row) (w : Progress) (r : Row) : Type 0 where
   of-class-row : r .kind ≡ 1 → afterRow s rows w r ≡ afterWhat w (anObject (classFrom s rows (getD rows (r .link - 1) blank))) → Adds s rows w r
@@ -233,8 +241,8 @@ module _ (s : List ℕ) (rows : List Row) (w : Progress) (r : Row) where
     where
       go : (p q x y : Bool)
           → pick p w (pick q w (afterWhat w
-              (pick x (aPrimitive (codeFrom s (r .offset + 1)) (part s (r .offset + 2) (r .end - (r .offset + 2))))
-              (pick y (aReference (orderOf rows (r .link))) (aValue (part s (r .offset) (r .end - r .offset))))))) ≡ w
+          (pick x (aPrimitive (codeFrom s (r .offset + 1)) (part s (r .offset + 2) (r .end - (r .offset + 2))))
+          (pick y (aReference (orderOf rows (r .link))) (aValue (part s (r .offset) (r .end - r .offset))))))) ≡ w
       go true q x y = refl
       go false true x y = refl
       go false false true y = refl
@@ -305,7 +313,7 @@ module _ (s : List ℕ) (rows : List Row) where
       let a : i < length rows = omega arith in
       let e : progressTo s rows i .count ≡ orderOf rows i = progress-count i (omega arith) in
       let f : progressTo s rows (suc i) .count ≡ progressTo s rows i .count + pick (isObject (getD rows i blank .kind)) 1 0 =
-          ap (λ (w : Progress). w .count) (progress-next s rows i a) ∙ row-count (progressTo s rows i) (getD rows i blank) in
+      ap (λ (w : Progress). w .count) (progress-next s rows i a) ∙ row-count (progressTo s rows i) (getD rows i blank) in
       let g : orderOf rows (suc i) ≡ orderOf rows i + pick (isObject (getD rows i blank .kind)) 1 0 = order-next rows i a in
       f ∙ (ap (λ (n : ℕ). n + pick (isObject (getD rows i blank .kind)) 1 0) e ∙ sym g)
 
@@ -390,10 +398,10 @@ module _ (s : List ℕ) (rows : List Row) where
       either (leb (classFirst s rows c) i)
       (λ e. let a : classFirst s rows c ≤ i = leb-true (classFirst s rows c) i e in number-known (suc i) c (omega arith) ∙ sym (number-known i c a))
       (λ e.
-        let a : i < classFirst s rows c = leb-false (classFirst s rows c) i e in
-        let b : suc i < classFirst s rows c = either (eqb (classFirst s rows c) (suc i)) (λ q. absurd (h (eqb-true (classFirst s rows c) (suc i) q)))
-            (λ q. let z = eqb-false (classFirst s rows c) (suc i) q in omega arith) in
-        number-later (suc i) c b ∙ sym (number-later i c a))
+      let a : i < classFirst s rows c = leb-false (classFirst s rows c) i e in
+      let b : suc i < classFirst s rows c = either (eqb (classFirst s rows c) (suc i)) (λ q. absurd (h (eqb-true (classFirst s rows c) (suc i) q)))
+      (λ q. let z = eqb-false (classFirst s rows c) (suc i) q in omega arith) in
+      number-later (suc i) c b ∙ sym (number-later i c a))
 
   -- a table that has the classes of the rows before i
   pub record Known (i : ℕ) (es : List (ℕ × Class)) : Type 0 where
@@ -432,9 +440,9 @@ module _ (s : List ℕ) (rows : List Row) where
     known-class i es t c h e =
         either (leb (classFirst s rows c) i)
         (λ q.
-          let a : orderOf rows (classFirst s rows c) ≡ 0 = sym (number-known i c (leb-true (classFirst s rows c) i q)) ∙ (sym (t .number c) ∙ e) in
-          let b = first-order c h in
-          absurd (omega arith))
+        let a : orderOf rows (classFirst s rows c) ≡ 0 = sym (number-known i c (leb-true (classFirst s rows c) i q)) ∙ (sym (t .number c) ∙ e) in
+        let b = first-order c h in
+        absurd (omega arith))
         (λ q. leb-false (classFirst s rows c) i q)
 
     known-new : (i : ℕ) (es : List (ℕ × Class)) (n : ℕ) → Known i es → i < length rows → isClass (getD rows i blank .kind) ≡ true
@@ -467,7 +475,7 @@ module _ (s : List ℕ) (rows : List Row) where
             → pick (eqb (numberIn (sameClass c) es) 0) (pick (sameClass c (classAt i)) (suc n) 0) (numberIn (sameClass c) es) ≡ classNumber (suc i) c
         number c true q =
             subst (λ (d : Class). pick (eqb (numberIn (sameClass d) es) 0) (pick (sameClass d (classAt i)) (suc n) 0) (numberIn (sameClass d) es) ≡ classNumber (suc i) d)
-              (sym (same-true c (classAt i) q)) here
+            (sym (same-true c (classAt i) q)) here
         number c false q =
             rw q (keep (numberIn (sameClass c) es) ∙ (t .number c ∙ sym (number-stays i c (λ e. differ (sym (first-row c i e .2) ∙ q)))))
 
@@ -503,3 +511,105 @@ module _ (s : List ℕ) (rows : List Row) where
         let n : numberIn (sameClass (classAt j)) es ≡ orderOf rows (classFirst s rows (classAt j)) = t .number (classAt j) ∙ number-known i (classAt j) f in
         let p : 0 < numberIn (sameClass (classAt j)) es = omega arith in
         subst (λ (m : ℕ). 0 < numberIn (sameClass (classAt m)) es) (sym a) p
+
+    -- where row i is not the first of its class, the class is known
+    row-known : (i : ℕ) (es : List (ℕ × Class)) → Known i es → (0 < numberIn (sameClass (classAt i)) es) → (c : Class) → classFirst s rows c ≡ suc i → ⊥
+    row-known i es t h c e =
+        let d = first-here i c e in
+        let a : classFirst s rows (classAt i) ≡ suc i = subst (λ (x : Class). classFirst s rows x ≡ suc i) d e in
+        let b : numberIn (sameClass (classAt i)) es ≡ 0 = t .number (classAt i) ∙ number-later i (classAt i) (omega arith) in
+        omega arith
+
+    module _ (st : Stands s rows) where
+      -- the classes of the rows before i, each by the order of its first object
+      pub known : (i : ℕ) → i ≤ length rows → Known i (progressTo s rows i .classes)
+      known zero h = subst (λ (w : Progress). Known 0 (w .classes)) (sym (progress-none s rows)) known-none
+      known (suc i) h = go (known i (omega arith)) (adds s rows (progressTo s rows i) (getD rows i blank))
+        where
+          w : Progress
+          w = progressTo s rows i
+
+          inside : i < length rows
+          inside = omega arith
+
+          into : (v : Progress) → afterRow s rows w (getD rows i blank) ≡ v → Known (suc i) (v .classes) → Known (suc i) (progressTo s rows (suc i) .classes)
+          into v e k = subst (λ (x : Progress). Known (suc i) (x .classes)) (sym (progress-next s rows i inside ∙ e)) k
+
+          go : Known i (w .classes) → Adds s rows w (getD rows i blank) → Known (suc i) (progressTo s rows (suc i) .classes)
+          go t (of-class-row k e) =
+              let d : Class = classFrom s rows (getD rows (getD rows i blank .link - 1) blank) in
+              let p = id-known i (getD rows i blank) inside (st .each i inside) k (w .classes) t in
+              into (counted w) (e ∙ object-old w d p) (known-stays i (w .classes) t (no-class-here i (ap isClass k)))
+          go t (of-own-class k e) =
+              either (eqb (numberIn (sameClass (classAt i)) (w .classes)) 0)
+              (λ q.
+              let z = eqb-true (numberIn (sameClass (classAt i)) (w .classes)) 0 q in
+              into (record { count = suc (w .count); classes = w .classes ++ ((suc (w .count), classAt i) ∷ []); libraries = allEntered (classNeeds (classAt i)) (w .libraries) })
+              (e ∙ object-new w (classAt i) z) (known-new i (w .classes) (w .count) t inside k z (progress-count s rows i (omega arith))))
+              (λ q.
+              let z = eqb-false (numberIn (sameClass (classAt i)) (w .classes)) 0 q in
+              let p : 0 < numberIn (sameClass (classAt i)) (w .classes) = omega arith in
+              into (counted w) (e ∙ object-old w (classAt i) p) (known-stays i (w .classes) t (row-known i (w .classes) t p)))
+          go t (of-items k e) = into _ e (known-stays i (w .classes) t (no-class-here i (ap isClass k)))
+          go t (of-no-class o c a e) = into _ e (known-stays i (w .classes) t (no-class-here i c))
+          go t (no-object o e) =
+              into _ e (known-stays i (w .classes) t (no-class-here i (either (isClass (getD rows i blank .kind)) (λ c. differ (sym (class-is-object (getD rows i blank .kind) c) ∙ o)) (λ c. c))))
+
+      -- the number of a class before row i
+      pub class-known : (i : ℕ) → i ≤ length rows → (c : Class) → classFirst s rows c ≤ i
+          → numberIn (sameClass c) (progressTo s rows i .classes) ≡ orderOf rows (classFirst s rows c)
+      class-known i h c k = known i h .number c ∙ number-known i c k
+
+      pub class-later : (i : ℕ) → i ≤ length rows → (c : Class) → i < classFirst s rows c → numberIn (sameClass c) (progressTo s rows i .classes) ≡ 0
+      class-later i h c k = known i h .number c ∙ number-later i c k
+
+      -- the libraries, each entered by the first row that needs it
+      pub progress-libraries : (i : ℕ) → i < length rows
+          → progressTo s rows (suc i) .libraries ≡ allEntered (rowNeeds s rows i (getD rows i blank)) (progressTo s rows i .libraries)
+      unfolding rowNeeds allEntered
+      progress-libraries i h =
+          ap (λ (v : Progress). v .libraries) (progress-next s rows i h) ∙ go (known i (omega arith)) (adds s rows (progressTo s rows i) (getD rows i blank))
+        where
+          w : Progress
+          w = progressTo s rows i
+
+          r : Row
+          r = getD rows i blank
+
+          none : isClass (r .kind) ≡ false → eqb (r .kind) 7 ≡ false → (v : Progress) → afterRow s rows w r ≡ v → v .libraries ≡ w .libraries
+              → afterRow s rows w r .libraries ≡ allEntered (rowNeeds s rows i r) (w .libraries)
+          none c a v e f = rw (c, a) (ap (λ (x : Progress). x .libraries) e ∙ f)
+
+          new : isClass (r .kind) ≡ true → afterRow s rows w r ≡ afterWhat w (anObject (classAt i)) → Known i (w .classes)
+              → classFirst s rows (classAt i) ≡ i + 1
+              → afterRow s rows w r .libraries ≡ allEntered (rowNeeds s rows i r) (w .libraries)
+          new c e t f =
+              let z : numberIn (sameClass (classAt i)) (w .classes) ≡ 0 = t .number (classAt i) ∙ number-later i (classAt i) (omega arith) in
+              rw (c, eq-eqb (classFirst s rows (classAt i)) (i + 1) f) (ap (λ (x : Progress). x .libraries) (e ∙ object-new w (classAt i) z))
+
+          old : isClass (r .kind) ≡ true → eqb (r .kind) 7 ≡ false → afterRow s rows w r ≡ afterWhat w (anObject (classAt i)) → Known i (w .classes)
+              → (classFirst s rows (classAt i) ≡ i + 1 → ⊥)
+              → afterRow s rows w r .libraries ≡ allEntered (rowNeeds s rows i r) (w .libraries)
+          old c a e t f =
+              let b = first-before i h c in
+              let b1 : classFirst s rows (classAt i) ≤ suc i = b .1 in
+              let k : classFirst s rows (classAt i) ≤ i = omega arith in
+              let n : numberIn (sameClass (classAt i)) (w .classes) ≡ orderOf rows (classFirst s rows (classAt i)) = t .number (classAt i) ∙ number-known i (classAt i) k in
+              let o = first-order (classAt i) (b .0) in
+              let p : 0 < numberIn (sameClass (classAt i)) (w .classes) = omega arith in
+              rw (c, ne-eqb (classFirst s rows (classAt i)) (i + 1) f, a) (ap (λ (x : Progress). x .libraries) (e ∙ object-old w (classAt i) p))
+
+          go : Known i (w .classes) → Adds s rows w r → afterRow s rows w r .libraries ≡ allEntered (rowNeeds s rows i r) (w .libraries)
+          go t (of-class-row k e) =
+              let d : Class = classFrom s rows (getD rows (r .link - 1) blank) in
+              none (ap isClass k) (ap (λ (n : ℕ). eqb n 7) k) (counted w) (e ∙ object-old w d (id-known i r h (st .each i h) k (w .classes) t)) refl
+          go t (of-own-class k e) =
+              let f : ℕ = classFirst s rows (classAt i) in
+              either (eqb f (i + 1)) (λ q. new k e t (eqb-true f (i + 1) q))
+              (λ q. old k (class-kind (r .kind) k (λ (n : ℕ). eqb n 7 ≡ false) refl refl) e t (eqb-false f (i + 1) q))
+          go t (of-items k e) =
+              rw (ap isClass k, ap (λ (n : ℕ). eqb n 7) k) (ap (λ (x : Progress). x .libraries) e)
+          go t (of-no-class o c a e) = none c a (counted w) e refl
+          go t (no-object o e) =
+              none (either (isClass (r .kind)) (λ c. differ (sym (class-is-object (r .kind) c) ∙ o)) (λ c. c))
+              (either (eqb (r .kind) 7) (λ c. differ (sym (ap isObject (eqb-true (r .kind) 7 c)) ∙ o)) (λ c. c)) w e refl
