@@ -2,3 +2,4 @@
 pub mod Stands
 pub mod Marked
 pub mod Orders
+pub mod Runs

@@ -175,7 +175,7 @@ neither : (p q : Bool) → (p || q) ≡ false → (p ≡ false) × (q ≡ false)
 neither true q e = (e, either q (λ f. f ∙ e) (λ f. f))
 neither false q e = (refl, e)
 
-differ : {X : Type 0} → true ≡ false → X
+pub differ : {X : Type 0} → true ≡ false → X
 differ e = absurd (let z : _≡_ {A = ℕ} 0 1 = cc in omega arith)
 
 -- kind 4 or 5
