@@ -101,6 +101,24 @@ records-plain w (anObjectArray n) h = just refl
 records-plain w (aStringArray n) h = just refl
 records-plain w (aValue v) h = just refl
 
+-- a row says a null only where it is a row of nulls
+pub what-some : (s : List ℕ) (rows : List Row) (r : Row) → whatFrom s rows r ≡ aNull → ⊥
+unfolding whatFrom arrayFrom
+what-some s rows r =
+    let P : What → Type 0 = λ (a : What). a ≡ aNull → ⊥ in
+    let k = r .kind in
+    picked P (eqb k 1) (λ e q. let z : _≡_ {A = ℕ} 0 1 = cc in omega arith)
+    (λ e. picked P (eqb k 4) (λ e q. let z : _≡_ {A = ℕ} 0 1 = cc in omega arith)
+    (λ e. picked P (eqb k 5) (λ e q. let z : _≡_ {A = ℕ} 0 1 = cc in omega arith)
+    (λ e. picked P (eqb k 6) (λ e q. let z : _≡_ {A = ℕ} 0 1 = cc in omega arith)
+    (λ e. picked P (eqb k 7) (λ e q. let z : _≡_ {A = ℕ} 0 1 = cc in omega arith)
+    (λ e. picked P (eqb k 8) (λ e q. let z : _≡_ {A = ℕ} 0 1 = cc in omega arith)
+    (λ e. picked P (eqb k 9) (λ e q. let z : _≡_ {A = ℕ} 0 1 = cc in omega arith)
+    (λ e. picked P (eqb k 15) (λ e q. let z : _≡_ {A = ℕ} 0 1 = cc in omega arith)
+    (λ e. picked P (eqb k 16) (λ e q. let z : _≡_ {A = ℕ} 0 1 = cc in omega arith)
+    (λ e. picked P (eqb k 17) (λ e q. let z : _≡_ {A = ℕ} 0 1 = cc in omega arith)
+    (λ e q. let z : _≡_ {A = ℕ} 0 1 = cc in omega arith))))))))))
+
 -- ---- nulls are gathered
 
 -- n nulls of one owner
@@ -206,3 +224,88 @@ module _ (g : Gathered) (r : Row) (a : isNulls (r .kind) ≡ false) (b : eqb (r 
   pub run-other : runAfter g r ≡ noneYet
   unfolding runAfter
   run-other = rw (b, a)
+
+-- the run after a row of nulls
+abbrev pub nullsAfter : List Row → Run → Row → Run
+nullsAfter rows w r =
+    let o = orderOf rows (r .owner) in
+    runBy o (pick (eqb o (w .owner)) (w .count + r .count) (r .count))
+
+module _ (s : List ℕ) (rows : List Row) (r : Row) (g : Gathered) (w : Run) (m : Match rows g w) where
+  -- a row of nulls, at least one
+  module _ (e : isNulls (r .kind) ≡ true) (some : 0 < r .count) (owns : Owner rows (r .owner)) where
+    nulls-stay : isPassed r ≡ false
+    nulls-stay = rw (nulls-other (r .kind) e, e, ne-eqb (r .count) 0 (λ z. omega arith))
+
+    same-run : eqb (orderOf rows (r .owner)) (w .owner) ≡ eqb (r .owner) (g .owner)
+    same-run = ap (eqb (orderOf rows (r .owner))) (m .owner) ∙ same-owner rows (r .owner) (g .owner) owns (m .owns)
+
+    pub null-match : Match rows (runAfter g r) (nullsAfter rows w r)
+    unfolding runAfter
+    null-match =
+        rw (nulls-stay, e)
+          record {
+            count = ap (λ (t : Bool). pick t (w .count + r .count) (r .count)) same-run
+                ∙ ap (λ (n : ℕ). pick (eqb (r .owner) (g .owner)) (n + r .count) (r .count)) (m .count);
+            owner = refl;
+            owns = owns;
+          }
+
+    nulls-before : beforeOut g r ≡ encs (pick (eqb (orderOf rows (r .owner)) (w .owner)) [] (runOf (w .count)))
+    unfolding beforeOut runOut encs
+    nulls-before = rw (nulls-stay, e, same-run, m .count) (go (eqb (r .owner) (g .owner)))
+      where
+        go : (t : Bool) → pick t [] (encs (runOf (g .count))) ≡ encs (pick t [] (runOf (g .count)))
+        go true = refl
+        go false = refl
+
+    pub null-row : (p : Progress) (ns : List Node)
+        → encs (squeeze w (pack p (nodesOf s rows r ++ ns))) ≡ beforeOut g r ++ encs (squeeze (nullsAfter rows w r) (pack p ns))
+    null-row p ns = go (r .count) refl
+      where
+        o : ℕ
+        o = orderOf rows (r .owner)
+
+        t : Bool
+        t = eqb o (w .owner)
+
+        nodes : nodesOf s rows r ≡ spread (r .count) o (r .slot)
+        nodes = nodes-nulls s rows r (nulls-speak (r .kind) e) e
+
+        go : (n : ℕ) → r .count ≡ n → encs (squeeze w (pack p (nodesOf s rows r ++ ns))) ≡ beforeOut g r ++ encs (squeeze (nullsAfter rows w r) (pack p ns))
+        go zero q = absurd (omega arith)
+        go (suc k) q =
+            ap (λ (xs : List Node). encs (squeeze w (pack p (xs ++ ns)))) (nodes ∙ ap (λ (n : ℕ). spread n o (r .slot)) q)
+            ∙ (ap (λ (xs : List Standing). encs (squeeze w xs)) (pack-nulls p (suc k) o (r .slot) ns)
+            ∙ (ap encs (squeeze-run w k o (pack p ns))
+            ∙ (encs-append (pick t [] (runOf (w .count))) (squeeze (runBy o (pick t (w .count + suc k) (suc k))) (pack p ns))
+            ∙ (ap (λ (x : List ℕ). x ++ encs (squeeze (runBy o (pick t (w .count + suc k) (suc k))) (pack p ns))) (sym nulls-before)
+            ∙ ap (λ (n : ℕ). beforeOut g r ++ encs (squeeze (runBy o (pick t (w .count + n) n)) (pack p ns))) (sym q)))))
+
+  -- nulls that were gathered, before a row that ends them
+  run-out : runOut (g .count) ≡ encs (runOf (w .count))
+  unfolding runOut
+  run-out = ap (λ (n : ℕ). encs (runOf n)) (sym (m .count))
+
+  -- the end
+  pub end-row : (x : Row) → isNulls (x .kind) ≡ false → eqb (x .kind) 12 ≡ false → beforeOut g x ≡ encs (squeeze w [])
+  unfolding squeeze
+  end-row x a b = before-other g x a b ∙ run-out
+
+  -- any other row x that has row r's kind
+  pub other-row : (x : Row) → x .kind ≡ r .kind → isSilent (r .kind) ≡ false → isNulls (r .kind) ≡ false → (p : Progress) (ns : List Node)
+      → encs (squeeze w (pack p (nodesOf s rows r ++ ns)))
+      ≡ beforeOut g x ++ (encs (recordsOf p (whatFrom s rows r)) ++ encs (squeeze noRun (pack (afterWhat p (whatFrom s rows r)) ns)))
+  unfolding pack
+  other-row x k a b p ns =
+      let c : What = whatFrom s rows r in
+      let rest : List Standing = pack (afterWhat p c) ns in
+      let o : ℕ = orderOf rows (r .owner) in
+      ap (λ (xs : List Node). encs (squeeze w (pack p (xs ++ ns)))) (nodes-one s rows r a b)
+      ∙ (ap encs (squeeze-records w o (records-plain p c (what-some s rows r)) rest)
+      ∙ (encs-append (runOf (w .count)) (recordsOf p c ++ squeeze noRun rest)
+      ∙ (ap (λ (xs : List ℕ). encs (runOf (w .count)) ++ xs) (encs-append (recordsOf p c) (squeeze noRun rest))
+      ∙ ap (λ (xs : List ℕ). xs ++ (encs (recordsOf p c) ++ encs (squeeze noRun rest))) (sym (before-other g x (ap isNulls k ∙ b) (ap (λ (n : ℕ). eqb n 12) k ∙ speaks) ∙ run-out)))))
+    where
+      speaks : eqb (r .kind) 12 ≡ false
+      speaks = either (eqb (r .kind) 12) (λ e. differ (sym (ap isSilent (eqb-true (r .kind) 12 e)) ∙ a)) (λ e. e)
