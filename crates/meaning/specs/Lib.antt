@@ -3,3 +3,4 @@ pub mod Stands
 pub mod Marked
 pub mod Orders
 pub mod Runs
+pub mod Traversal

@@ -86,38 +86,49 @@ plain-object zero w c =
     plain-libraries (classNeeds c) (w .libraries) (classBy ls (suc (w .count)) c (c .from) ∷ []) (plain-class ls (suc (w .count)) c (c .from))
 plain-object (suc n) w c = just refl
 
+abbrev pub isNothing : What → Bool
+isNothing (anObject c) = false
+isNothing (aString t) = false
+isNothing (anArray type lengths item items) = false
+isNothing (aPrimitive code v) = false
+isNothing (aReference target) = false
+isNothing aNull = true
+isNothing (aPrimitiveArray n code items) = false
+isNothing (anObjectArray n) = false
+isNothing (aStringArray n) = false
+isNothing (aValue v) = false
+
 -- the records of everything but a null
-pub records-plain : (w : Progress) (a : What) → (a ≡ aNull → ⊥) → Plain (recordsOf w a)
+pub records-plain : (w : Progress) (a : What) → isNothing a ≡ false → Plain (recordsOf w a)
 unfolding recordsOf
 records-plain w (anObject c) h = plain-object (numberIn (sameClass c) (w .classes)) w c
 records-plain w (aString t) h = just refl
-records-plain w (anArray type lengths item items) h =
-    plain-libraries (detailNeeds item) (w .libraries) _ (just refl)
+records-plain w (anArray type lengths item items) h = plain-libraries (detailNeeds item) (w .libraries) _ (just refl)
 records-plain w (aPrimitive code v) h = just refl
 records-plain w (aReference target) h = just refl
-records-plain w aNull h = absurd (h refl)
+records-plain w aNull h = differ h
 records-plain w (aPrimitiveArray n code items) h = just refl
 records-plain w (anObjectArray n) h = just refl
 records-plain w (aStringArray n) h = just refl
 records-plain w (aValue v) h = just refl
 
--- a row says a null only where it is a row of nulls
-pub what-some : (s : List ℕ) (rows : List Row) (r : Row) → whatFrom s rows r ≡ aNull → ⊥
+-- only a row of nulls says a null
+pub what-some : (s : List ℕ) (rows : List Row) (r : Row) → isNothing (whatFrom s rows r) ≡ false
 unfolding whatFrom arrayFrom
 what-some s rows r =
-    let P : What → Type 0 = λ (a : What). a ≡ aNull → ⊥ in
+    let P : What → Type 0 = λ (a : What). isNothing a ≡ false in
     let k = r .kind in
-    picked P (eqb k 1) (λ e q. let z : _≡_ {A = ℕ} 0 1 = cc in omega arith)
-    (λ e. picked P (eqb k 4) (λ e q. let z : _≡_ {A = ℕ} 0 1 = cc in omega arith)
-    (λ e. picked P (eqb k 5) (λ e q. let z : _≡_ {A = ℕ} 0 1 = cc in omega arith)
-    (λ e. picked P (eqb k 6) (λ e q. let z : _≡_ {A = ℕ} 0 1 = cc in omega arith)
-    (λ e. picked P (eqb k 7) (λ e q. let z : _≡_ {A = ℕ} 0 1 = cc in omega arith)
-    (λ e. picked P (eqb k 8) (λ e q. let z : _≡_ {A = ℕ} 0 1 = cc in omega arith)
-    (λ e. picked P (eqb k 9) (λ e q. let z : _≡_ {A = ℕ} 0 1 = cc in omega arith)
-    (λ e. picked P (eqb k 15) (λ e q. let z : _≡_ {A = ℕ} 0 1 = cc in omega arith)
-    (λ e. picked P (eqb k 16) (λ e q. let z : _≡_ {A = ℕ} 0 1 = cc in omega arith)
-    (λ e. picked P (eqb k 17) (λ e q. let z : _≡_ {A = ℕ} 0 1 = cc in omega arith)
-    (λ e q. let z : _≡_ {A = ℕ} 0 1 = cc in omega arith))))))))))
+    picked P (eqb k 1) (λ e. refl)
+    (λ e. picked P (eqb k 4) (λ e. refl)
+    (λ e. picked P (eqb k 5) (λ e. refl)
+    (λ e. picked P (eqb k 6) (λ e. refl)
+    (λ e. picked P (eqb k 7) (λ e. refl)
+    (λ e. picked P (eqb k 8) (λ e. refl)
+    (λ e. picked P (eqb k 9) (λ e. refl)
+    (λ e. picked P (eqb k 15) (λ e. refl)
+    (λ e. picked P (eqb k 16) (λ e. refl)
+    (λ e. picked P (eqb k 17) (λ e. refl)
+    (λ e. refl))))))))))
 
 -- ---- nulls are gathered
 
@@ -179,7 +190,7 @@ unfolding orderOf objectsIn
 match-none rows = record { count = refl; owner = refl; owns = no-owner refl }
 
 -- kind 10, 13 or 14
-nulls-kind : (k : ℕ) → isNulls k ≡ true → (P : ℕ → Type 0) → P 10 → P 13 → P 14 → P k
+pub nulls-kind : (k : ℕ) → isNulls k ≡ true → (P : ℕ → Type 0) → P 10 → P 13 → P 14 → P k
 nulls-kind k e P ten thirteen fourteen =
     either (eqb k 10) (λ a. subst P (sym (eqb-true k 10 a)) ten)
     (λ a. either (eqb k 13) (λ b. subst P (sym (eqb-true k 13 b)) thirteen)
