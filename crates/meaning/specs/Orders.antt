@@ -136,6 +136,19 @@ module _ (s : List ℕ) (rows : List Row) where
       go false true = after-nulls w (r .count) (orderOf rows (r .owner)) (r .slot)
       go false false = refl
 
+  -- the three sorts of rows
+  pub after-silent : (w : Progress) (r : Row) → isSilent (r .kind) ≡ true → afterRow w r ≡ w
+  unfolding afterRow
+  after-silent w r e = rw e
+
+  pub after-run : (w : Progress) (r : Row) → isSilent (r .kind) ≡ false → isNulls (r .kind) ≡ true → afterRow w r ≡ w
+  unfolding afterRow
+  after-run w r e f = rw (e, f)
+
+  pub after-said : (w : Progress) (r : Row) → isSilent (r .kind) ≡ false → isNulls (r .kind) ≡ false → afterRow w r ≡ afterWhat w (whatFrom s rows r)
+  unfolding afterRow
+  after-said w r e f = rw (e, f)
+
   pub after-rows : (w : Progress) (rs : List Row) → afterNodes w (nodesFrom s rows rs) ≡ afterRows w rs
   unfolding afterRows nodesFrom afterNodes
   after-rows w [] = refl
