@@ -1,25 +1,24 @@
 -- Null runs that are gathered row by row are the longest runs of what is said: owners by row and by order are alike, nulls of one owner gather,
 -- and any other record ends a run.
-use Prim.Native.Nat.{ℕ, zero, suc, _+_, _-_, _≤_, _<_}
+use Prim.Native.Nat.{ℕ, zero, suc, _+_, _≤_, _<_}
 use mathlib.Core.Path.{_≡_, refl, sym, ap, subst, _∙_}
 use mathlib.Core.Bool.{Bool, true, false}
-use mathlib.Core.List.{List, [], _∷_, _++_, append-nil, append-assoc}
+use mathlib.Core.List.{List, [], _∷_, _++_, append-assoc}
 use native.Mathlib.Omega.{arith}
-use lib.ListN.{length, getD}
+use lib.ListN.{length}
 use lib.Dec.{eqb, ltb}
-use borrow.Author.Tests.{eqb-true, eqb-false, eq-eqb, ne-eqb, ltb-true, ltb-false}
+use borrow.Author.Tests.{eqb-true, eq-eqb, ne-eqb, ltb-true, ltb-false}
 use Rattle.format.specs.declared.Row.{Row}
 use Rattle.format.specs.Bytes.{pick, sameBytes}
-use Rattle.format.specs.Rows.{blank}
 use Rattle.format.specs.Contents.{Rec, null, library, enc, encs}
-use Rattle.format.specs.Says.{Class, From, theSystem, theLibrary, What, anObject, aString, anArray, aPrimitive, aReference, aNull, aPrimitiveArray, anObjectArray, aStringArray, aValue, Node, node, arrayFrom, orderOf, objectsIn, whatFrom, spread, isNulls, isSilent, nodesOf}
-use Rattle.format.specs.Tidy.{sameClass, numberIn, Progress, Libraries, libraryRecords, allEntered, entered, classNeeds, detailNeeds, classBy, objectBy, recordsOf, afterWhat, Standing, ownedBy, pack, runOf, isNull, Run, noRun, longer, written, waiting, squeeze}
+use Rattle.format.specs.Says.{Class, From, theSystem, theLibrary, What, anObject, aString, anArray, aPrimitive, aReference, aNull, aPrimitiveArray, anObjectArray, aStringArray, aValue, Node, arrayFrom, orderOf, objectsIn, whatFrom, spread, isNulls, isSilent, nodesOf}
+use Rattle.format.specs.Tidy.{sameClass, numberIn, Progress, Libraries, libraryRecords, allEntered, entered, classNeeds, detailNeeds, classBy, objectBy, recordsOf, afterWhat, Standing, ownedBy, pack, runOf, isNull, Run, noRun, written, waiting, squeeze}
 use Rattle.fields.specs.Judged.{picked}
 use Rattle.put.specs.Out.{runOut}
 use Rattle.writing.specs.declared.Gathered.{Gathered}
-use Rattle.writing.specs.Copy.{noneYet, isPassed, beforeOut, moreOf, runAfter}
-use Rattle.meaning.specs.Stands.{Target, Owner, no-owner, owned}
-use Rattle.meaning.specs.Orders.{either, differ, order-object, order-le, nodes-silent, nodes-nulls, nodes-one}
+use Rattle.writing.specs.Copy.{noneYet, isPassed, beforeOut, runAfter}
+use Rattle.meaning.specs.Stands.{Owner, no-owner, owned}
+use Rattle.meaning.specs.Orders.{either, differ, order-object, order-le, nodes-silent, nodes-nulls, nodes-one, said-other}
 
 -- ---- owners
 
@@ -39,19 +38,19 @@ module _ (rows : List Row) where
   same-owner a b x y =
       either (ltb a b)
       (λ q.
-        let l = ltb-true a b q in
-        let h = order-rise a b l y in
-        ne-eqb (orderOf rows a) (orderOf rows b) (λ z. omega arith) ∙ sym (ne-eqb a b (λ z. omega arith)))
+      let l = ltb-true a b q in
+      let h = order-rise a b l y in
+      ne-eqb (orderOf rows a) (orderOf rows b) (λ z. omega arith) ∙ sym (ne-eqb a b (λ z. omega arith)))
       (λ q. either (ltb b a)
-        (λ p.
-          let l = ltb-true b a p in
-          let h = order-rise b a l x in
-          ne-eqb (orderOf rows a) (orderOf rows b) (λ z. omega arith) ∙ sym (ne-eqb a b (λ z. omega arith)))
-        (λ p.
-          let l = ltb-false a b q in
-          let m = ltb-false b a p in
-          let e : a ≡ b = omega arith in
-          eq-eqb (orderOf rows a) (orderOf rows b) (ap (orderOf rows) e) ∙ sym (eq-eqb a b e)))
+      (λ p.
+      let l = ltb-true b a p in
+      let h = order-rise b a l x in
+      ne-eqb (orderOf rows a) (orderOf rows b) (λ z. omega arith) ∙ sym (ne-eqb a b (λ z. omega arith)))
+      (λ p.
+      let l = ltb-false a b q in
+      let m = ltb-false b a p in
+      let e : a ≡ b = omega arith in
+      eq-eqb (orderOf rows a) (orderOf rows b) (ap (orderOf rows) e) ∙ sym (eq-eqb a b e)))
 
 -- ---- records in a row
 
@@ -65,7 +64,7 @@ pub data Plain : List Rec → Type 0 where
   just : {r : Rec} → isNull r ≡ false → Plain (r ∷ [])
   more : {r : Rec} {rs : List Rec} → isNull r ≡ false → Plain rs → Plain (r ∷ rs)
 
--- records of other libraries may stand before them
+-- library records may stand before them
 plain-libraries : (ns : List (List ℕ)) (ls : Libraries) (rs : List Rec) → Plain rs → Plain (libraryRecords ns ls ++ rs)
 unfolding libraryRecords
 plain-libraries [] ls rs p = p
@@ -86,6 +85,7 @@ plain-object zero w c =
     plain-libraries (classNeeds c) (w .libraries) (classBy ls (suc (w .count)) c (c .from) ∷ []) (plain-class ls (suc (w .count)) c (c .from))
 plain-object (suc n) w c = just refl
 
+-- a null
 abbrev pub isNothing : What → Bool
 isNothing (anObject c) = false
 isNothing (aString t) = false
@@ -170,7 +170,7 @@ unfolding squeeze written waiting runOf
 squeeze-records w o (just {r = r} e) rest = rw e (append-assoc (runOf (w .count)) (r ∷ []) (squeeze noRun rest))
 squeeze-records w o (more {r = r} {rs = rs} e p) rest =
     rw e (append-assoc (runOf (w .count)) (r ∷ []) (squeeze noRun (ownedBy o rs ++ rest))
-      ∙ ap (λ (x : List Rec). runOf (w .count) ++ r ∷ x) (squeeze-records noRun o p rest))
+    ∙ ap (λ (x : List Rec). runOf (w .count) ++ r ∷ x) (squeeze-records noRun o p rest))
 
 pub pack-nulls : (w : Progress) (n o slot : ℕ) (ns : List Node) → pack w (spread n o slot ++ ns) ≡ nullsOf n o ++ pack w ns
 unfolding pack spread recordsOf afterWhat
@@ -210,10 +210,10 @@ module _ (s : List ℕ) (rows : List Row) (r : Row) where
   nodes-passed e =
       either (eqb (r .kind) 12) (λ a. nodes-silent s rows r (ap isSilent (eqb-true (r .kind) 12 a)))
       (λ a. either (isNulls (r .kind))
-        (λ b.
-          let c : eqb (r .count) 0 ≡ true = sym (rw (a, b)) ∙ e in
-          nodes-nulls s rows r (nulls-speak (r .kind) b) b ∙ ap (λ (n : ℕ). spread n (orderOf rows (r .owner)) (r .slot)) (eqb-true (r .count) 0 c))
-        (λ b. let c : isPassed r ≡ false = rw (a, b) in differ (sym e ∙ c)))
+      (λ b.
+      let c : eqb (r .count) 0 ≡ true = sym (rw (a, b)) ∙ e in
+      nodes-nulls s rows r (nulls-speak (r .kind) b) b ∙ ap (λ (n : ℕ). spread n (orderOf rows (r .owner)) (r .slot)) (eqb-true (r .count) 0 c))
+      (λ b. let c : isPassed r ≡ false = rw (a, b) in differ (sym e ∙ c)))
 
 pub passed-library : (r : Row) → r .kind ≡ 12 → isPassed r ≡ true
 passed-library r e = rw (eq-eqb (r .kind) 12 e)
@@ -255,12 +255,12 @@ module _ (s : List ℕ) (rows : List Row) (r : Row) (g : Gathered) (w : Run) (m 
     unfolding runAfter
     null-match =
         rw (nulls-stay, e)
-          record {
-            count = ap (λ (t : Bool). pick t (w .count + r .count) (r .count)) same-run
-                ∙ ap (λ (n : ℕ). pick (eqb (r .owner) (g .owner)) (n + r .count) (r .count)) (m .count);
-            owner = refl;
-            owns = owns;
-          }
+        record {
+          count = ap (λ (t : Bool). pick t (w .count + r .count) (r .count)) same-run
+              ∙ ap (λ (n : ℕ). pick (eqb (r .owner) (g .owner)) (n + r .count) (r .count)) (m .count);
+          owner = refl;
+          owns = owns;
+        }
 
     nulls-before : beforeOut g r ≡ encs (pick (eqb (orderOf rows (r .owner)) (w .owner)) [] (runOf (w .count)))
     unfolding beforeOut runOut encs
@@ -316,7 +316,4 @@ module _ (s : List ℕ) (rows : List Row) (r : Row) (g : Gathered) (w : Run) (m 
       ∙ (ap encs (squeeze-records w o (records-plain p c (what-some s rows r)) rest)
       ∙ (encs-append (runOf (w .count)) (recordsOf p c ++ squeeze noRun rest)
       ∙ (ap (λ (xs : List ℕ). encs (runOf (w .count)) ++ xs) (encs-append (recordsOf p c) (squeeze noRun rest))
-      ∙ ap (λ (xs : List ℕ). xs ++ (encs (recordsOf p c) ++ encs (squeeze noRun rest))) (sym (before-other g x (ap isNulls k ∙ b) (ap (λ (n : ℕ). eqb n 12) k ∙ speaks) ∙ run-out)))))
-    where
-      speaks : eqb (r .kind) 12 ≡ false
-      speaks = either (eqb (r .kind) 12) (λ e. differ (sym (ap isSilent (eqb-true (r .kind) 12 e)) ∙ a)) (λ e. e)
+      ∙ ap (λ (xs : List ℕ). xs ++ (encs (recordsOf p c) ++ encs (squeeze noRun rest))) (sym (before-other g x (ap isNulls k ∙ b) (ap (λ (n : ℕ). eqb n 12) k ∙ said-other (r .kind) a) ∙ run-out)))))

@@ -1,14 +1,14 @@
 -- Row by row: where each row's record is written as what was written before it asks, the copy of the rows is the tidy copy of what they say.
-use Prim.Native.Nat.{ℕ, zero, suc, _+_, _-_, _≤_, _<_}
+use Prim.Native.Nat.{ℕ, zero, suc, _+_, _-_, _<_}
 use mathlib.Core.Path.{_≡_, refl, sym, ap, subst, _∙_}
-use mathlib.Core.Bool.{Bool, true, false, _||_}
+use mathlib.Core.Bool.{true, false, _||_}
 use mathlib.Core.List.{List, [], _∷_, _++_, append-nil, append-assoc}
 use native.Mathlib.Omega.{arith}
 use native.Mathlib.Numerals.{add-one}
 use lib.ListN.{length, getD, drop, drop-of-length-le}
 use lib.Seq.{drop-cons}
 use lib.Dec.{eqb}
-use borrow.Author.Tests.{eqb-true, eqb-false, eq-eqb, ne-eqb}
+use borrow.Author.Tests.{eqb-true, eqb-false, ne-eqb}
 use Rattle.format.specs.declared.Row.{Row}
 use Rattle.format.specs.Bytes.{pick}
 use Rattle.format.specs.Rows.{blank, isClass}
@@ -20,7 +20,7 @@ use Rattle.marks.specs.Marks.{rowAt}
 use Rattle.writing.specs.declared.Gathered.{Gathered}
 use Rattle.writing.specs.Copy.{objectOut, arrayOut, keptOut, stringOut, recordOut, noneYet, isPassed, beforeOut, runAfter, rowOut, copyFrom, copyOf}
 use Rattle.meaning.specs.Stands.{RowStands, the-header, by-id, a-class, a-string, an-array, a-primitive, a-reference, nulls, the-end, a-library, primitives, objects, texts, a-value, Stands}
-use Rattle.meaning.specs.Orders.{either, differ, nodes-silent, after-silent, after-run, after-said, progressTo, progress-none, progress-next}
+use Rattle.meaning.specs.Orders.{either, differ, said-other, nodes-silent, after-silent, after-run, after-said, progressTo, progress-none, progress-next}
 use Rattle.meaning.specs.Runs.{encs-append, Match, match-none, nulls-kind, nulls-speak, nodes-passed, passed-library, before-passed, run-passed, before-other, run-other, nullsAfter, null-match, null-row, end-row, other-row}
 
 -- ---- where the header and the end stand
@@ -117,7 +117,7 @@ module _ (s : List ℕ) (rows rs : List Row) (st : Stands s rows) (wr : Writes s
   -- one row more
   turn : (i : ℕ) → i < length rows → (g : Gathered) (w v : Run)
       → encs (squeeze w (pack (progressTo s rows i) (nodesOf s rows (getD rows i blank) ++ nodesFrom s rows (drop (suc i) rows))))
-        ≡ (beforeOut g (getD rs i blank) ++ recordOut s rs i (getD rs i blank)) ++ encs (squeeze v (pack (progressTo s rows (suc i)) (nodesFrom s rows (drop (suc i) rows))))
+      ≡ (beforeOut g (getD rs i blank) ++ recordOut s rs i (getD rs i blank)) ++ encs (squeeze v (pack (progressTo s rows (suc i)) (nodesFrom s rows (drop (suc i) rows))))
       → Copied (suc i) (runAfter g (getD rs i blank)) v → Copied i g w
   turn i h g w v e c =
       let a : List ℕ = beforeOut g (getD rs i blank) ++ recordOut s rs i (getD rs i blank) in
@@ -134,11 +134,11 @@ module _ (s : List ℕ) (rows rs : List Row) (st : Stands s rows) (wr : Writes s
       let x : Row = getD rs i blank in
       let ns : List Node = nodesFrom s rows (drop (suc i) rows) in
       let f : encs (squeeze w (pack (progressTo s rows i) (nodesOf s rows (getD rows i blank) ++ ns)))
-            ≡ (beforeOut g x ++ recordOut s rs i x) ++ encs (squeeze w (pack (progressTo s rows (suc i)) ns)) =
-          ap (λ (m : List Node). encs (squeeze w (pack (progressTo s rows i) (m ++ ns)))) (nodes-passed s rows (getD rows i blank) a)
-          ∙ (ap (λ (p : Progress). encs (squeeze w (pack p ns))) (sym q)
-          ∙ (ap (λ (l : List ℕ). ([] ++ l) ++ encs (squeeze w (pack (progressTo s rows (suc i)) ns))) (sym e)
-          ∙ ap (λ (l : List ℕ). (l ++ recordOut s rs i x) ++ encs (squeeze w (pack (progressTo s rows (suc i)) ns))) (sym (before-passed g x b)))) in
+      ≡ (beforeOut g x ++ recordOut s rs i x) ++ encs (squeeze w (pack (progressTo s rows (suc i)) ns)) =
+      ap (λ (m : List Node). encs (squeeze w (pack (progressTo s rows i) (m ++ ns)))) (nodes-passed s rows (getD rows i blank) a)
+      ∙ (ap (λ (p : Progress). encs (squeeze w (pack p ns))) (sym q)
+      ∙ (ap (λ (l : List ℕ). ([] ++ l) ++ encs (squeeze w (pack (progressTo s rows (suc i)) ns))) (sym e)
+      ∙ ap (λ (l : List ℕ). (l ++ recordOut s rs i x) ++ encs (squeeze w (pack (progressTo s rows (suc i)) ns))) (sym (before-passed g x b)))) in
       turn i h g w w f (subst (λ (k : Gathered). Copied (suc i) k w) (sym (run-passed g x b)) c)
 
   -- a row of nulls, at least one
@@ -154,12 +154,12 @@ module _ (s : List ℕ) (rows rs : List Row) (st : Stands s rows) (wr : Writes s
       let q : progressTo s rows (suc i) ≡ p = progress-next s rows i h ∙ after-run s rows p r (nulls-speak (r .kind) e) e in
       let none : recordOut s rs i (getD rs i blank) ≡ [] = record-nulls s rs i (getD rs i blank) (ap (λ (z : Row). isNulls (z .kind)) same ∙ e) in
       let before : beforeOut g r ≡ beforeOut g (getD rs i blank) ++ recordOut s rs i (getD rs i blank) =
-          ap (beforeOut g) (sym same) ∙ (sym (append-nil (beforeOut g (getD rs i blank))) ∙ ap (λ (l : List ℕ). beforeOut g (getD rs i blank) ++ l) (sym none)) in
+      ap (beforeOut g) (sym same) ∙ (sym (append-nil (beforeOut g (getD rs i blank))) ∙ ap (λ (l : List ℕ). beforeOut g (getD rs i blank) ++ l) (sym none)) in
       turn i h g w v
-        (null-row s rows r g w m e n owns p ns
-          ∙ (ap (λ (l : List ℕ). l ++ encs (squeeze v (pack p ns))) before
-          ∙ ap (λ (z : Progress). (beforeOut g (getD rs i blank) ++ recordOut s rs i (getD rs i blank)) ++ encs (squeeze v (pack z ns))) (sym q)))
-        (c (runAfter g (getD rs i blank)) v (subst (λ (z : Row). Match rows (runAfter g z) v) (sym same) (null-match s rows r g w m e n owns)))
+      (null-row s rows r g w m e n owns p ns
+      ∙ (ap (λ (l : List ℕ). l ++ encs (squeeze v (pack p ns))) before
+      ∙ ap (λ (z : Progress). (beforeOut g (getD rs i blank) ++ recordOut s rs i (getD rs i blank)) ++ encs (squeeze v (pack z ns))) (sym q)))
+      (c (runAfter g (getD rs i blank)) v (subst (λ (z : Row). Match rows (runAfter g z) v) (sym same) (null-match s rows r g w m e n owns)))
 
   -- a row that says something else
   said : (i : ℕ) → i < length rows → (g : Gathered) (w : Run) → Match rows g w → isSilent (getD rows i blank .kind) ≡ false → isNulls (getD rows i blank .kind) ≡ false
@@ -172,14 +172,13 @@ module _ (s : List ℕ) (rows rs : List Row) (st : Stands s rows) (wr : Writes s
       let kind : x .kind ≡ r .kind = wr .kinds i h in
       let rest : List ℕ = encs (squeeze noRun (pack (afterWhat p (whatFrom s rows r)) ns)) in
       let q : progressTo s rows (suc i) ≡ afterWhat p (whatFrom s rows r) = progress-next s rows i h ∙ after-said s rows p r a b in
-      let other : eqb (x .kind) 12 ≡ false = ap (λ (n : ℕ). eqb n 12) kind
-          ∙ either (eqb (r .kind) 12) (λ e. differ (sym (ap isSilent (eqb-true (r .kind) 12 e)) ∙ a)) (λ e. e) in
+      let other : eqb (x .kind) 12 ≡ false = ap (λ (n : ℕ). eqb n 12) kind ∙ said-other (r .kind) a in
       turn i h g w noRun
-        (other-row s rows r g w m x kind a b p ns
-          ∙ (ap (λ (l : List ℕ). beforeOut g x ++ (l ++ rest)) (sym (wr .each i h a b))
-          ∙ (sym (append-assoc (beforeOut g x) (recordOut s rs i x) rest)
-          ∙ ap (λ (z : Progress). (beforeOut g x ++ recordOut s rs i x) ++ encs (squeeze noRun (pack z ns))) (sym q))))
-        (subst (λ (k : Gathered). Copied (suc i) k noRun) (sym (run-other g x (ap isNulls kind ∙ b) other)) (c noneYet noRun (match-none rows)))
+      (other-row s rows r g w m x kind a b p ns
+      ∙ (ap (λ (l : List ℕ). beforeOut g x ++ (l ++ rest)) (sym (wr .each i h a b))
+      ∙ (sym (append-assoc (beforeOut g x) (recordOut s rs i x) rest)
+      ∙ ap (λ (z : Progress). (beforeOut g x ++ recordOut s rs i x) ++ encs (squeeze noRun (pack z ns))) (sym q))))
+      (subst (λ (k : Gathered). Copied (suc i) k noRun) (sym (run-other g x (ap isNulls kind ∙ b) other)) (c noneYet noRun (match-none rows)))
 
   -- the last row
   ended : (i : ℕ) → suc i ≡ length rows → (g : Gathered) (w : Run) → Match rows g w → Copied i g w
@@ -195,7 +194,7 @@ module _ (s : List ℕ) (rows rs : List Row) (st : Stands s rows) (wr : Writes s
       let b : drop (suc i) rows ≡ [] = drop-of-length-le rows {i = suc i} (omega arith) in
       let gone : runAfter g x ≡ noneYet = run-other g x (ap isNulls like) (ap (λ (n : ℕ). eqb n 12) like) in
       let ns : nodesFrom s rows (drop i rows) ≡ [] =
-          next-nodes i inside ∙ (ap (λ (z : List Node). z ++ nodesFrom s rows (drop (suc i) rows)) (nodes-silent s rows r (ap isSilent kind)) ∙ ap (nodesFrom s rows) b) in
+      next-nodes i inside ∙ (ap (λ (z : List Node). z ++ nodesFrom s rows (drop (suc i) rows)) (nodes-silent s rows r (ap isSilent kind)) ∙ ap (nodesFrom s rows) b) in
       next-copy i inside g
       ∙ (ap (λ (z : List Row). (beforeOut g x ++ recordOut s rs i x) ++ copyFrom s rs (suc i) (runAfter g x) z) a
       ∙ (ap (λ (k : Gathered). (beforeOut g x ++ recordOut s rs i x) ++ runOut (k .count)) gone
@@ -216,22 +215,22 @@ module _ (s : List ℕ) (rows rs : List Row) (st : Stands s rows) (wr : Writes s
       let kind : x .kind ≡ r .kind = wr .kinds i inside in
       either (eqb (r .kind) 12)
       (λ a.
-        let e : r .kind ≡ 12 = eqb-true (r .kind) 12 a in
-        passed i inside g w (passed-library r e) (passed-library x (kind ∙ e)) (record-library s rs i x (kind ∙ e))
-          (progress-next s rows i inside ∙ after-silent s rows p r (ap isSilent e)) (c g w m))
+      let e : r .kind ≡ 12 = eqb-true (r .kind) 12 a in
+      passed i inside g w (passed-library r e) (passed-library x (kind ∙ e)) (record-library s rs i x (kind ∙ e))
+      (progress-next s rows i inside ∙ after-silent s rows p r (ap isSilent e)) (c g w m))
       (λ a. either (isNulls (r .kind))
-        (λ b.
-          let same : x ≡ r = wr .nulls i inside b in
-          either (eqb (r .count) 0)
-          (λ d.
-            let e : isPassed r ≡ true = rw (a, b, d) in
-            passed i inside g w e (ap isPassed same ∙ e) (record-nulls s rs i x (ap isNulls kind ∙ b))
-              (progress-next s rows i inside ∙ after-run s rows p r (nulls-speak (r .kind) b) b) (c g w m))
-          (λ d. let z = eqb-false (r .count) 0 d in more-nulls i inside g w m b (omega arith) c))
-        (λ b.
-          let no-header : eqb (r .kind) 0 ≡ false = ne-eqb (r .kind) 0 (λ e. let z = header-first s rows i r stands e in omega arith) in
-          let no-end : eqb (r .kind) 11 ≡ false = ne-eqb (r .kind) 11 (λ e. let z = end-last s rows i r stands e in omega arith) in
-          said i inside g w m (rw (no-header, no-end, a)) b c))
+      (λ b.
+      let same : x ≡ r = wr .nulls i inside b in
+      either (eqb (r .count) 0)
+      (λ d.
+      let e : isPassed r ≡ true = rw (a, b, d) in
+      passed i inside g w e (ap isPassed same ∙ e) (record-nulls s rs i x (ap isNulls kind ∙ b))
+      (progress-next s rows i inside ∙ after-run s rows p r (nulls-speak (r .kind) b) b) (c g w m))
+      (λ d. let z = eqb-false (r .count) 0 d in more-nulls i inside g w m b (omega arith) c))
+      (λ b.
+      let no-header : eqb (r .kind) 0 ≡ false = ne-eqb (r .kind) 0 (λ e. let z = header-first s rows i r stands e in omega arith) in
+      let no-end : eqb (r .kind) 11 ≡ false = ne-eqb (r .kind) 11 (λ e. let z = end-last s rows i r stands e in omega arith) in
+      said i inside g w m (rw (no-header, no-end, a)) b c))
 
   middle : (k i : ℕ) → i + suc k ≡ length rows → 0 < i → (g : Gathered) (w : Run) → Match rows g w → Copied i g w
   middle zero i h o g w m = ended i (omega arith) g w m
@@ -249,9 +248,9 @@ module _ (s : List ℕ) (rows rs : List Row) (st : Stands s rows) (wr : Writes s
       let before : beforeOut noneYet x ≡ [] = before-other noneYet x (ap isNulls like) (ap (λ (n : ℕ). eqb n 12) like) in
       let gone : runAfter noneYet x ≡ noneYet = run-other noneYet x (ap isNulls like) (ap (λ (n : ℕ). eqb n 12) like) in
       let nodes : nodesFrom s rows rows ≡ nodesFrom s rows (drop 1 rows) =
-          next-nodes 0 some ∙ ap (λ (ns : List Node). ns ++ nodesFrom s rows (drop 1 rows)) (nodes-silent s rows r (ap isSilent (st .first))) in
+      next-nodes 0 some ∙ ap (λ (ns : List Node). ns ++ nodesFrom s rows (drop 1 rows)) (nodes-silent s rows r (ap isSilent (st .first))) in
       let after : progressTo s rows 1 ≡ nothing =
-          progress-next s rows 0 some ∙ (after-silent s rows (progressTo s rows 0) r (ap isSilent (st .first)) ∙ progress-none s rows) in
+      progress-next s rows 0 some ∙ (after-silent s rows (progressTo s rows 0) r (ap isSilent (st .first)) ∙ progress-none s rows) in
       let all : List Rec = squeeze noRun (pack nothing (nodesFrom s rows rows)) in
       next-copy 0 some noneYet
       ∙ (ap (λ (z : List ℕ). (z ++ recordOut s rs 0 x) ++ copyFrom s rs 1 (runAfter noneYet x) (drop 1 rs)) before
@@ -267,8 +266,8 @@ module _ (s : List ℕ) (rows rs : List Row) (st : Stands s rows) (wr : Writes s
       enough =
           either (eqb (length rows) 1)
           (λ q.
-            let a : length rows - 1 ≡ 0 = let l = eqb-true (length rows) 1 q in omega arith in
-            let b : getD rows 0 blank .kind ≡ 11 = ap (λ (m : ℕ). getD rows m blank .kind) (sym a) ∙ st .last in
-            let c = st .first in
-            absurd (omega arith))
+          let a : length rows - 1 ≡ 0 = let l = eqb-true (length rows) 1 q in omega arith in
+          let b : getD rows 0 blank .kind ≡ 11 = ap (λ (m : ℕ). getD rows m blank .kind) (sym a) ∙ st .last in
+          let c = st .first in
+          absurd (omega arith))
           (λ q. let l = eqb-false (length rows) 1 q in let o = st .some in omega arith)
