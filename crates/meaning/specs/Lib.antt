@@ -20,3 +20,4 @@ pub mod Small
 pub mod Orders
 pub mod Runs
 pub mod Traversal
+pub mod FromReading

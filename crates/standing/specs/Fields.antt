@@ -1,4 +1,4 @@
--- What good fields of a class record say, field by field: kinds 4 and 5, and kind 1.
+-- What good fields of a record say, and those of class records field by field: kinds 4 and 5, and kind 1.
 use Prim.Native.Nat.{ℕ, _+_, _-_, _≤_, _<_}
 use mathlib.Core.Path.{_≡_, refl, sym, subst, _∙_}
 use mathlib.Core.Bool.{Bool, true, false}
@@ -19,9 +19,9 @@ use Rattle.format.specs.Numbers.{u32At, negative}
 use Rattle.format.specs.Values.{times}
 use Rattle.format.specs.Types.{typeByteAt, nameAt}
 use Rattle.format.specs.Rows.{blank, classRow}
-use Rattle.format.specs.Records.{onNumber, onField, goodClassId, infosAt, afterInfos, membersAt, classAt, classByIdAt}
+use Rattle.format.specs.Records.{onNumber, onField, goodClassId, infosAt, afterInfos, membersAt, classAt, classByIdAt, headingAt}
 use Rattle.fields.specs.Judged.{picked}
-use Rattle.types.specs.Keeps.{name-moves}
+use Rattle.types.specs.Keeps.{name-moves, types-end}
 use Rattle.classes.specs.Ends.{number-moves}
 use Rattle.classes.specs.Moves.{names-there, types-there, infos-moves, own-library-moves}
 use Rattle.records.specs.Headings.{by-id-heading, system-heading, class-heading}
@@ -56,18 +56,21 @@ pub record ClassById (s : List ℕ) (rows : List Row) (at : ℕ) (h : Head) : Ty
   pub same-count : h .count ≡ getD rows (h .link - 1) blank .count
 
 -- what holds of good fields, through numbers, fields and choices
-abbrev Of : (Head → Type 0) → Heading → Type 0
+abbrev pub Of : (Head → Type 0) → Heading → Type 0
 Of P (H.Fields h) = P h
 Of P (H.Bad f) = Unit {0}
 
 module _ (P : Head → Type 0) where
-  of-number : (k : ℕ → ℕ → Heading) (r : Number32) → ((v e : ℕ) → r ≡ N32.Value v e → Of P (k v e)) → Of P (onNumber k r)
+  pub of-number : (k : ℕ → ℕ → Heading) (r : Number32) → ((v e : ℕ) → r ≡ N32.Value v e → Of P (k v e)) → Of P (onNumber k r)
   of-number k (N32.Value v e) f = f v e refl
   of-number k N32.Short f = tt
 
-  of-field : (k : ℕ → Heading) (r : Field) → ((e : ℕ) → r ≡ F.End e → Of P (k e)) → Of P (onField k r)
+  pub of-field : (k : ℕ → Heading) (r : Field) → ((e : ℕ) → r ≡ F.End e → Of P (k e)) → Of P (onField k r)
   of-field k (F.End e) f = f e refl
   of-field k (F.Fault x) f = tt
+
+  pub of-fields : (x : Heading) (h : Head) → x ≡ H.Fields h → Of P x → P h
+  of-fields x h e w = subst (λ (x : Heading). Of P x) e w
 
 module _ (s : List ℕ) (rows : List Row) (at : ℕ) where
   module _ (own : Bool) where
@@ -103,7 +106,7 @@ module _ (s : List ℕ) (rows : List Row) (at : ℕ) where
         (λ b. tt))
 
     pub class-said : (h : Head) → classAt s rows own at ≡ H.Fields h → Class s rows own at h
-    class-said h e = subst (λ (x : Heading). Of (Class s rows own at) x) e of-class
+    class-said h e = of-fields (Class s rows own at) _ h e of-class
 
   of-class-by-id : Of (ClassById s rows at) (classByIdAt s rows at)
   unfolding classByIdAt
@@ -127,11 +130,19 @@ module _ (s : List ℕ) (rows : List Row) (at : ℕ) where
       (λ b. tt))
 
   pub class-by-id-said : (h : Head) → classByIdAt s rows at ≡ H.Fields h → ClassById s rows at h
-  class-by-id-said h e = subst (λ (x : Heading). Of (ClassById s rows at) x) e of-class-by-id
+  class-by-id-said h e = of-fields (ClassById s rows at) _ h e of-class-by-id
 
--- ---- the rows of classes
+-- ---- rows
 
 module _ {s : List ℕ} {before : List Row} {r : Row} (w : Recorded s before r) where
+  -- what good fields of the row's kind say of its count and its end
+  pub row-said : (P : ℕ → ℕ → Type 0) (x : Heading) → headingAt s before (r .kind) (r .offset) ≡ x → Of (λ h. P (h .count) (h .end)) x
+      → P (r .count) (r .end)
+  row-said P x e v =
+      let h = w .head in
+      subst (λ (n : ℕ). P n (r .end)) (sym (w .same-count))
+      (subst (P (h .count)) (sym (w .same-end)) (of-fields (λ h. P (h .count) (h .end)) x h (sym e ∙ w .fields) v))
+
   pub by-id-row : r .kind ≡ 1 → ClassById s before (r .offset) (w .head)
   by-id-row k = class-by-id-said s before (r .offset) (w .head) (sym (by-id-heading s before (r .kind) (r .offset) k) ∙ w .fields)
 
@@ -140,6 +151,14 @@ module _ {s : List ℕ} {before : List Row} {r : Row} (w : Recorded s before r) 
 
   pub class-row : r .kind ≡ 5 → Class s before true (r .offset) (w .head)
   class-row k = class-said s before (r .offset) true (w .head) (sym (class-heading s before (r .kind) (r .offset) k) ∙ w .fields)
+
+-- the name stands after the ObjectId, the members after their count, the details after a type byte for each member
+pub class-places : (s : List ℕ) (rows : List Row) (own : Bool) (at : ℕ) (h : Head) (w : Class s rows own at h)
+    → (w .name ≡ at + 5) × (w .names ≡ w .counts + 4) × (w .infos ≡ h .link + h .count)
+class-places s rows own at h w =
+    let a = number-moves s (at + 1) (h .id) (w .name) (w .id-at) in
+    let b = number-moves s (w .counts) (h .count) (w .names) (w .count-at) in
+    (omega arith, b .0, types-end s (h .count) (h .link) (w .infos) (w .types-at))
 
 -- a class record of n members has a byte for each member's type, and ten more
 pub class-room : (s : List ℕ) (rows : List Row) (own : Bool) (at : ℕ) (h : Head) → Class s rows own at h → at + 10 + h .count ≤ h .end

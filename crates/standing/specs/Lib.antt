@@ -3,5 +3,8 @@ pub mod Standing
 pub mod Steps
 pub mod Accepted
 pub mod Fields
+pub mod Plain
+pub mod Arrays
 pub mod Linked
+pub mod Known
 pub mod Members
