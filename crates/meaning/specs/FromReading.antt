@@ -22,7 +22,7 @@ use Rattle.standing.specs.Accepted.{Taken, accepted-stands}
 use Rattle.standing.specs.Fields.{Class, class-places, system-row, class-row}
 use Rattle.standing.specs.Plain.{string-row, library-row, typed-row, end-row, null-row, nulls-row, long-nulls-row}
 use Rattle.standing.specs.Arrays.{array-row, primitives-row, objects-row, strings-row}
-use Rattle.standing.specs.Linked.{same-kind, same-offset, same-end, same-owner, to-class-linked, ToObject, to-object-linked, reference-link, root-link, owned-linked}
+use Rattle.standing.specs.Linked.{same-kind, same-offset, same-end, same-owner, same-slot, to-class-linked, ToObject, to-object-linked, reference-link, root-link, owned-linked}
 use Rattle.standing.specs.Known.{Later, first-later, own-later, info-later, infos-later}
 use Rattle.standing.specs.Members.{membersIn, members-fit, members-linked}
 use Rattle.meaning.specs.Stands.{Target, StringStands, OwnStands, of-system, of-library, ClassStands, ArrayStands, Owner, no-owner, owned, RowStands, the-header, by-id, a-class, a-string, an-array, a-primitive, a-reference, nulls, the-end, a-library, primitives, objects, texts, a-value, Stands}
@@ -213,3 +213,13 @@ members-small s room rows e =
     let a = members-fit (t .stands) in
     let b : membersIn rows ≡ membersIn (t .raw) = ap membersIn (t .same) ∙ members-linked (t .raw) in
     omega arith
+
+-- a library fills no slot
+pub library-slots : (s : List ℕ) (room : ℕ) (rows : List Row) → readOf s room ≡ accepted rows
+    → (i : ℕ) → i < length rows → getD rows i blank .kind ≡ 12 → getD rows i blank .slot ≡ 0
+library-slots s room rows e =
+    let t = accepted-stands s room rows e in
+    subst (λ (rows : List Row). (i : ℕ) → i < length rows → getD rows i blank .kind ≡ 12 → getD rows i blank .slot ≡ 0) (sym (t .same))
+    (λ i h k.
+    let l : length (linked (t .raw)) ≡ length (t .raw) = length-linked (t .raw) in
+    same-slot (t .raw) i ∙ t .stands .libraries i (omega arith) (sym (same-kind (t .raw) i) ∙ k))
