@@ -1,14 +1,12 @@
 -- What each writer puts out: one law for each way that it ends.
 use Prim.Native.Nat.{ℕ, _+_, _-_, _*_, _/_, _%_, _≤_, _<_}
-use mathlib.Core.Path.{_≡_, refl, sym, ap, ap₂, _∙_}
+use mathlib.Core.Path.{_≡_, refl, sym, ap, _∙_}
 use mathlib.Core.List.{List, [], _∷_, _++_, append-assoc, append-nil}
 use native.Mathlib.Omega.{arith}
 use native.Mathlib.Decide.{decLt}
 use lib.ListN.{length, take, drop, set, length-drop, drop-of-length-le}
 use lib.Seq.{take-all, take-nil, take-length, sets-eq, length-take-le}
-use lib.Dec.{eqb, leb}
-use borrow.Author.Tests.{eq-eqb, ne-eqb, le-leb, lt-leb}
-use borrow.Rule.Slice.PartMut.{putMid, midOf}
+use borrow.Author.Tests.{ne-eqb, le-leb, lt-leb}
 use Rattle.format.specs.declared.Prefix.the-variants as P
 use Rattle.format.specs.declared.Refusal.{Refusal}
 use Rattle.format.specs.Bytes.{laid}
@@ -17,7 +15,7 @@ use Rattle.format.specs.Prefix.{prefixAt, prefixBytes}
 use Rattle.format.specs.Contents.{enc, encs}
 use Rattle.format.specs.Tidy.{runOf}
 use Rattle.put.specs.Out.{between, textOut, headOut, byIdOut, headerOut, runOut}
-use Rattle.put.specs.Put.{capped, most, Filled, Least, unfilled, filled, nothing, joined, became}
+use Rattle.put.specs.Put.{Filled, Least, unfilled, filled, nothing, became}
 
 -- ---- bytes and numbers
 pub laid-two : (a b : ℕ) (d : List ℕ) → 2 ≤ length d → set (set d 0 a) 1 b ≡ laid (a ∷ b ∷ []) d
@@ -105,22 +103,16 @@ module _ (s : List ℕ) (a b m : ℕ) (k : Least b (length s) m) where
       became (between s a m) (between s a b) d e r o (filled (between s a m) d e r p (omega arith) (q ∙ rw take-length))
 
 -- ---- two pieces, one after the other
-module _ (d x y : List ℕ) (a b m r : ℕ) (l : length x ≡ length d) (k : Least a (length x) m) (q : r ≡ capped (a + b)) where
-  pub head-both : (kind n : ℕ) → Filled (kind ∷ []) d x a → Filled (leBytes 4 n) (midOf m (length x - m) x) y b
-      → Filled (headOut kind n) d (putMid m (length x - m) x y) r
-  head-both kind n f u = joined (kind ∷ []) (leBytes 4 n) d x y a b m r l k f u q
+pub head-is : (kind n : ℕ) → headOut kind n ≡ (kind ∷ []) ++ leBytes 4 n
+head-is kind n = refl
 
-  pub text-both : (s : List ℕ) (p e n next : ℕ) → prefixAt s p ≡ P.Length n next → Filled (prefixBytes n) d x a
-      → Filled (between s next e) (midOf m (length x - m) x) y b → Filled (textOut s p e) d (putMid m (length x - m) x y) r
-  unfolding textOut
-  text-both s p e n next z f u = rw z (joined (prefixBytes n) (between s next e) d x y a b m r l k f u q)
+pub header-is : (root : ℕ) → headerOut root ≡ (headOut 0 root ++ leBytes 4 root) ++ (leBytes 4 1 ++ leBytes 4 0)
+unfolding headerOut
+header-is root = sym (append-assoc (headOut 0 root) (leBytes 4 root) (leBytes 4 1 ++ leBytes 4 0))
 
-  pub header-both : (root : ℕ) → Filled (headOut 0 root ++ leBytes 4 root) d x a
-      → Filled (leBytes 4 1 ++ leBytes 4 0) (midOf m (length x - m) x) y b → Filled (headerOut root) d (putMid m (length x - m) x y) r
-  unfolding headerOut
-  header-both root f u =
-      became _ _ d (putMid m (length x - m) x y) r (sym (append-assoc (headOut 0 root) (leBytes 4 root) (leBytes 4 1 ++ leBytes 4 0)))
-      (joined (headOut 0 root ++ leBytes 4 root) (leBytes 4 1 ++ leBytes 4 0) d x y a b m r l k f u q)
+pub text-is : (s : List ℕ) (p e n next : ℕ) → prefixAt s p ≡ P.Length n next → textOut s p e ≡ prefixBytes n ++ between s next e
+unfolding textOut
+text-is s p e n next z = rw z
 
 pub by-id-is : (id first : ℕ) → byIdOut id first ≡ headOut 1 id ++ leBytes 4 first
 unfolding byIdOut

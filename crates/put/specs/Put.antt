@@ -100,6 +100,11 @@ joined h g d x y a b m r l k f u q =
           handed m h g d x y (omega arith) (f .bytes (omega arith)) (u .bytes (omega arith));
     }
 
+-- the same, for bytes that are defined as the two
+pub joined-as : (c h g d x y : List ℕ) (a b m r : ℕ) → c ≡ h ++ g → length x ≡ length d → Least a (length x) m
+    → Filled h d x a → Filled g (midOf m (length x - m) x) y b → r ≡ capped (a + b) → Filled c d (putMid m (length x - m) x y) r
+joined-as c h g d x y a b m r e l k f u q = became (h ++ g) c d (putMid m (length x - m) x y) r e (joined h g d x y a b m r l k f u q)
+
 -- ---- a loop of writers: d is the part at first, e now; a is the total so far, rest what is still to be written of the whole
 pub record Along (whole rest d e : List ℕ) (a : ℕ) : Type 0 where
   pub done : List ℕ

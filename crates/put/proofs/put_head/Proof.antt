@@ -1,5 +1,6 @@
 -- The kind byte, then the number.
-use Rattle.put.specs.Pieces.{head-both}
+use Rattle.put.specs.Put.{joined-as}
+use Rattle.put.specs.Pieces.{head-is}
 use borrow.Author.Needs.{needs}
 use Rattle.put.proofs.put_head.Statement.{statement}
 use Rattle.put.proofs.put_head.Tie as tie
@@ -16,4 +17,4 @@ put-head-spec =
     (λ c κs. search needs)
     (λ c κs. search needs)
     (λ c. search needs)
-    (λ c. head-both _ _ _ _ _ _ _ (c .before .before .before .before .before .before .before .before .put-byte .kept .0) (c .before .before .before .before .before .least .ensures) (c .add-up .ensures) _ _ (c .before .before .before .before .before .before .before .before .put-byte .ensures) (c .before .before .before .put-number .ensures)))
+    (λ c. joined-as _ _ _ _ _ _ _ _ _ _ (head-is _ _) (c .before .before .before .before .before .before .before .before .put-byte .kept .0) (c .before .before .before .before .before .least .ensures) (c .before .before .before .before .before .before .before .before .put-byte .ensures) (c .before .before .before .put-number .ensures) (c .add-up .ensures)))

@@ -1,8 +1,8 @@
 -- The prefix of the length, then the text; without a prefix the part as it stands.
 use mathlib.Core.Path.{sym, _∙_}
 use native.Mathlib.Omega.{arith}
-use Rattle.put.specs.Put.{became, written-filled}
-use Rattle.put.specs.Pieces.{text-both, text-fault}
+use Rattle.put.specs.Put.{became, written-filled, joined-as}
+use Rattle.put.specs.Pieces.{text-is, text-fault}
 use borrow.Author.Needs.{needs}
 use Rattle.put.proofs.put_text.Statement.{statement}
 use Rattle.put.proofs.put_text.Tie as tie
@@ -23,6 +23,6 @@ put-text-spec =
     (λ c. search needs)
     (λ c κs. search needs)
     (λ c. search needs)
-    (λ c. text-both _ _ _ _ _ _ _ (c .before .before .before .before .before .before .before .before .put-prefix .kept .0) (c .before .before .before .before .before .least .ensures) (c .add-up .ensures) _ _ _ _ _ (sym (c .before .before .before .before .before .before .before .before .before .before .before .before .before .prefix-at .ensures) ∙ c .before .before .before .before .before .before .before .before .before .before .before .length .given .1) (written-filled _ _ _ _ (omega arith) (c .before .before .before .before .before .before .before .before .put-prefix .ensures)) (c .before .before .before .put-part .ensures))
+    (λ c. joined-as _ _ _ _ _ _ _ _ _ _ (text-is _ _ _ _ _ (sym (c .before .before .before .before .before .before .before .before .before .before .before .before .before .prefix-at .ensures) ∙ c .before .before .before .before .before .before .before .before .before .before .before .length .given .1)) (c .before .before .before .before .before .before .before .before .put-prefix .kept .0) (c .before .before .before .before .before .least .ensures) (written-filled _ _ _ _ (omega arith) (c .before .before .before .before .before .before .before .before .put-prefix .ensures)) (c .before .before .before .put-part .ensures) (c .add-up .ensures))
     (λ c. search needs)
     (λ c. became _ _ _ _ _ (text-fault _ _ _ _ (sym (c .before .before .before .before .before .before .prefix-at .ensures) ∙ c .before .before .before .before .enum-told .given .1)) (c .before .before .put-part2 .ensures)))
