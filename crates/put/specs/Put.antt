@@ -112,8 +112,8 @@ pub record Along (whole rest d e : List ℕ) (a : ℕ) : Type 0 where
   pub so-far : Filled done d e a
   pub sized : length e ≡ length d
 
-pub along-start : (whole d : List ℕ) → Along whole whole d d 0
-along-start whole d = record { done = []; split = refl; so-far = nothing [] d refl; sized = refl }
+pub along-start : (whole rest d : List ℕ) → whole ≡ rest → Along whole rest d d 0
+along-start whole rest d e = record { done = []; split = e; so-far = nothing [] d refl; sized = refl }
 
 module _ (whole rest d e y : List ℕ) (a b m r : ℕ) (v : Along whole rest d e a) (k : Least a (length e) m) (q : r ≡ capped (a + b)) where
   pub along-more : (item more : List ℕ) → rest ≡ item ++ more → length y ≡ length (midOf m (length e - m) e)
