@@ -1,2 +1,4 @@
--- The copy that is written from marked rows.
+-- The copy that is written from marked rows, and its laws.
 pub mod Copy
+pub mod Places
+pub mod Laws
