@@ -16,3 +16,6 @@ pub mod Entered
 pub mod Needs
 pub mod Stamps
 pub mod LibrariesOut
+pub mod Orders
+pub mod Runs
+pub mod Traversal
