@@ -19,3 +19,4 @@ pub mod LibrariesOut
 pub mod Orders
 pub mod Runs
 pub mod Traversal
+pub mod Rising

@@ -39,19 +39,19 @@ module _ (rows : List Row) where
   same-owner a b x y =
       either (ltb a b)
       (λ q.
-        let l = ltb-true a b q in
-        let h = order-rise a b l y in
-        ne-eqb (orderOf rows a) (orderOf rows b) (λ z. omega arith) ∙ sym (ne-eqb a b (λ z. omega arith)))
+      let l = ltb-true a b q in
+      let h = order-rise a b l y in
+      ne-eqb (orderOf rows a) (orderOf rows b) (λ z. omega arith) ∙ sym (ne-eqb a b (λ z. omega arith)))
       (λ q. either (ltb b a)
-        (λ p.
-          let l = ltb-true b a p in
-          let h = order-rise b a l x in
-          ne-eqb (orderOf rows a) (orderOf rows b) (λ z. omega arith) ∙ sym (ne-eqb a b (λ z. omega arith)))
-        (λ p.
-          let l = ltb-false a b q in
-          let m = ltb-false b a p in
-          let e : a ≡ b = omega arith in
-          eq-eqb (orderOf rows a) (orderOf rows b) (ap (orderOf rows) e) ∙ sym (eq-eqb a b e)))
+      (λ p.
+      let l = ltb-true b a p in
+      let h = order-rise b a l x in
+      ne-eqb (orderOf rows a) (orderOf rows b) (λ z. omega arith) ∙ sym (ne-eqb a b (λ z. omega arith)))
+      (λ p.
+      let l = ltb-false a b q in
+      let m = ltb-false b a p in
+      let e : a ≡ b = omega arith in
+      eq-eqb (orderOf rows a) (orderOf rows b) (ap (orderOf rows) e) ∙ sym (eq-eqb a b e)))
 
 -- ---- records in a row
 
@@ -170,7 +170,7 @@ unfolding squeeze written waiting runOf
 squeeze-records w o (just {r = r} e) rest = rw e (append-assoc (runOf (w .count)) (r ∷ []) (squeeze noRun rest))
 squeeze-records w o (more {r = r} {rs = rs} e p) rest =
     rw e (append-assoc (runOf (w .count)) (r ∷ []) (squeeze noRun (ownedBy o rs ++ rest))
-      ∙ ap (λ (x : List Rec). runOf (w .count) ++ r ∷ x) (squeeze-records noRun o p rest))
+    ∙ ap (λ (x : List Rec). runOf (w .count) ++ r ∷ x) (squeeze-records noRun o p rest))
 
 pub pack-nulls : (w : Progress) (n o slot : ℕ) (ns : List Node) → pack w (spread n o slot ++ ns) ≡ nullsOf n o ++ pack w ns
 unfolding pack spread recordsOf afterWhat
@@ -210,10 +210,10 @@ module _ (s : List ℕ) (rows : List Row) (r : Row) where
   nodes-passed e =
       either (eqb (r .kind) 12) (λ a. nodes-silent s rows r (ap isSilent (eqb-true (r .kind) 12 a)))
       (λ a. either (isNulls (r .kind))
-        (λ b.
-          let c : eqb (r .count) 0 ≡ true = sym (rw (a, b)) ∙ e in
-          nodes-nulls s rows r (nulls-speak (r .kind) b) b ∙ ap (λ (n : ℕ). spread n (orderOf rows (r .owner)) (r .slot)) (eqb-true (r .count) 0 c))
-        (λ b. let c : isPassed r ≡ false = rw (a, b) in differ (sym e ∙ c)))
+      (λ b.
+      let c : eqb (r .count) 0 ≡ true = sym (rw (a, b)) ∙ e in
+      nodes-nulls s rows r (nulls-speak (r .kind) b) b ∙ ap (λ (n : ℕ). spread n (orderOf rows (r .owner)) (r .slot)) (eqb-true (r .count) 0 c))
+      (λ b. let c : isPassed r ≡ false = rw (a, b) in differ (sym e ∙ c)))
 
 pub passed-library : (r : Row) → r .kind ≡ 12 → isPassed r ≡ true
 passed-library r e = rw (eq-eqb (r .kind) 12 e)
@@ -255,12 +255,12 @@ module _ (s : List ℕ) (rows : List Row) (r : Row) (g : Gathered) (w : Run) (m 
     unfolding runAfter
     null-match =
         rw (nulls-stay, e)
-          record {
-            count = ap (λ (t : Bool). pick t (w .count + r .count) (r .count)) same-run
-                ∙ ap (λ (n : ℕ). pick (eqb (r .owner) (g .owner)) (n + r .count) (r .count)) (m .count);
-            owner = refl;
-            owns = owns;
-          }
+        record {
+          count = ap (λ (t : Bool). pick t (w .count + r .count) (r .count)) same-run
+              ∙ ap (λ (n : ℕ). pick (eqb (r .owner) (g .owner)) (n + r .count) (r .count)) (m .count);
+          owner = refl;
+          owns = owns;
+        }
 
     nulls-before : beforeOut g r ≡ encs (pick (eqb (orderOf rows (r .owner)) (w .owner)) [] (runOf (w .count)))
     unfolding beforeOut runOut encs

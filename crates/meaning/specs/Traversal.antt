@@ -117,7 +117,7 @@ module _ (s : List ℕ) (rows rs : List Row) (st : Stands s rows) (wr : Writes s
   -- one row more
   turn : (i : ℕ) → i < length rows → (g : Gathered) (w v : Run)
       → encs (squeeze w (pack (progressTo s rows i) (nodesOf s rows (getD rows i blank) ++ nodesFrom s rows (drop (suc i) rows))))
-        ≡ (beforeOut g (getD rs i blank) ++ recordOut s rs i (getD rs i blank)) ++ encs (squeeze v (pack (progressTo s rows (suc i)) (nodesFrom s rows (drop (suc i) rows))))
+      ≡ (beforeOut g (getD rs i blank) ++ recordOut s rs i (getD rs i blank)) ++ encs (squeeze v (pack (progressTo s rows (suc i)) (nodesFrom s rows (drop (suc i) rows))))
       → Copied (suc i) (runAfter g (getD rs i blank)) v → Copied i g w
   turn i h g w v e c =
       let a : List ℕ = beforeOut g (getD rs i blank) ++ recordOut s rs i (getD rs i blank) in
