@@ -1,9 +1,9 @@
 -- Objects and classes by number: what was written before each row. Objects count in the order of their rows; a class has the number of its
 -- first object; libraries come in the order in which the rows before need them.
-use Prim.Native.Nat.{ℕ, zero, suc, _+_, _-_, _*_, _≤_, _<_}
+use Prim.Native.Nat.{ℕ, zero, suc, _+_, _-_, _≤_, _<_}
 use mathlib.Core.Path.{_≡_, refl, sym, ap, subst, _∙_}
 use mathlib.Core.Bool.{Bool, true, false, _&&_, _||_}
-use mathlib.Core.List.{List, [], _∷_, _++_, append-nil, append-assoc}
+use mathlib.Core.List.{List, [], _∷_, _++_, append-assoc}
 use native.Mathlib.Omega.{arith}
 use lib.ListN.{length, getD, take, drop, take-append-drop}
 use lib.Seq.{take-suc, take-add}
@@ -12,13 +12,12 @@ use borrow.Author.Tests.{eqb-true, eqb-false, eq-eqb, ne-eqb, le-leb, lt-leb, le
 use Rattle.format.specs.declared.Row.{Row}
 use Rattle.format.specs.Bytes.{pick, part}
 use Rattle.format.specs.Rows.{blank, isObject, isClass, findFrom}
-use Rattle.format.specs.Tidy.{sameClass, numberIn, Progress, nothing, Libraries, allEntered, detailNeeds, classNeeds, afterObject, counted, afterWhat, Standing, ownedBy, recordsOf, pack}
-use Rattle.fields.specs.Judged.{picked}
+use Rattle.format.specs.Says.{Class, What, anObject, aString, aPrimitive, aReference, aPrimitiveArray, anObjectArray, aStringArray, aValue, Node, node, textFrom, codeFrom, detailFrom, classFrom, arrayFrom, objectsIn, orderOf, whatFrom, spread, isNulls, isSilent, nodesOf, nodesFrom}
+use Rattle.format.specs.Tidy.{sameClass, numberIn, Progress, nothing, allEntered, detailNeeds, classNeeds, afterObject, counted, afterWhat, Standing, ownedBy, recordsOf, pack}
 use Rattle.table.specs.Find.{find-hit}
 use Rattle.marks.specs.Marks.{itemType}
-use Rattle.meaning.specs.Stands.{Target, StringStands, ClassStands, ArrayStands, RowStands, the-header, by-id, a-class, a-string, an-array, a-primitive, a-reference, nulls, the-end, a-library, primitives, objects, texts, a-value, Stands}
+use Rattle.meaning.specs.Stands.{RowStands, the-header, by-id, a-class, a-string, an-array, a-primitive, a-reference, nulls, the-end, a-library, primitives, objects, texts, a-value, Stands}
 use Rattle.meaning.specs.Marked.{classFirst}
-use Rattle.format.specs.Says.{Class, What, anObject, aString, anArray, aPrimitive, aReference, aNull, aPrimitiveArray, anObjectArray, aStringArray, aValue, Node, node, textFrom, numberFrom, codeFrom, detailFrom, classFrom, arrayFrom, objectsIn, orderOf, whatFrom, spread, isNulls, isSilent, nodesOf, nodesFrom}
 
 -- ---- orders of objects
 
@@ -114,7 +113,7 @@ module _ (s : List ℕ) (rows : List Row) where
   nodes-append (r ∷ a) b =
       ap (λ (ns : List Node). nodesOf s rows r ++ ns) (nodes-append a b) ∙ sym (append-assoc (nodesOf s rows r) (nodesFrom s rows a) (nodesFrom s rows b))
 
-  -- silent rows and nulls leave it
+  -- silent rows and nulls leave what was written
   unfoldable pub afterRow : Progress → Row → Progress
   afterRow w r = pick (isSilent (r .kind)) w (pick (isNulls (r .kind)) w (afterWhat w (whatFrom s rows r)))
 
@@ -135,6 +134,19 @@ module _ (s : List ℕ) (rows : List Row) where
       go true b = refl
       go false true = after-nulls w (r .count) (orderOf rows (r .owner)) (r .slot)
       go false false = refl
+
+  -- the three sorts of rows
+  pub after-silent : (w : Progress) (r : Row) → isSilent (r .kind) ≡ true → afterRow w r ≡ w
+  unfolding afterRow
+  after-silent w r e = rw e
+
+  pub after-run : (w : Progress) (r : Row) → isSilent (r .kind) ≡ false → isNulls (r .kind) ≡ true → afterRow w r ≡ w
+  unfolding afterRow
+  after-run w r e f = rw (e, f)
+
+  pub after-said : (w : Progress) (r : Row) → isSilent (r .kind) ≡ false → isNulls (r .kind) ≡ false → afterRow w r ≡ afterWhat w (whatFrom s rows r)
+  unfolding afterRow
+  after-said w r e f = rw (e, f)
 
   pub after-rows : (w : Progress) (rs : List Row) → afterNodes w (nodesFrom s rows rs) ≡ afterRows w rs
   unfolding afterRows nodesFrom afterNodes
@@ -187,6 +199,10 @@ class-kind k e P four five =
 
 pub class-is-object : (k : ℕ) → isClass k ≡ true → isObject k ≡ true
 class-is-object k e = class-kind k e (λ (n : ℕ). isObject n ≡ true) refl refl
+
+-- a row that says something is no library's
+pub said-other : (k : ℕ) → isSilent k ≡ false → eqb k 12 ≡ false
+said-other k e = either (eqb k 12) (λ a. differ (sym (ap isSilent (eqb-true k 12 a)) ∙ e)) (λ a. a)
 
 -- ---- what a row adds
 
@@ -355,13 +371,32 @@ find-before p k (r ∷ rows) j h e = go j h e (p r) refl (find-before p (k + 1) 
     go zero h e false q ih = differ (sym e ∙ q)
     go (suc j) h e false q ih = let x = ih j (omega arith) e in (x .0, omega (arith, x .1))
 
+-- the class row of an object of kind 1
+pub class-of-id : (s : List ℕ) (rows : List Row) (i : ℕ) (r : Row) → RowStands s rows i r → r .kind ≡ 1
+    → (class : ℕ) × (r .link ≡ suc class) × (class < i) × (isClass (getD rows class blank .kind) ≡ true)
+class-of-id s rows i r (the-header z k t) e = absurd (omega arith)
+class-of-id s rows i r (by-id k class l h c) e = (class, l, h, c)
+class-of-id s rows i r (a-class c x) e = differ (sym c ∙ ap isClass e)
+class-of-id s rows i r (a-string k x) e = absurd (omega arith)
+class-of-id s rows i r (an-array k x) e = absurd (omega arith)
+class-of-id s rows i r (a-primitive k x y z) e = absurd (omega arith)
+class-of-id s rows i r (a-reference k x) e = absurd (omega arith)
+class-of-id s rows i r (nulls n x) e = differ (sym n ∙ ap isNulls e)
+class-of-id s rows i r (the-end k x y) e = absurd (omega arith)
+class-of-id s rows i r (a-library k x) e = absurd (omega arith)
+class-of-id s rows i r (primitives k x y z u) e = absurd (omega arith)
+class-of-id s rows i r (objects k x y) e = absurd (omega arith)
+class-of-id s rows i r (texts k x y) e = absurd (omega arith)
+class-of-id s rows i r (a-value k x y) e = absurd (omega arith)
+
 both : (p q : Bool) → (p && q) ≡ true → (p ≡ true) × (q ≡ true)
 both true q e = (refl, e)
 both false true e = (e, refl)
 both false false e = (e, e)
 
 module _ (s : List ℕ) (rows : List Row) where
-  abbrev classAt : ℕ → Class
+  -- the class of row i
+  abbrev pub classAt : ℕ → Class
   classAt i = classFrom s rows (getD rows i blank)
 
   -- the number of a class before row i: its first object's, or 0
@@ -384,7 +419,7 @@ module _ (s : List ℕ) (rows : List Row) where
       let b = both (isClass (getD rows i blank .kind)) (sameClass c (classAt i)) (h .1) in
       (h .0, b .0, b .1)
 
-  -- the class with the number 0 has no row yet
+  -- a class that has a row has a number above 0
   pub first-order : (c : Class) → 0 < classFirst s rows c → 0 < orderOf rows (classFirst s rows c)
   first-order c h =
       let i : ℕ = classFirst s rows c - 1 in
@@ -432,7 +467,7 @@ module _ (s : List ℕ) (rows : List Row) where
         let x = find-before (λ (r : Row). isClass (r .kind) && sameClass (classAt i) (classFrom s rows r)) 0 rows i h (rw (e, same-refl (classAt i))) in
         (x .0, omega (arith, x .1))
 
-    -- where it is its first, the class is new
+    -- the class whose first row it is
     first-here : (i : ℕ) (c : Class) → classFirst s rows c ≡ suc i → c ≡ classAt i
     first-here i c e = same-true c (classAt i) (first-row c i e .2)
 
@@ -479,29 +514,11 @@ module _ (s : List ℕ) (rows : List Row) where
         number c false q =
             rw q (keep (numberIn (sameClass c) es) ∙ (t .number c ∙ sym (number-stays i c (λ e. differ (sym (first-row c i e .2) ∙ q)))))
 
-    -- the class row of an object of kind 1
-    class-of-id : (i : ℕ) (r : Row) → RowStands s rows i r → r .kind ≡ 1
-        → (class : ℕ) × (r .link ≡ suc class) × (class < i) × (isClass (getD rows class blank .kind) ≡ true)
-    class-of-id i r (the-header z k t) e = absurd (omega arith)
-    class-of-id i r (by-id k class l h c) e = (class, l, h, c)
-    class-of-id i r (a-class c x) e = differ (sym c ∙ ap isClass e)
-    class-of-id i r (a-string k x) e = absurd (omega arith)
-    class-of-id i r (an-array k x) e = absurd (omega arith)
-    class-of-id i r (a-primitive k x y z) e = absurd (omega arith)
-    class-of-id i r (a-reference k x) e = absurd (omega arith)
-    class-of-id i r (nulls n x) e = differ (sym n ∙ ap isNulls e)
-    class-of-id i r (the-end k x y) e = absurd (omega arith)
-    class-of-id i r (a-library k x) e = absurd (omega arith)
-    class-of-id i r (primitives k x y z u) e = absurd (omega arith)
-    class-of-id i r (objects k x y) e = absurd (omega arith)
-    class-of-id i r (texts k x y) e = absurd (omega arith)
-    class-of-id i r (a-value k x y) e = absurd (omega arith)
-
     -- an object of kind 1 is of a class that is known before it
     pub id-known : (i : ℕ) (r : Row) → i < length rows → RowStands s rows i r → r .kind ≡ 1 → (es : List (ℕ × Class)) → Known i es
         → 0 < numberIn (sameClass (classFrom s rows (getD rows (r .link - 1) blank))) es
     id-known i r h x k es t =
-        let y = class-of-id i r x k in
+        let y = class-of-id s rows i r x k in
         let j : ℕ = y .0 in
         let a : r .link - 1 ≡ j = omega (arith, y .1) in
         let l : j < i = y .2 in
@@ -512,7 +529,7 @@ module _ (s : List ℕ) (rows : List Row) where
         let p : 0 < numberIn (sameClass (classAt j)) es = omega arith in
         subst (λ (m : ℕ). 0 < numberIn (sameClass (classAt m)) es) (sym a) p
 
-    -- where row i is not the first of its class, the class is known
+    -- where its class is known, row i is the first of none
     row-known : (i : ℕ) (es : List (ℕ × Class)) → Known i es → (0 < numberIn (sameClass (classAt i)) es) → (c : Class) → classFirst s rows c ≡ suc i → ⊥
     row-known i es t h c e =
         let d = first-here i c e in

@@ -1,25 +1,24 @@
 -- Null runs that are gathered row by row are the longest runs of what is said: owners by row and by order are alike, nulls of one owner gather,
 -- and any other record ends a run.
-use Prim.Native.Nat.{ℕ, zero, suc, _+_, _-_, _≤_, _<_}
+use Prim.Native.Nat.{ℕ, zero, suc, _+_, _≤_, _<_}
 use mathlib.Core.Path.{_≡_, refl, sym, ap, subst, _∙_}
 use mathlib.Core.Bool.{Bool, true, false}
-use mathlib.Core.List.{List, [], _∷_, _++_, append-nil, append-assoc}
+use mathlib.Core.List.{List, [], _∷_, _++_, append-assoc}
 use native.Mathlib.Omega.{arith}
-use lib.ListN.{length, getD}
+use lib.ListN.{length}
 use lib.Dec.{eqb, ltb}
-use borrow.Author.Tests.{eqb-true, eqb-false, eq-eqb, ne-eqb, ltb-true, ltb-false}
+use borrow.Author.Tests.{eqb-true, eq-eqb, ne-eqb, ltb-true, ltb-false}
 use Rattle.format.specs.declared.Row.{Row}
 use Rattle.format.specs.Bytes.{pick, sameBytes}
-use Rattle.format.specs.Rows.{blank}
 use Rattle.format.specs.Contents.{Rec, null, library, enc, encs}
-use Rattle.format.specs.Says.{Class, From, theSystem, theLibrary, What, anObject, aString, anArray, aPrimitive, aReference, aNull, aPrimitiveArray, anObjectArray, aStringArray, aValue, Node, node, arrayFrom, orderOf, objectsIn, whatFrom, spread, isNulls, isSilent, nodesOf}
-use Rattle.format.specs.Tidy.{sameClass, numberIn, Progress, Libraries, libraryRecords, allEntered, entered, classNeeds, detailNeeds, classBy, objectBy, recordsOf, afterWhat, Standing, ownedBy, pack, runOf, isNull, Run, noRun, longer, written, waiting, squeeze}
+use Rattle.format.specs.Says.{Class, From, theSystem, theLibrary, What, anObject, aString, anArray, aPrimitive, aReference, aNull, aPrimitiveArray, anObjectArray, aStringArray, aValue, Node, arrayFrom, orderOf, objectsIn, whatFrom, spread, isNulls, isSilent, nodesOf}
+use Rattle.format.specs.Tidy.{sameClass, numberIn, Progress, Libraries, libraryRecords, allEntered, entered, classNeeds, detailNeeds, classBy, objectBy, recordsOf, afterWhat, Standing, ownedBy, pack, runOf, isNull, Run, noRun, written, waiting, squeeze}
 use Rattle.fields.specs.Judged.{picked}
 use Rattle.put.specs.Out.{runOut}
 use Rattle.writing.specs.declared.Gathered.{Gathered}
-use Rattle.writing.specs.Copy.{noneYet, isPassed, beforeOut, moreOf, runAfter}
-use Rattle.meaning.specs.Stands.{Target, Owner, no-owner, owned}
-use Rattle.meaning.specs.Orders.{either, differ, order-object, order-le, nodes-silent, nodes-nulls, nodes-one}
+use Rattle.writing.specs.Copy.{noneYet, isPassed, beforeOut, runAfter}
+use Rattle.meaning.specs.Stands.{Owner, no-owner, owned}
+use Rattle.meaning.specs.Orders.{either, differ, order-object, order-le, nodes-silent, nodes-nulls, nodes-one, said-other}
 
 -- ---- owners
 
@@ -65,7 +64,7 @@ pub data Plain : List Rec → Type 0 where
   just : {r : Rec} → isNull r ≡ false → Plain (r ∷ [])
   more : {r : Rec} {rs : List Rec} → isNull r ≡ false → Plain rs → Plain (r ∷ rs)
 
--- records of other libraries may stand before them
+-- library records may stand before them
 plain-libraries : (ns : List (List ℕ)) (ls : Libraries) (rs : List Rec) → Plain rs → Plain (libraryRecords ns ls ++ rs)
 unfolding libraryRecords
 plain-libraries [] ls rs p = p
@@ -86,6 +85,7 @@ plain-object zero w c =
     plain-libraries (classNeeds c) (w .libraries) (classBy ls (suc (w .count)) c (c .from) ∷ []) (plain-class ls (suc (w .count)) c (c .from))
 plain-object (suc n) w c = just refl
 
+-- a null
 abbrev pub isNothing : What → Bool
 isNothing (anObject c) = false
 isNothing (aString t) = false
@@ -316,7 +316,4 @@ module _ (s : List ℕ) (rows : List Row) (r : Row) (g : Gathered) (w : Run) (m 
       ∙ (ap encs (squeeze-records w o (records-plain p c (what-some s rows r)) rest)
       ∙ (encs-append (runOf (w .count)) (recordsOf p c ++ squeeze noRun rest)
       ∙ (ap (λ (xs : List ℕ). encs (runOf (w .count)) ++ xs) (encs-append (recordsOf p c) (squeeze noRun rest))
-      ∙ ap (λ (xs : List ℕ). xs ++ (encs (recordsOf p c) ++ encs (squeeze noRun rest))) (sym (before-other g x (ap isNulls k ∙ b) (ap (λ (n : ℕ). eqb n 12) k ∙ speaks) ∙ run-out)))))
-    where
-      speaks : eqb (r .kind) 12 ≡ false
-      speaks = either (eqb (r .kind) 12) (λ e. differ (sym (ap isSilent (eqb-true (r .kind) 12 e)) ∙ a)) (λ e. e)
+      ∙ ap (λ (xs : List ℕ). xs ++ (encs (recordsOf p c) ++ encs (squeeze noRun rest))) (sym (before-other g x (ap isNulls k ∙ b) (ap (λ (n : ℕ). eqb n 12) k ∙ said-other (r .kind) a) ∙ run-out)))))
