@@ -20,3 +20,4 @@ pub mod Orders
 pub mod Runs
 pub mod Traversal
 pub mod Rising
+pub mod Words
