@@ -21,3 +21,4 @@ pub mod Runs
 pub mod Traversal
 pub mod Rising
 pub mod Words
+pub mod Link
