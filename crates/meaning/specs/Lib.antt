@@ -21,3 +21,6 @@ pub mod Orders
 pub mod Runs
 pub mod Traversal
 pub mod FromReading
+pub mod Rising
+pub mod Words
+pub mod Link
