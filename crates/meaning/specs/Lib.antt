@@ -19,6 +19,7 @@ pub mod LibrariesOut
 pub mod Orders
 pub mod Runs
 pub mod Traversal
-pub mod Rising
 pub mod Words
+pub mod Rising
+pub mod RowLibraries
 pub mod Link
