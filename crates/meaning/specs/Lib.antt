@@ -23,4 +23,6 @@ pub mod Traversal
 pub mod FromReading
 pub mod Rising
 pub mod Words
+pub mod Rising
+pub mod RowLibraries
 pub mod Link

@@ -1,13 +1,12 @@
 -- The copy written from marked rows is the tidy copy of what the rows say: each row writes its record as what was written before it asks.
 use Prim.Native.Nat.{ℕ, zero, suc, _+_, _-_, _≤_, _<_}
-use mathlib.Core.Path.{_≡_, refl, sym, ap, ap₂, subst, _∙_}
+use mathlib.Core.Path.{_≡_, refl, sym, ap, ap₂, _∙_}
 use mathlib.Core.Bool.{Bool, true, false}
-use mathlib.Core.List.{List, [], _∷_, _++_, append-nil, append-assoc}
+use mathlib.Core.List.{List, [], _∷_, _++_, append-nil}
 use native.Mathlib.Omega.{arith}
-use lib.ListN.{length, getD, take, drop, take-append-drop}
-use lib.Seq.{length-take-le, take-suc, drop-cons}
+use lib.ListN.{length, getD}
 use lib.Dec.{eqb}
-use borrow.Author.Tests.{eqb-true, eqb-false, eq-eqb, ne-eqb}
+use borrow.Author.Tests.{eqb-true, eqb-false}
 use Rattle.format.specs.declared.Row.{Row}
 use Rattle.format.specs.Bytes.{pick, part}
 use Rattle.format.specs.Rows.{blank, isObject, isClass}
@@ -17,76 +16,24 @@ use Rattle.format.specs.Tidy.{Progress, Libraries, numberIn, sameClass, allEnte
 use Rattle.put.specs.Out.{between, headOut, byIdOut, headerOut}
 use Rattle.marks.specs.Marks.{rowAt, withId, itemType, numbered, placed, firsts, needed, marked, isFirst}
 use Rattle.writing.specs.Copy.{needClassOut, classOut, objectOut, arrayOut, bodyOut, needInfoOut, recordOut, copyOf}
-use Rattle.meaning.specs.Stands.{Target, RowStands, the-header, by-id, a-class, a-string, an-array, a-primitive, a-reference, nulls, the-end, a-library, primitives, objects, texts, a-value, ArrayStands, Stands}
-use Rattle.meaning.specs.Marked.{Placed, Firsts, classFields, arrayFields, rowFields, fieldsFrom, All, none, both, namesOf, classFirst}
-use Rattle.meaning.specs.Tests.{pick-of, pick-true, class-eq, class-refl}
+use Rattle.meaning.specs.Stands.{RowStands, the-header, by-id, a-class, a-string, an-array, a-primitive, a-reference, nulls, the-end, a-library, primitives, objects, texts, a-value, ArrayStands, Stands}
+use Rattle.meaning.specs.Marked.{Placed, Firsts, classFields, arrayFields, rowFields, fieldsFrom, All, classFirst}
+use Rattle.meaning.specs.Tests.{pick-of, class-eq, class-refl}
 use Rattle.meaning.specs.Names.{class-at, array-at}
-use Rattle.meaning.specs.Equal.{class-first}
 use Rattle.meaning.specs.Bytes.{Numbered}
-use Rattle.meaning.specs.ClassBytes.{class-need, class-is}
-use Rattle.meaning.specs.ArrayBytes.{arrayItem, arrayLengths, itemsPlace, array-need, array-is}
+use Rattle.meaning.specs.ClassBytes.{class-is}
+use Rattle.meaning.specs.ArrayBytes.{arrayItem, arrayLengths, itemsPlace, array-is}
 use Rattle.meaning.specs.RecordBytes.{header-is, by-id-is, reference-is, value-is, end-is, typed-is, string-is, primitives-is, objects-is, texts-is}
 use Rattle.meaning.specs.Said.{records-by-id, records-system, records-class, records-string, records-array, records-typed, records-reference, records-primitives, records-objects, records-texts, records-value}
-use Rattle.meaning.specs.Passes.{placed-rows, firsts-rows}
-use Rattle.meaning.specs.Entered.{librariesFor, libraries-append}
+use Rattle.meaning.specs.Passes.{object-not-library, placed-rows, firsts-rows}
 use Rattle.meaning.specs.Stamps.{Fields, needed-same}
-use Rattle.meaning.specs.LibrariesOut.{needsOut, class-out, array-out, Spelled, stretch-numbers, stretch-out}
-use Rattle.meaning.specs.Orders.{either, differ, class-kind, class-is-object, order-object, progressTo, progress-none, progress-count, itemNeeds, isNew, rowNeeds, class-of-id, first-order, first-before, class-known, class-later, progress-libraries}
+use Rattle.meaning.specs.LibrariesOut.{class-out, array-out, Spelled}
+use Rattle.meaning.specs.Orders.{either, differ, class-kind, class-is-object, order-object, progressTo, progress-count, itemNeeds, isNew, rowNeeds, class-of-id, first-order, first-before, class-known, class-later}
 use Rattle.meaning.specs.Runs.{encs-append, nulls-kind}
 use Rattle.meaning.specs.Traversal.{recordAs, record-as, Writes, copied}
 use Rattle.meaning.specs.Rising.{fields-hold, fields-spelled}
-use Rattle.meaning.specs.Words.{object-no-library, first-kind, class-words, object-words, marked-kind, marked-kept, marked-other, target-id, first-id, class-id}
-
--- ---- the fields of the rows before a row, of the row, and of those after it
-
-module _ (s : List ℕ) where
-  fields-append : (k : ℕ) (xs ys : List Row) → fieldsFrom s k (xs ++ ys) ≡ fieldsFrom s k xs ++ fieldsFrom s (k + length xs) ys
-  unfolding fieldsFrom
-  fields-append k [] ys = let z : k + 0 ≡ k = omega arith in rw z
-  fields-append k (x ∷ xs) ys =
-      let z : k + 1 + length xs ≡ k + suc (length xs) = omega arith in
-      ap (λ (l : List ℕ). rowFields s k x ++ l) (fields-append (k + 1) xs ys)
-      ∙ (sym (append-assoc (rowFields s k x) (fieldsFrom s (k + 1) xs) (fieldsFrom s (k + 1 + length xs) ys))
-      ∙ ap (λ (n : ℕ). (rowFields s k x ++ fieldsFrom s (k + 1) xs) ++ fieldsFrom s n ys) z)
-
-  module _ (fs : List Row) (i : ℕ) (h : i < length fs) where
-    before : 0 + length (take i fs) ≡ i
-    before = let l : length (take i fs) ≡ i = length-take-le i fs (omega arith) in omega arith
-
-    pub fields-next : fieldsFrom s 0 (take (suc i) fs) ≡ fieldsFrom s 0 (take i fs) ++ rowFields s i (getD fs i blank)
-    unfolding fieldsFrom
-    fields-next =
-        let f : List ℕ = fieldsFrom s 0 (take i fs) in
-        ap (fieldsFrom s 0) (take-suc fs i blank h)
-        ∙ (fields-append 0 (take i fs) (getD fs i blank ∷ [])
-        ∙ (ap (λ (n : ℕ). f ++ (rowFields s n (getD fs i blank) ++ [])) before ∙ ap (λ (l : List ℕ). f ++ l) (append-nil (rowFields s i (getD fs i blank)))))
-
-    pub fields-cut : fieldsFrom s 0 (take i fs) ++ (rowFields s i (getD fs i blank) ++ fieldsFrom s (i + 1) (drop (suc i) fs)) ≡ fieldsFrom s 0 fs
-    unfolding fieldsFrom
-    fields-cut =
-        let f : List ℕ = fieldsFrom s 0 (take i fs) in
-        sym
-        (ap (fieldsFrom s 0) (sym (take-append-drop i fs))
-        ∙ (fields-append 0 (take i fs) (drop i fs)
-        ∙ (ap (λ (n : ℕ). f ++ fieldsFrom s n (drop i fs)) before ∙ ap (λ (l : List Row). f ++ fieldsFrom s i l) (drop-cons fs i blank h))))
-
-  module _ (i : ℕ) (q : Row) where
-    class-row-fields : isFirst i q ≡ true → rowFields s i q ≡ classFields s q
-    unfolding rowFields
-    class-row-fields e = ap (λ (t : Bool). pick t (classFields s q) (pick (eqb (q .kind) 7) (arrayFields s q) [])) e
-
-    other-row-fields : isFirst i q ≡ false → rowFields s i q ≡ pick (eqb (q .kind) 7) (arrayFields s q) []
-    unfolding rowFields
-    other-row-fields e = ap (λ (t : Bool). pick t (classFields s q) (pick (eqb (q .kind) 7) (arrayFields s q) [])) e
-
-  module _ (rows : List Row) (i : ℕ) (r : Row) where
-    class-row-needs : isNew s rows i r ≡ true → rowNeeds s rows i r ≡ classNeeds (classFrom s rows r)
-    unfolding rowNeeds
-    class-row-needs e = ap (λ (t : Bool). pick t (classNeeds (classFrom s rows r)) (pick (eqb (r .kind) 7) (itemNeeds s rows r) [])) e
-
-    other-row-needs : isNew s rows i r ≡ false → rowNeeds s rows i r ≡ pick (eqb (r .kind) 7) (itemNeeds s rows r) []
-    unfolding rowNeeds
-    other-row-needs e = ap (λ (t : Bool). pick t (classNeeds (classFrom s rows r)) (pick (eqb (r .kind) 7) (itemNeeds s rows r) [])) e
+use Rattle.meaning.specs.Words.{first-kind, class-words, object-words, marked-kind, marked-kept, marked-other, target-id, first-id, class-id}
+use Rattle.meaning.specs.RowLibraries.{class-row-fields, other-row-fields, class-row-needs, other-row-needs, first-new, row-out, row-numbers}
 
 -- ---- records
 
@@ -113,82 +60,15 @@ module _ (s : List ℕ) (rows ps fs : List Row) (st : Stands s rows) (pl : Place
   ms = needed s fs
 
   module _ (i : ℕ) (h : i < length rows) where
-    -- a class's first row needs its libraries
-    first-new : isFirst i (getD fs i blank) ≡ isNew s rows i (getD rows i blank)
-    first-new =
-        either (isClass (getD rows i blank .kind))
-        (λ k. ap (isFirst i) (class-words s rows ps fs st pl fi i h k))
-        (λ k. ap (λ (t : Bool). pick t (eqb (getD fs i blank .link) (i + 1)) false) (ap isClass (first-kind s rows ps fs st pl fi i h) ∙ k)
-        ∙ sym (ap (λ (t : Bool). pick t (eqb (classFirst s rows (classFrom s rows (getD rows i blank))) (i + 1)) false) k))
-
-    class-names : isClass (getD rows i blank .kind) ≡ true → namesOf s rows (classFields s (getD fs i blank)) ≡ classNeeds (classFrom s rows (getD rows i blank))
-    class-names k =
-        let e = class-words s rows ps fs st pl fi i h k in
-        class-need s rows (getD rows i blank) (class-at s rows st i h k) (getD fs i blank)
-        (ap (λ (z : Row). z .kind) e) (ap (λ (z : Row). z .offset) e) (ap (λ (z : Row). z .end) e) (ap (λ (z : Row). z .count) e) (ap (λ (z : Row). z .slot) e)
-
-    array-names : getD rows i blank .kind ≡ 7 → namesOf s rows (arrayFields s (getD fs i blank)) ≡ itemNeeds s rows (getD rows i blank)
-    unfolding itemNeeds
-    array-names k =
-        array-need s rows (getD rows i blank) (array-at s rows st i h k) (getD fs i blank)
-        (ap (λ (z : Row). z .offset) (object-words s rows ps fs st pl fi i h (ap isObject k) (ap isClass k)))
-
-    row-names : namesOf s rows (rowFields s i (getD fs i blank)) ≡ rowNeeds s rows i (getD rows i blank)
-    unfolding namesOf
-    row-names =
-        either (isNew s rows i r)
-        (λ e. ap (namesOf s rows) (class-row-fields s i q (first-new ∙ e)) ∙ (class-names (pick-of (isClass (r .kind)) (eqb (classFirst s rows (classFrom s rows r)) (i + 1)) e .0) ∙ sym (class-row-needs s rows i r e)))
-        (λ e. ap (namesOf s rows) (other-row-fields s i q (first-new ∙ e))
-        ∙ (ap (λ (k : ℕ). namesOf s rows (pick (eqb k 7) (arrayFields s q) [])) (first-kind s rows ps fs st pl fi i h) ∙ (items (eqb (r .kind) 7) refl ∙ sym (other-row-needs s rows i r e))))
-      where
-        r : Row
-        r = getD rows i blank
-
-        q : Row
-        q = getD fs i blank
-
-        items : (t : Bool) → eqb (getD rows i blank .kind) 7 ≡ t
-            → namesOf s rows (pick t (arrayFields s (getD fs i blank)) []) ≡ pick t (itemNeeds s rows (getD rows i blank)) []
-        items true e = array-names (eqb-true (getD rows i blank .kind) 7 e)
-        items false e = refl
-
-  -- the libraries that the rows before row i need
-  libraries-before : (i : ℕ) → i ≤ length rows → progressTo s rows i .libraries ≡ librariesFor s rows (fieldsFrom s 0 (take i fs))
-  unfolding fieldsFrom namesOf allEntered
-  libraries-before zero h = ap (λ (w : Progress). w .libraries) (progress-none s rows)
-  libraries-before (suc i) h =
-      let b : List ℕ = fieldsFrom s 0 (take i fs) in
-      let l : i < length fs = omega (arith, fi .size, pl .size) in
-      progress-libraries s rows class-refl class-eq st i h
-      ∙ (ap₂ (λ (n : List (List ℕ)) (t : Libraries). allEntered n t) (sym (row-names i h)) (libraries-before i (omega arith))
-      ∙ (sym (libraries-append s rows b (rowFields s i (getD fs i blank))) ∙ ap (librariesFor s rows) (sym (fields-next s fs i l))))
-
-  module _ (i : ℕ) (h : i < length rows) where
-    inside : i < length fs
-    inside = omega (arith, fi .size, pl .size)
-
-    -- the library records before row i's record
-    row-out : needsOut s ms (rowFields s i (getD fs i blank)) ≡ encs (libraryRecords (rowNeeds s rows i (getD rows i blank)) (progressTo s rows i .libraries))
-    row-out =
-        stretch-out s rows fs F spelled (rowFields s i (getD fs i blank)) (fieldsFrom s 0 (take i fs)) (fieldsFrom s (i + 1) (drop (suc i) fs)) (fields-cut s fs i inside)
-        ∙ ap₂ (λ (n : List (List ℕ)) (t : Libraries). encs (libraryRecords n t)) (row-names i h) (sym (libraries-before i (omega arith)))
-
-    -- and the numbers of the libraries that it names
-    row-numbers : All (Numbered s rows ms (allEntered (rowNeeds s rows i (getD rows i blank)) (progressTo s rows i .libraries))) (rowFields s i (getD fs i blank))
-    row-numbers =
-        subst (λ (t : Libraries). All (Numbered s rows ms t) (rowFields s i (getD fs i blank)))
-        (ap₂ (λ (n : List (List ℕ)) (t : Libraries). allEntered n t) (row-names i h) (sym (libraries-before i (omega arith))))
-        (stretch-numbers s rows fs F (rowFields s i (getD fs i blank)) (fieldsFrom s 0 (take i fs)) (fieldsFrom s (i + 1) (drop (suc i) fs)) (fields-cut s fs i inside))
-
-    -- ---- what row i writes
+    -- ---- objects
 
     -- rows of objects get their numbers in the order of the rows
     next-number : isObject (getD rows i blank .kind) ≡ true → orderOf rows (suc i) ≡ suc (progressTo s rows i .count)
     next-number o = order-object rows i h o ∙ ap suc (sym (progress-count s rows i (omega arith)))
 
-    -- any row but a library's writes the record of its row before libraries were numbered
+    -- an object's row writes the record that it has before libraries are numbered
     from-first : isObject (getD rows i blank .kind) ≡ true → recordOut s ms i (getD ms i blank) ≡ recordOut s ms i (getD fs i blank)
-    from-first o = ap (recordOut s ms i) (marked-kept s rows ps fs st pl fi ms (needed-same s rows fs F) i h (object-no-library (getD rows i blank .kind) o))
+    from-first o = ap (recordOut s ms i) (marked-kept s rows ps fs st pl fi ms (needed-same s rows fs F) i h (object-not-library (getD rows i blank .kind) o))
 
     module _ (k : isClass (getD rows i blank .kind) ≡ true) where
       -- the class, and its number so far
@@ -212,21 +92,19 @@ module _ (s : List ℕ) (rows ps fs : List Row) (st : Stands s rows) (pl : Place
           let q : Row = getD fs i blank in
           let w : Progress = progressTo s rows i in
           let ls : Libraries = allEntered (classNeeds class) (w .libraries) in
-          let first : isFirst i q ≡ true = first-new i h ∙ e in
+          let first : isFirst i q ≡ true = first-new s rows ps fs st pl fi i h ∙ e in
           let fields : rowFields s i q ≡ classFields s q = class-row-fields s i q first in
           let needs : rowNeeds s rows i r ≡ classNeeds class = class-row-needs s rows i r e in
           let a : needClassOut s ms q ≡ encs (libraryRecords (classNeeds class) (w .libraries)) =
-          class-out s ms q
-          ∙ (ap (needsOut s ms) (sym fields) ∙ (row-out ∙ ap (λ (n : List (List ℕ)). encs (libraryRecords n (w .libraries))) needs)) in
-          let numbers : All (Numbered s rows ms ls) (classFields s q) =
-          subst (λ (n : List (List ℕ)). All (Numbered s rows ms (allEntered n (w .libraries))) (classFields s q)) needs
-          (subst (All (Numbered s rows ms (allEntered (rowNeeds s rows i r) (w .libraries)))) fields row-numbers) in
+          class-out s ms q ∙ row-out s rows ps fs st pl fi F i h (classFields s q) (classNeeds class) fields needs spelled in
+          let numbers : All (Numbered s rows ms ls) (classFields s q) = row-numbers s rows ps fs st pl fi F i h (classFields s q) (classNeeds class) fields needs in
           let c = class-words s rows ps fs st pl fi i h k in
           let b : classOut s ms q ≡ enc (classBy ls (suc (w .count)) class (class .from)) =
           class-is s rows r (class-at s rows st i h k) q (ap (λ (z : Row). z .kind) c) (ap (λ (z : Row). z .offset) c) (ap (λ (z : Row). z .end) c)
           (ap (λ (z : Row). z .count) c) (ap (λ (z : Row). z .slot) c) (st .bytes) ms ls numbers
           ∙ ap (λ (n : ℕ). enc (classBy ls n class (class .from))) class-number in
-          let f : classFirst s rows class ≡ i + 1 = eqb-true (classFirst s rows class) (i + 1) (pick-of (isClass (r .kind)) (eqb (classFirst s rows class) (i + 1)) e .1) in
+          let f : classFirst s rows class ≡ i + 1 =
+          eqb-true (classFirst s rows class) (i + 1) (pick-of (isClass (r .kind)) (eqb (classFirst s rows class) (i + 1)) e .1) in
           let z : number ≡ 0 = class-later s rows class-refl class-eq st i (omega arith) class (omega arith) in
           ap (λ (t : Bool). pick t (needClassOut s ms q ++ classOut s ms q) (byIdOut (q .id) (rowAt ms (q .link) .id))) first
           ∙ last-record (needClassOut s ms q) (classOut s ms q) (libraryRecords (classNeeds class) (w .libraries)) (classBy ls (suc (w .count)) class (class .from))
@@ -251,7 +129,7 @@ module _ (s : List ℕ) (rows ps fs : List Row) (st : Stands s rows) (pl : Place
           let id : rowAt ms (q .link) .id ≡ number =
           ap (λ (x : Row). rowAt ms (x .link) .id) (class-words s rows ps fs st pl fi i h k)
           ∙ (first-id s rows ps fs st pl fi ms (needed-same s rows fs F) i h k ∙ sym z) in
-          ap (λ (t : Bool). pick t (needClassOut s ms q ++ classOut s ms q) (byIdOut (q .id) (rowAt ms (q .link) .id))) (first-new i h ∙ e)
+          ap (λ (t : Bool). pick t (needClassOut s ms q ++ classOut s ms q) (byIdOut (q .id) (rowAt ms (q .link) .id))) (first-new s rows ps fs st pl fi i h ∙ e)
           ∙ (ap₂ byIdOut class-number id
           ∙ one-record (byIdOut (suc (w .count)) number) (classById (suc (w .count)) number) (objectBy number w class) (by-id-is (suc (w .count)) number)
           (known-by number w class (omega arith)))
@@ -263,7 +141,8 @@ module _ (s : List ℕ) (rows ps fs : List Row) (st : Stands s rows) (pl : Place
           let w : Progress = progressTo s rows i in
           let kind = first-kind s rows ps fs st pl fi i h in
           let out : recordOut s ms i q ≡ objectOut s ms i q =
-          class-kind (r .kind) k (λ (n : ℕ). r .kind ≡ n → recordOut s ms i q ≡ objectOut s ms i q) (λ e. record-as s ms i q 4 (kind ∙ e)) (λ e. record-as s ms i q 5 (kind ∙ e)) refl in
+          class-kind (r .kind) k (λ (n : ℕ). r .kind ≡ n → recordOut s ms i q ≡ objectOut s ms i q)
+          (λ e. record-as s ms i q 4 (kind ∙ e)) (λ e. record-as s ms i q 5 (kind ∙ e)) refl in
           let says : recordsOf w (whatFrom s rows r) ≡ objectBy number w class =
           class-kind (r .kind) k (λ (n : ℕ). r .kind ≡ n → recordsOf w (whatFrom s rows r) ≡ objectBy number w class) (records-system s rows r w) (records-class s rows r w) refl in
           from-first object ∙ (out ∙ (either (isNew s rows i r) new-object known-object ∙ ap encs (sym says)))
@@ -311,16 +190,13 @@ module _ (s : List ℕ) (rows ps fs : List Row) (st : Stands s rows) (pl : Place
         let kind : q .kind ≡ 7 = first-kind s rows ps fs st pl fi i h ∙ k in
         let none-new : isNew s rows i r ≡ false = ap (λ (t : Bool). pick t (eqb (classFirst s rows (classFrom s rows r)) (i + 1)) false) (ap isClass k) in
         let fields : rowFields s i q ≡ arrayFields s q =
-        other-row-fields s i q (first-new i h ∙ none-new) ∙ ap (λ (n : ℕ). pick (eqb n 7) (arrayFields s q) []) kind in
+        other-row-fields s i q (first-new s rows ps fs st pl fi i h ∙ none-new) ∙ ap (λ (n : ℕ). pick (eqb n 7) (arrayFields s q) []) kind in
         let needs : rowNeeds s rows i r ≡ detailNeeds item = other-row-needs s rows i r none-new ∙ ap (λ (n : ℕ). pick (eqb n 7) (itemNeeds s rows r) []) k in
         let need : List ℕ = needInfoOut s ms (getD s (itemType s q) 0) (itemsPlace s q) in
         let body : List ℕ = bodyOut s ms (itemType s q) (itemsPlace s q) q in
         let a : need ≡ encs (libraryRecords (detailNeeds item) (w .libraries)) =
-        array-out s ms q
-        ∙ (ap (needsOut s ms) (sym fields) ∙ (row-out ∙ ap (λ (n : List (List ℕ)). encs (libraryRecords n (w .libraries))) needs)) in
-        let numbers : All (Numbered s rows ms ls) (arrayFields s q) =
-        subst (λ (n : List (List ℕ)). All (Numbered s rows ms (allEntered n (w .libraries))) (arrayFields s q)) needs
-        (subst (All (Numbered s rows ms (allEntered (rowNeeds s rows i r) (w .libraries)))) fields row-numbers) in
+        array-out s ms q ∙ row-out s rows ps fs st pl fi F i h (arrayFields s q) (detailNeeds item) fields needs spelled in
+        let numbers : All (Numbered s rows ms ls) (arrayFields s q) = row-numbers s rows ps fs st pl fi F i h (arrayFields s q) (detailNeeds item) fields needs in
         let whole : ℕ → Rec = λ (n : ℕ). array n (getD s (r .offset + 5) 0) (arrayLengths s r) (detailBy ls item) (between s (itemsPlace s r) (r .end)) in
         let b : body ≡ enc (whole (suc (w .count))) =
         array-is s rows r c q (ap (λ (z : Row). z .offset) e) (ap (λ (z : Row). z .end) e) ms (st .bytes) ls numbers

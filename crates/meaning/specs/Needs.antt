@@ -32,6 +32,10 @@ module _ (P : ℕ → Type 0) where
   pub all-first : (x : ℕ) (xs : List ℕ) → All P (x ∷ xs) → P x
   all-first x xs (both p a) = p
 
+pub all-so : (P Q : ℕ → Type 0) → ((x : ℕ) → P x → Q x) → (xs : List ℕ) → All P xs → All Q xs
+all-so P Q f [] none = none
+all-so P Q f (x ∷ xs) (both p a) = both (f x p) (all-so P Q f xs a)
+
 -- ---- rows between the start of the pass and its end
 
 -- a row but for its new number and the place of the field that needs it first

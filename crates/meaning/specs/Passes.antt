@@ -94,7 +94,7 @@ class-object kind h = go (eqb kind 4) (eqb kind 5) h refl refl
     go false true e p q = rw (eqb-true kind 5 q)
     go false false e p q = absurd (true≢false (sym e))
 
-object-not-library : (kind : ℕ) → isObject kind ≡ true → eqb kind 12 ≡ false
+pub object-not-library : (kind : ℕ) → isObject kind ≡ true → eqb kind 12 ≡ false
 object-not-library kind h = ne-eqb kind 12 (λ e. true≢false (sym h ∙ ap isObject e))
 
 library-not-object : (kind : ℕ) → kind ≡ 12 → isObject kind ≡ false

@@ -2,7 +2,7 @@
 -- the library's name.
 use Prim.Native.Nat.{ℕ, zero, suc, _+_, _-_, _*_, _≤_, _<_}
 use mathlib.Core.Path.{_≡_, refl, sym, ap, subst, _∙_}
-use mathlib.Core.Bool.{Bool, true, false}
+use mathlib.Core.Bool.{true}
 use mathlib.Core.List.{List, [], _∷_, _++_, append-nil}
 use native.Mathlib.Omega.{arith}
 use lib.ListN.{length, getD}
@@ -13,24 +13,24 @@ use Rattle.format.specs.declared.Row.{Row}
 use Rattle.format.specs.Bytes.{pick}
 use Rattle.format.specs.Rows.{blank, isObject, isClass}
 use Rattle.format.specs.Records.{infoKnown, infosAt}
-use Rattle.format.specs.Says.{numberFrom, textFrom, afterInfo}
+use Rattle.format.specs.Says.{numberFrom, afterInfo}
 use Rattle.format.specs.Contents.{library, enc}
 use Rattle.num.specs.Read.{u32-says}
 use Rattle.fields.specs.Judged.{picked}
 use Rattle.fields.specs.Sequence.{through}
 use Rattle.types.specs.Keeps.{type-told, name-moves}
-use Rattle.classes.specs.Moves.{info-known-moves, infos-moves}
+use Rattle.classes.specs.Moves.{info-known-moves}
 use Rattle.marks.specs.Marks.{rowAt, libraryAt, itemType, isFirst}
-use Rattle.writing.specs.Copy.{libraryOut}
 use Rattle.meaning.specs.Stands.{OwnStands, of-system, of-library, ClassStands, ArrayStands, Stands}
-use Rattle.meaning.specs.Marked.{Placed, Firsts, infoFields, classFields, arrayFields, rowFields, fieldsFrom, All, none, both, nameAtField}
+use Rattle.meaning.specs.Marked.{Placed, Firsts, infoFields, classFields, arrayFields, rowFields, fieldsFrom, All}
 use Rattle.meaning.specs.Tests.{pick-of}
-use Rattle.meaning.specs.Names.{class-at, library-row, array-at, NamesLibrary, own-names, after-info, class-places, placed-class, placed-kind, library-first, firsts-word, firsts-library, fields-name}
+use Rattle.meaning.specs.Names.{class-at, library-row, array-at, NamesLibrary, own-names, after-info, class-places, library-first, firsts-word, firsts-library, fields-name}
 use Rattle.meaning.specs.Bytes.{class-info}
 use Rattle.meaning.specs.RecordBytes.{library-is}
-use Rattle.meaning.specs.Needs.{Aimed}
+use Rattle.meaning.specs.Needs.{all-so}
 use Rattle.meaning.specs.Stamps.{Rising, no-more, next, rising-from, rising-append, Named, Fields}
 use Rattle.meaning.specs.LibrariesOut.{Spelled}
+use Rattle.meaning.specs.Words.{first-kind, class-words, object-words}
 
 -- ---- the fields of a row
 
@@ -113,7 +113,8 @@ module _ (s : List ℕ) (rows : List Row) where
 
 -- rows between bounds that follow one another
 rows-rising : (s : List ℕ) (b : ℕ → ℕ) (i : ℕ) (rows : List Row)
-    → ((k : ℕ) → k < length rows → Rising (b (suc (i + k))) (b (i + k)) (rowFields s (i + k) (getD rows k blank))) → Rising (b (i + length rows)) (b i) (fieldsFrom s i rows)
+    → ((k : ℕ) → k < length rows → Rising (b (suc (i + k))) (b (i + k)) (rowFields s (i + k) (getD rows k blank)))
+    → Rising (b (i + length rows)) (b i) (fieldsFrom s i rows)
 unfolding fieldsFrom
 rows-rising s b i [] h = let z : i + 0 ≡ i = omega arith in rw z (no-field (b i) (b i) (omega arith))
 rows-rising s b i (r ∷ rows) h =
@@ -128,10 +129,6 @@ rows-rising s b i (r ∷ rows) h =
         let z : i + suc k ≡ i + 1 + k = omega arith in
         subst (λ (n : ℕ). Rising (b (suc n)) (b n) (rowFields s n (getD rows k blank))) z (h (suc k) (omega arith))
 
-all-so : (P Q : ℕ → Type 0) → ((x : ℕ) → P x → Q x) → (xs : List ℕ) → All P xs → All Q xs
-all-so P Q f [] none = none
-all-so P Q f (x ∷ xs) (both p a) = both (f x p) (all-so P Q f xs a)
-
 -- where the rows before row i end
 abbrev edge : List Row → ℕ → ℕ
 edge rows zero = getD rows 0 blank .offset
@@ -145,7 +142,9 @@ module _ (s : List ℕ) (rows ps fs : List Row) (st : Stands s rows) (pl : Place
   row-rising : (i : ℕ) → i < length rows → Rising (getD rows i blank .end) (getD rows i blank .offset) (rowFields s i (getD fs i blank))
   unfolding rowFields
   row-rising i h =
-      picked P (isFirst i q) classes (λ e. picked P (eqb (q .kind) 7) arrays (λ e. let f = st .forward i h in no-field (getD rows i blank .end) (getD rows i blank .offset) (omega arith)))
+      picked P (isFirst i q) classes
+      (λ e. picked P (eqb (q .kind) 7) arrays
+      (λ e. let f = st .forward i h in no-field (getD rows i blank .end) (getD rows i blank .offset) (omega arith)))
     where
       q : Row
       q = getD fs i blank
@@ -154,23 +153,20 @@ module _ (s : List ℕ) (rows ps fs : List Row) (st : Stands s rows) (pl : Place
       P = Rising (getD rows i blank .end) (getD rows i blank .offset)
 
       kind : q .kind ≡ getD rows i blank .kind
-      kind = firsts-word s rows ps fs fi (λ (r : Row). r .kind) (λ r x. refl) i ∙ placed-kind s rows ps st pl i h
+      kind = first-kind s rows ps fs st pl fi i h
 
       classes : isFirst i q ≡ true → P (classFields s q)
       classes e =
           let k = ap isClass (sym kind) ∙ pick-of (isClass (q .kind)) (eqb (q .link) (i + 1)) e .0 in
-          let p = placed-class s rows ps st pl i h k in
-          class-rising s rows (getD rows i blank) q (class-at s rows st i h k) kind
-          (firsts-word s rows ps fs fi (λ (r : Row). r .end) (λ r x. refl) i ∙ ap (λ (r : Row). r .end) p)
-          (firsts-word s rows ps fs fi (λ (r : Row). r .count) (λ r x. refl) i ∙ ap (λ (r : Row). r .count) p)
-          (firsts-word s rows ps fs fi (λ (r : Row). r .slot) (λ r x. refl) i ∙ ap (λ (r : Row). r .slot) p)
+          let w = class-words s rows ps fs st pl fi i h k in
+          class-rising s rows (getD rows i blank) q (class-at s rows st i h k) kind (ap (λ (r : Row). r .end) w) (ap (λ (r : Row). r .count) w)
+          (ap (λ (r : Row). r .slot) w)
 
       arrays : eqb (q .kind) 7 ≡ true → P (arrayFields s q)
       arrays e =
           let k = sym kind ∙ eqb-true (q .kind) 7 e in
           array-rising s rows (getD rows i blank) q (array-at s rows st i h k)
-          (firsts-word s rows ps fs fi (λ (r : Row). r .offset) (λ r x. refl) i
-          ∙ ap (λ (r : Row). r .offset) (pl .object i h (ap isObject k) (ap isClass k)))
+          (ap (λ (r : Row). r .offset) (object-words s rows ps fs st pl fi i h (ap isObject k) (ap isClass k)))
 
   rising : Rising (edge rows (length fs)) (edge rows 0) (fieldsFrom s 0 fs)
   rising =
@@ -196,7 +192,7 @@ module _ (s : List ℕ) (rows ps fs : List Row) (st : Stands s rows) (pl : Place
           row = x .row;
           aims = e ∙ (x .same ∙ x .first);
           inside = omega (arith, fi .size, pl .size, x .inside);
-          library = firsts-word s rows ps fs fi (λ (r : Row). r .kind) (λ r y. refl) (x .row) ∙ (placed-kind s rows ps st pl (x .row) (x .inside) ∙ x .kind);
+          library = first-kind s rows ps fs st pl fi (x .row) (x .inside) ∙ x .kind;
         };
         first = e ∙ x .same;
       }
@@ -226,7 +222,7 @@ module _ (s : List ℕ) (rows ps fs : List Row) (st : Stands s rows) (pl : Place
         rising = rising-from (edge rows (length fs)) 0 (edge rows 0) (fieldsFrom s 0 fs) (omega arith) rising;
         fresh = λ j h k.
             let l : j < length rows = omega (arith, fi .size, pl .size) in
-            let kind : getD rows j blank .kind ≡ 12 = sym (placed-kind s rows ps st pl j l) ∙ (sym (firsts-word s rows ps fs fi (λ (r : Row). r .kind) (λ r y. refl) j) ∙ k) in
+            let kind : getD rows j blank .kind ≡ 12 = sym (first-kind s rows ps fs st pl fi j l) ∙ k in
             firsts-word s rows ps fs fi (λ (r : Row). r .slot) (λ r y. refl) j ∙ (ap (λ (r : Row). r .slot) (pl .library j l kind) ∙ fresh j l kind);
       }
 

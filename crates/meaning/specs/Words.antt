@@ -1,26 +1,23 @@
 -- The words of marked rows, row by row: each row keeps what it says, objects have their orders as numbers, a class's row has the place of its type
 -- bytes and the first row of its class, and links lead to the numbers of what they name.
-use Prim.Native.Nat.{ℕ, zero, suc, _+_, _-_, _≤_, _<_}
+use Prim.Native.Nat.{ℕ, suc, _-_, _<_}
 use mathlib.Core.Path.{_≡_, refl, sym, ap, _∙_}
-use mathlib.Core.Bool.{Bool, true, false}
+use mathlib.Core.Bool.{true, false}
 use mathlib.Core.List.{List}
 use native.Mathlib.Omega.{arith}
 use lib.ListN.{length, getD}
 use lib.Dec.{eqb}
-use borrow.Author.Tests.{ne-eqb}
 use Rattle.format.specs.declared.Row.{Row}
 use Rattle.format.specs.Rows.{blank, isObject, isClass, withLink}
 use Rattle.format.specs.Says.{orderOf, classFrom}
 use Rattle.marks.specs.Marks.{rowAt, withId, withSlot, firstClass}
 use Rattle.meaning.specs.Stands.{Target, Stands}
 use Rattle.meaning.specs.Marked.{Placed, Firsts, classFirst}
+use Rattle.meaning.specs.Passes.{object-not-library}
 use Rattle.meaning.specs.Names.{class-at, placed-class, placed-kind, firsts-word}
 use Rattle.meaning.specs.Equal.{class-first}
 use Rattle.meaning.specs.Needs.{Like}
 use Rattle.meaning.specs.Orders.{either, differ, class-is-object}
-
-pub object-no-library : (kind : ℕ) → isObject kind ≡ true → eqb kind 12 ≡ false
-object-no-library kind h = ne-eqb kind 12 (λ e. differ (sym h ∙ ap isObject e))
 
 module _ (s : List ℕ) (rows ps fs : List Row) (st : Stands s rows) (pl : Placed s rows ps) (fi : Firsts s rows ps fs) where
   -- ---- before libraries are numbered
@@ -37,7 +34,8 @@ module _ (s : List ℕ) (rows ps fs : List Row) (st : Stands s rows) (pl : Place
 
     pub class-words : (k : isClass (getD rows i blank .kind) ≡ true)
         → getD fs i blank
-        ≡ withLink (withSlot (withId (getD rows i blank) (orderOf rows (suc i))) (class-at s rows st i h k .types)) (classFirst s rows (classFrom s rows (getD rows i blank)))
+        ≡ withLink (withSlot (withId (getD rows i blank) (orderOf rows (suc i))) (class-at s rows st i h k .types))
+        (classFirst s rows (classFrom s rows (getD rows i blank)))
     class-words k =
         let r : Row = withSlot (withId (getD rows i blank) (orderOf rows (suc i))) (class-at s rows st i h k .types) in
         fi .class i inside (ap isClass (placed-kind s rows ps st pl i h) ∙ k)
@@ -95,5 +93,5 @@ module _ (s : List ℕ) (rows ps fs : List Row) (st : Stands s rows) (pl : Place
     pub class-id : (i : ℕ) → i < length rows → isClass (getD rows i blank .kind) ≡ true
         → rowAt ms (getD ms i blank .link) .id ≡ orderOf rows (classFirst s rows (classFrom s rows (getD rows i blank)))
     class-id i h k =
-        let l = object-no-library (getD rows i blank .kind) (class-is-object (getD rows i blank .kind) k) in
+        let l = object-not-library (getD rows i blank .kind) (class-is-object (getD rows i blank .kind) k) in
         ap (λ (r : Row). rowAt ms (r .link) .id) (marked-kept i h l ∙ class-words i h k) ∙ first-id i h k
