@@ -1,5 +1,5 @@
 -- What each writer of the copy puts out: one law for each way that it ends.
-use Prim.Native.Nat.{ℕ, zero, suc, _+_, _-_, _*_, _%_, _≤_, _<_}
+use Prim.Native.Nat.{ℕ, suc, _+_, _-_, _*_, _%_, _≤_, _<_}
 use mathlib.Core.Path.{_≡_, refl, sym, ap, ap₂, _∙_}
 use mathlib.Core.Bool.{Bool, true, false, _||_}
 use mathlib.Core.List.{List, [], _∷_, _++_}
@@ -12,7 +12,7 @@ use borrow.Author.Tests.{eq-eqb, ne-eqb, le-leb, lt-leb}
 use borrow.Rule.Slice.PartMut.{putMid}
 use Rattle.format.specs.declared.Row.{Row}
 use Rattle.format.specs.declared.TidyAnswer.the-variants as A
-use Rattle.format.specs.Bytes.{pick, laid}
+use Rattle.format.specs.Bytes.{pick}
 use Rattle.format.specs.Numbers.{leBytes}
 use Rattle.format.specs.Rows.{blank, isClass}
 use Rattle.format.specs.Says.{afterInfo, isNulls}
