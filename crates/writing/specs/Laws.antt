@@ -1,5 +1,5 @@
 -- What each writer of the copy puts out: one law for each way that it ends.
-use Prim.Native.Nat.{ℕ, zero, suc, _+_, _-_, _*_, _%_, _≤_, _<_}
+use Prim.Native.Nat.{ℕ, suc, _+_, _-_, _*_, _%_, _≤_, _<_}
 use mathlib.Core.Path.{_≡_, refl, sym, ap, ap₂, _∙_}
 use mathlib.Core.Bool.{Bool, true, false, _||_}
 use mathlib.Core.List.{List, [], _∷_, _++_}
@@ -12,7 +12,7 @@ use borrow.Author.Tests.{eq-eqb, ne-eqb, le-leb, lt-leb}
 use borrow.Rule.Slice.PartMut.{putMid}
 use Rattle.format.specs.declared.Row.{Row}
 use Rattle.format.specs.declared.TidyAnswer.the-variants as A
-use Rattle.format.specs.Bytes.{pick, laid}
+use Rattle.format.specs.Bytes.{pick}
 use Rattle.format.specs.Numbers.{leBytes}
 use Rattle.format.specs.Rows.{blank, isClass}
 use Rattle.format.specs.Says.{afterInfo, isNulls}
@@ -165,7 +165,7 @@ first-none i r t x h = ap (λ (z : Bool). pick z (eqb (r .link) (i + 1)) false) 
 
 -- ---- one clause for each kind
 module _ (s : List ℕ) (rs : List Row) (i : ℕ) (r : Row) where
-  abbrev byKind : ℕ → List ℕ
+  abbrev pub byKind : ℕ → List ℕ
   byKind k =
       pick (eqb k 0) (headerOut (rowAt rs (r .link) .id))
       (pick (eqb k 1) (byIdOut (r .id) (rowAt rs (rowAt rs (r .link) .link) .id))
@@ -177,7 +177,7 @@ module _ (s : List ℕ) (rs : List Row) (i : ℕ) (r : Row) where
       (pick (eqb k 15 || (eqb k 16 || eqb k 17)) (keptOut s r)
       (between s (r .offset) (r .end)))))))))
 
-  of-kind : (k : ℕ) → r .kind ≡ k → recordOut s rs i r ≡ byKind k
+  pub of-kind : (k : ℕ) → r .kind ≡ k → recordOut s rs i r ≡ byKind k
   unfolding recordOut
   of-kind k h = ap byKind h
 
@@ -188,41 +188,8 @@ module _ (s : List ℕ) (rs : List Row) (i : ℕ) (r : Row) where
   record-1 c t h x y =
       of-kind 1 h ∙ ap (λ (q : Row). byIdOut (r .id) (q .id)) (sym (y ∙ ap (λ (q : Row). rowAt rs (q .link)) x))
 
-  pub record-4 : r .kind ≡ 4 → recordOut s rs i r ≡ objectOut s rs i r
-  record-4 h = of-kind 4 h
-
-  pub record-5 : r .kind ≡ 5 → recordOut s rs i r ≡ objectOut s rs i r
-  record-5 h = of-kind 5 h
-
-  pub record-6 : r .kind ≡ 6 → recordOut s rs i r ≡ stringOut s r
-  record-6 h = of-kind 6 h
-
-  pub record-7 : r .kind ≡ 7 → recordOut s rs i r ≡ arrayOut s rs r
-  record-7 h = of-kind 7 h
-
   pub record-9 : (t : Row) → r .kind ≡ 9 → t ≡ rowAt rs (r .link) → recordOut s rs i r ≡ headOut 9 (t .id)
   record-9 t h x = of-kind 9 h ∙ ap (λ (q : Row). headOut 9 (q .id)) (sym x)
-
-  pub record-10 : r .kind ≡ 10 → recordOut s rs i r ≡ []
-  record-10 h = of-kind 10 h
-
-  pub record-12 : r .kind ≡ 12 → recordOut s rs i r ≡ []
-  record-12 h = of-kind 12 h
-
-  pub record-13 : r .kind ≡ 13 → recordOut s rs i r ≡ []
-  record-13 h = of-kind 13 h
-
-  pub record-14 : r .kind ≡ 14 → recordOut s rs i r ≡ []
-  record-14 h = of-kind 14 h
-
-  pub record-15 : r .kind ≡ 15 → recordOut s rs i r ≡ keptOut s r
-  record-15 h = of-kind 15 h
-
-  pub record-16 : r .kind ≡ 16 → recordOut s rs i r ≡ keptOut s r
-  record-16 h = of-kind 16 h
-
-  pub record-17 : r .kind ≡ 17 → recordOut s rs i r ≡ keptOut s r
-  record-17 h = of-kind 17 h
 
   abbrev Not : ℕ → Type 0
   Not k = r .kind ≡ k → ⊥

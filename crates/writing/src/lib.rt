@@ -473,18 +473,19 @@ fn put_before(out: &mut [u8], w: Gathered, r: Row) -> usize
     put::put_run(out, w.count)
 }
 
-fn run_after(w: Gathered, r: Row) -> Gathered
-    requires { ⌜ w .count < 1152921504606846976 ⌝ }
-    ensures { λ q. ⌜ q ≡ runAfter w r ⌝ }
+// The nulls that wait after row r.
+fn run_after(before: Gathered, r: Row) -> Gathered
+    requires { ⌜ before .count < 1152921504606846976 ⌝ }
+    ensures { λ q. ⌜ q ≡ runAfter before r ⌝ }
 {
     if is_passed(r) {
-        return w;
+        return before;
     }
     if is_nulls(r.kind) {
-        if r.owner == w.owner {
+        if r.owner == before.owner {
             return Gathered {
                 owner: r.owner,
-                count: w.count + (r.count as usize),
+                count: before.count + (r.count as usize),
             };
         }
         return Gathered {

@@ -1,5 +1,4 @@
 -- One clause of the run for each return.
-use native.Mathlib.Omega.{arith}
 use Rattle.put.specs.Put.{became, nothing}
 use Rattle.put.specs.Pieces.{run-none, run-one, run-some, run-many}
 use borrow.Author.Needs.{needs}

@@ -1,6 +1,5 @@
 -- Each kind by its number.
 use Rattle.writing.specs.Laws.{nulls-known, nulls-none}
-use borrow.Author.Needs.{needs}
 use Rattle.writing.proofs.is_nulls.Statement.{statement}
 use Rattle.writing.proofs.is_nulls.Tie as tie
 
