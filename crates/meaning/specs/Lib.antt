@@ -23,6 +23,5 @@ pub mod Traversal
 pub mod FromReading
 pub mod Rising
 pub mod Words
-pub mod Rising
 pub mod RowLibraries
 pub mod Link

@@ -18,6 +18,7 @@ use Rattle.format.specs.Machine.{Outcome, accepted, refused, readOf, readAnswer
 use Rattle.format.specs.Says.{says}
 use Rattle.format.specs.Tidy.{tidyOf, fits, answerBy, outBy, tidyAnswer, tidyOutput, tidyTable}
 use Rattle.table.specs.Rows.{rowsOf-words, length-rowsOf, room-kept}
+use Rattle.table.specs.Links.{length-linked}
 use Rattle.standing.specs.Accepted.{accepted-stands}
 use Rattle.marks.specs.Marks.{marked}
 use Rattle.writing.specs.Copy.{copyOf}
@@ -30,6 +31,16 @@ abbrev pub restored : List ℕ → List ℕ → TidyAnswer → List ℕ
 restored s t (Q.Written n) = tableWords (length t) (readOf s (roomOf t))
 restored s t (Q.Refused r p) = replicate (length t) 0
 restored s t (Q.OutFull n) = replicate (length t) 0
+
+module _ (s t u : List ℕ) (q : TidyAnswer) where
+  pub restored-read : (n : ℕ) → q ≡ Q.Written n → u ≡ tableWords (length t) (readOf s (roomOf t)) → u ≡ restored s t q
+  restored-read n k e = e ∙ sym (ap (restored s t) k)
+
+  pub restored-refused : (r : Refusal) (p : ℕ) → q ≡ Q.Refused r p → u ≡ replicate (length t) 0 → u ≡ restored s t q
+  restored-refused r p k e = e ∙ sym (ap (restored s t) k)
+
+  pub restored-full : (n : ℕ) → q ≡ Q.OutFull n → u ≡ replicate (length t) 0 → u ≡ restored s t q
+  restored-full n k e = e ∙ sym (ap (restored s t) k)
 
 -- ---- an accepted reading
 
@@ -54,6 +65,11 @@ read-of s t u a n k e w l =
     let rows = x .0 in
     let y = accepted-stands s (roomOf t) rows (x .1) in
     let z : u ≡ tableWords (length t) (accepted rows) = w ∙ ap (tableWords (length t)) (x .1) in
+    let c : length rows ≡ length (y .raw) = ap length (y .same) ∙ length-linked (y .raw) in
+    let d = y .stands .counted in
+    let f = y .stands .fits in
+    let g = y .roomy in
+    let m = x .2 in
     let r = room-kept t u l in
     record {
       rows = rows;
@@ -72,7 +88,7 @@ module _ (s t u v : List ℕ) (n : ℕ) (byte : (i : ℕ) → getD s i 0 < 256) 
   copy-rows : copy ≡ copyOf s (marked s (w .rows))
   copy-rows = ap (copyOf s) (m ∙ ap (marked s) (w .rows-are))
 
-  pub copy-is : copy ≡ tidyOf (says s (w .rows))
+  copy-is : copy ≡ tidyOf (says s (w .rows))
   copy-is =
       copy-rows
       ∙ copy-is-tidy s (w .rows) (stands s byte (roomOf t) (w .rows) (w .reads)) (library-slots s (roomOf t) (w .rows) (w .reads))
@@ -85,11 +101,11 @@ module _ (s t u v : List ℕ) (n : ℕ) (byte : (i : ℕ) → getD s i 0 < 256) 
       rw copy-rows (copy-small s (w .rows) (x .stands .fits) (omega arith) (members-small s (roomOf t) (w .rows) (w .reads)))
 
   module _ (d e y : List ℕ) (q : TidyAnswer) (a : q ≡ answerBy copy d) (o : e ≡ outBy copy d) (l : length v ≡ length t) (z : y ≡ restored s v q) where
-    pub answer-is : q ≡ tidyAnswer s d (readOf s (roomOf t))
+    answer-is : q ≡ tidyAnswer s d (readOf s (roomOf t))
     unfolding tidyAnswer
     answer-is = rw (w .reads) (a ∙ ap (λ (c : List ℕ). answerBy c d) copy-is)
 
-    pub output-is : e ≡ tidyOutput s d (readOf s (roomOf t))
+    output-is : e ≡ tidyOutput s d (readOf s (roomOf t))
     unfolding tidyOutput
     output-is = rw (w .reads) (o ∙ ap (λ (c : List ℕ). outBy c d) copy-is)
 
@@ -97,7 +113,7 @@ module _ (s t u v : List ℕ) (n : ℕ) (byte : (i : ℕ) → getD s i 0 < 256) 
     by-fits true x = refl
     by-fits false x = refl
 
-    pub table-is : y ≡ tidyTable (length t) s d (readOf s (roomOf t))
+    table-is : y ≡ tidyTable (length t) s d (readOf s (roomOf t))
     unfolding tidyTable
     table-is =
         let c = tidyOf (says s (w .rows)) in
@@ -107,6 +123,11 @@ module _ (s t u v : List ℕ) (n : ℕ) (byte : (i : ℕ) → getD s i 0 < 256) 
         ∙ (by-fits (fits c d) (length c)
         ∙ (ap₂ (λ (o : Outcome) (k : ℕ). pick (fits c d) (tableWords k o) (replicate k 0)) r l
         ∙ ap (tidyTable (length t) s d) (sym (w .reads)))))
+
+    -- answer, table and output together
+    pub tidied : (q ≡ tidyAnswer s d (readOf s (roomOf t)))
+        × ((y ≡ tidyTable (length t) s d (readOf s (roomOf t))) × (e ≡ tidyOutput s d (readOf s (roomOf t))))
+    tidied = (answer-is, (table-is, output-is))
 
 -- ---- a refused reading
 
@@ -120,14 +141,18 @@ module _ (s t u d : List ℕ) (a : ReadAnswer) (r : Refusal) (p : ℕ) (k : a �
   outcome : readOf s (roomOf t) ≡ refused r p
   outcome = refused-of (readOf s (roomOf t)) (sym k ∙ e)
 
-  pub refused-answer : Q.Refused r p ≡ tidyAnswer s d (readOf s (roomOf t))
+  refused-answer : Q.Refused r p ≡ tidyAnswer s d (readOf s (roomOf t))
   unfolding tidyAnswer
   refused-answer = rw outcome
 
-  pub refused-table : u ≡ tidyTable (length t) s d (readOf s (roomOf t))
+  refused-table : u ≡ tidyTable (length t) s d (readOf s (roomOf t))
   unfolding tidyTable tableWords
   refused-table = w ∙ rw outcome
 
-  pub refused-output : d ≡ tidyOutput s d (readOf s (roomOf t))
+  refused-output : d ≡ tidyOutput s d (readOf s (roomOf t))
   unfolding tidyOutput
   refused-output = rw outcome
+
+  pub untidied : (Q.Refused r p ≡ tidyAnswer s d (readOf s (roomOf t)))
+      × ((u ≡ tidyTable (length t) s d (readOf s (roomOf t))) × (d ≡ tidyOutput s d (readOf s (roomOf t))))
+  untidied = (refused-answer, (refused-table, refused-output))
