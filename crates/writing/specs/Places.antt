@@ -46,9 +46,8 @@ number-is s p =
     let c : p + 1 + 1 ≡ p + 2 = omega arith in
     let d : p + 2 + 1 ≡ p + 3 = omega arith in
     let x = le-step s p 3 in
-    let y = le-step s (p + 1) 2 in
     let z : le (part s (p + 2) 2) ≡ getD s (p + 2) 0 + 256 * le (part s (p + 3) 1) = rw d at (le-step s (p + 2) 1) in
-    let y2 : le (part s (p + 1) 3) ≡ getD s (p + 1) 0 + 256 * le (part s (p + 2) 2) = rw c at (le-step s (p + 1) 2) in
+    let y : le (part s (p + 1) 3) ≡ getD s (p + 1) 0 + 256 * le (part s (p + 2) 2) = rw c at (le-step s (p + 1) 2) in
     let w : le (part s (p + 3) 1) ≡ getD s (p + 3) 0 + 256 * 0 = le-step s (p + 3) 0 in
     omega arith
 
