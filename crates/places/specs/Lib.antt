@@ -1,0 +1,2 @@
+-- What stands at a place, in the words of the grammar.
+pub mod Env
