@@ -1,2 +1,5 @@
 -- What stands at a place, in the words of the grammar.
 pub mod Env
+pub mod Stand
+pub mod Fields
+pub mod Values
