@@ -3,3 +3,4 @@ pub mod Env
 pub mod Stand
 pub mod Fields
 pub mod Values
+pub mod Details
