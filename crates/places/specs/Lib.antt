@@ -4,3 +4,4 @@ pub mod Stand
 pub mod Fields
 pub mod Values
 pub mod Details
+pub mod Members
