@@ -24,13 +24,13 @@ use Rattle.format.specs.Says.{textFrom, afterText, numberFrom, codeFrom}
 use Rattle.format.specs.Grammar.{Name, LibraryId, GoodDetail}
 use Rattle.fields.specs.Judged.{no-end}
 use Rattle.fields.specs.Sequence.{through}
-use Rattle.num.specs.Le.{Bytes, length-leBytes}
+use Rattle.num.specs.Le.{Bytes}
 use Rattle.types.specs.Ends.{library-end}
 use Rattle.types.specs.Keeps.{library-told}
 use Rattle.classes.specs.Moves.{known-moves}
 use Rattle.places.specs.Env.{envOf, library-id, library-id-good}
 use Rattle.places.specs.Stand.{Stand, stand-size, stand-none, stand-then, stand-split, stand-here}
-use Rattle.places.specs.Fields.{Number, number-there, number-back, number-from, positive-bits, name-there, name-text, name-after, name-back, code-there, code-from, code-back}
+use Rattle.places.specs.Fields.{Number, number-size, number-there, number-back, number-from, positive-bits, name-there, name-text, name-after, name-back, code-there, code-from, code-back}
 
 -- ---- LibraryIds
 
@@ -40,8 +40,7 @@ module _ (s : List ℕ) (rows : List Row) (p e : ℕ) where
   library-there l g w =
       let b = positive-bits l (g .sign) in
       let u = number-there s l p e b w in
-      let k = stand-size w in
-      let n = length-leBytes 4 l in
+      let k = number-size s l p e w in
       let z : e - 4 ≡ p = omega arith in
       rw (library-end s p l e u (g .sign), z, number-from s l p e b w, library-id-good s rows l g)
 

@@ -34,12 +34,13 @@ use Rattle.places.specs.Stand.{Stand, stand-size, stand-same, stand-part
 
 -- ---- numbers
 
+pub number-size : (s : List ℕ) (n p e : ℕ) → Stand s (leBytes 4 n) p e → e ≡ p + 4
+number-size s n p e w = stand-size w ∙ ap (λ (k : ℕ). p + k) (length-leBytes 4 n)
+
 pub number-there : (s : List ℕ) (n p e : ℕ) → n < 4294967296 → Stand s (leBytes 4 n) p e → u32At s p ≡ N32.Value n e
 number-there s n p e h w =
-    let l = length-leBytes 4 n in
-    let k = stand-size w in
-    let z : p + 4 ≡ e = omega arith in
-    rw z at (u32-written s (drop e s) p n h (w .bytes))
+    let z : e ≡ p + 4 = number-size s n p e w in
+    rw z (u32-written s (drop e s) p n h (w .bytes))
 
 -- what is read at p and ends at e
 pub record Number (s : List ℕ) (p v e : ℕ) : Type 0 where

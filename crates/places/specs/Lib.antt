@@ -5,3 +5,4 @@ pub mod Fields
 pub mod Values
 pub mod Details
 pub mod Members
+pub mod Lengths
