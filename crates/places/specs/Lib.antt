@@ -6,3 +6,5 @@ pub mod Values
 pub mod Details
 pub mod Members
 pub mod Lengths
+pub mod Recs
+pub mod Tells
