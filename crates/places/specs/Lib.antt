@@ -6,5 +6,7 @@ pub mod Values
 pub mod Details
 pub mod Members
 pub mod Lengths
+pub mod Classes
 pub mod Recs
 pub mod Tells
+pub mod TellsClasses

@@ -12,13 +12,13 @@ use Rattle.format.specs.declared.Head.{Head}
 use Rattle.format.specs.declared.Heading.the-variants as H
 use Rattle.format.specs.declared.Row.{Row}
 use Rattle.format.specs.Bytes.{pick}
-use Rattle.format.specs.Types.{positive, alike, moved}
+use Rattle.format.specs.Types.{positive, typedAt, alike, moved}
 use Rattle.format.specs.Rows.{isClass}
-use Rattle.format.specs.Records.{headingAt}
+use Rattle.format.specs.Records.{within, headingAt}
 use Rattle.format.specs.Contents.{Member, Rec, header, classById, systemClass, libraryClass, string, array, typedPrimitive, reference, null, nulls, manyNulls, end, library, primitiveArray, objectArray, stringArray, value, enc}
 use Rattle.format.specs.Grammar.{Entry, aClass, another, aLibrary, known, classed, classOf, ClassId, ObjectId, LibraryId, Name, Value, ClassInfo, typesOf, Array}
 use Rattle.types.specs.Slots.{moved-alike}
-use Rattle.places.specs.Env.{slotsFrom, entryOf, envOf}
+use Rattle.places.specs.Env.{slotsFrom, typesAt, classSlots, entryOf, envOf}
 use Rattle.places.specs.Stand.{Stand}
 
 -- a record that the grammar takes where this is known: its kind, its number (ObjectId, LibraryId, IdRef or RootId) or 0, its count, the row of
@@ -76,7 +76,7 @@ pub record Told (s : List ℕ) (k at : ℕ) (h : Head) (r : Rec) (id count class
   pub count-is : h .count ≡ count
   pub link-is : pick (isClass k) 0 (h .link) ≡ class
   pub slots-are : slotsFrom s (h .first) (h .slots) ≡ ts
-  pub entry-is : (row offset after owner slot : ℕ) → entryOf s row (rowWith k h offset after owner slot) ≡ entryFor row r
+  pub entry-is : (row offset next owner slot : ℕ) → entryOf s row (rowWith k h offset next owner slot) ≡ entryFor row r
 
 -- a record of which good fields tell
 pub record Back (s : List ℕ) (rows : List Row) (k at : ℕ) (h : Head) : Type 0 where
@@ -116,8 +116,42 @@ abbrev pub plainHead : ℕ → ℕ → ℕ → Head
 plainHead id after count = record { id = id; end = after; count = count; slots = 0; first = alike S.Object 0; link = 0 }
 
 pub plain-told : (s : List ℕ) (k at : ℕ) (r : Rec) (id after count : ℕ) → Stand s (enc r) at after → at < length s → getD s at 0 ≡ k
-    → isClass k ≡ false → ((row offset after owner slot : ℕ) → entryOf s row (rowWith k (plainHead id after count) offset after owner slot) ≡ entryFor row r)
+    → isClass k ≡ false → ((row offset next owner slot : ℕ) → entryOf s row (rowWith k (plainHead id after count) offset next owner slot) ≡ entryFor row r)
     → Told s k at (plainHead id after count) r id count 0 []
 unfolding slotsFrom
 plain-told s k at r id after count w i b c f =
     record { stands = w; inside = i; kind-byte = b; id-is = refl; count-is = refl; link-is = rw c; slots-are = refl; entry-is = f }
+
+-- ---- classes
+
+module _ (s : List ℕ) where
+  -- the fields of a class's record
+  abbrev pub classHead : ℕ → ℕ → ℕ → ℕ → ℕ → Head
+  classHead id n types infos after = record { id = id; end = after; count = n; slots = n; first = typedAt s types infos; link = types }
+
+  pub class-told : (k at : ℕ) (r : Rec) (id n types infos after : ℕ) (ms : List (Member ℕ)) → Stand s (enc r) at after → at < length s → getD s at 0 ≡ k
+      → isClass k ≡ true → length ms ≡ n → slotsFrom s (typedAt s types infos) n ≡ typesOf ms
+      → ((row offset next owner slot : ℕ) → entryOf s row (rowWith k (classHead id n types infos after) offset next owner slot) ≡ entryFor row r)
+      → Told s k at (classHead id n types infos after) r id (length ms) 0 (typesOf ms)
+  class-told k at r id n types infos after ms w i b c l z f =
+      record { stands = w; inside = i; kind-byte = b; id-is = refl; count-is = sym l; link-is = rw c; slots-are = z; entry-is = f }
+
+  -- the fields of an object of the class in this row
+  abbrev pub byIdHead : ℕ → ℕ → ℕ → Row → Head
+  byIdHead id after row c =
+      record { id = id; end = after; count = c .count; slots = c .count; first = typedAt s (c .link) (within (length s) (c .link + c .count)); link = row }
+
+  pub by-id-told : (at id k after row : ℕ) (c : Row) → Stand s (enc (classById id k)) at after → at < length s → getD s at 0 ≡ 1
+      → Told s 1 at (byIdHead id after row c) (classById id k) id (length (classSlots s c)) row (classSlots s c)
+  unfolding typesAt
+  by-id-told at id k after row c w i b =
+      record {
+        stands = w;
+        inside = i;
+        kind-byte = b;
+        id-is = refl;
+        count-is = sym (length-slots s (typedAt s (c .link) (within (length s) (c .link + c .count))) (c .count));
+        link-is = refl;
+        slots-are = refl;
+        entry-is = λ row offset next owner slot. refl;
+      }

@@ -45,6 +45,9 @@ stand-part {s} {p} {e} h g =
 pub stand-byte : {s : List ℕ} {p : ℕ} → p < length s → Stand s (getD s p 0 ∷ []) p (p + 1)
 stand-byte {s} {p} h = record { bytes = rw add-one (drop-cons s p 0 h); onward = omega arith; room = omega arith }
 
+pub stand-is : {s : List ℕ} {p : ℕ} (x : ℕ) → p < length s → getD s p 0 ≡ x → Stand s (x ∷ []) p (p + 1)
+stand-is x h e = rw (← e) (stand-byte h)
+
 -- ---- one after the other
 
 pub stand-then : {s a b : List ℕ} {p m e : ℕ} → Stand s a p m → Stand s b m e → Stand s (a ++ b) p e

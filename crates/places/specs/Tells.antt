@@ -29,7 +29,7 @@ use Rattle.format.specs.Says.{textFrom, codeFrom}
 use Rattle.fields.specs.Judged.{picked}
 use Rattle.num.specs.Le.{Bytes}
 use Rattle.places.specs.Env.{envOf, entryOf, object-id, library-new}
-use Rattle.places.specs.Stand.{Stand, stand-byte, stand-then}
+use Rattle.places.specs.Stand.{Stand, stand-byte, stand-is, stand-then}
 use Rattle.places.specs.Fields.{number-back, name-back, code-back}
 use Rattle.places.specs.Values.{value-back}
 use Rattle.places.specs.Recs.{Good, is-header, is-string, is-typed-primitive, is-reference, is-null, is-end, is-library, is-nulls, is-many-nulls, entryFor, rowWith, Back, plainHead, plain-told}
@@ -60,11 +60,8 @@ module _ (P : Head → Type 0) where
 -- ---- records without slots
 
 module _ (s : List ℕ) (rows : List Row) (at : ℕ) (byte : Bytes s) (i : at < length s) where
-  kind-stands : (k : ℕ) → getD s at 0 ≡ k → Stand s (k ∷ []) at (at + 1)
-  kind-stands k g = rw (← g) (stand-byte i)
-
   plain-back : (k : ℕ) (r : Rec) (id after count : ℕ) → getD s at 0 ≡ k → Good (envOf s rows) k r id count 0 [] → Stand s (enc r) at after
-      → isClass k ≡ false → ((row offset after owner slot : ℕ) → entryOf s row (rowWith k (plainHead id after count) offset after owner slot) ≡ entryFor row r)
+      → isClass k ≡ false → ((row offset next owner slot : ℕ) → entryOf s row (rowWith k (plainHead id after count) offset next owner slot) ≡ entryFor row r)
       → Back s rows k at (plainHead id after count)
   plain-back k r id after count g x w c f =
       record { rec = r; id = id; count = count; class = 0; types = []; good = x; told = plain-told s k at r id after count w i g c f }
@@ -85,7 +82,7 @@ module _ (s : List ℕ) (rows : List Row) (at : ℕ) (byte : Bytes s) (i : at < 
       let m : Stand s (leBytes 4 1) x y = rw (eqb-true major 1 one) at (c .stands) in
       let n : Stand s (leBytes 4 0) y e = rw (eqb-true minor 0 none) at (d .stands) in
       plain-back 0 (header root h) root e 0 g (is-header (a .bits) (b .bits))
-      (stand-then (kind-stands 0 g) (stand-then (a .stands) (stand-then (b .stands) (stand-then m n)))) refl (λ row offset after owner slot. refl))
+      (stand-then (stand-is 0 i g) (stand-then (a .stands) (stand-then (b .stands) (stand-then m n)))) refl (λ row offset next owner slot. refl))
       (λ t. tt)))
       (λ t. tt))))
 
@@ -98,7 +95,7 @@ module _ (s : List ℕ) (rows : List Row) (at : ℕ) (byte : Bytes s) (i : at < 
       said-field (Back s rows 6 at) _ (nameAt s p) (λ e u.
       let x = name-back s p e byte u in
       plain-back 6 (string id (textFrom s p)) id e 0 g (is-string (object-id s rows id t) (x .0))
-      (stand-then (kind-stands 6 g) (stand-then (n .stands) (x .1))) refl (λ row offset after owner slot. refl)))
+      (stand-then (stand-is 6 i g) (stand-then (n .stands) (x .1))) refl (λ row offset next owner slot. refl)))
       (λ t. tt))
 
   typed-primitive-back : getD s at 0 ≡ 8 → Said (Back s rows 8 at) (typedPrimitiveAt s at)
@@ -108,7 +105,7 @@ module _ (s : List ℕ) (rows : List Row) (at : ℕ) (byte : Bytes s) (i : at < 
       said-field (Back s rows 8 at) _ (valueAt s (codeFrom s (at + 1)) p) (λ e u.
       let x = value-back s (codeFrom s (at + 1)) p e byte u in
       plain-back 8 (typedPrimitive (codeFrom s (at + 1)) (part s p (e - p))) 0 e 0 g (is-typed-primitive (x .0))
-      (stand-then (kind-stands 8 g) (stand-then (code-back s (at + 1) p q) (x .1))) refl (λ row offset after owner slot. refl)))
+      (stand-then (stand-is 8 i g) (stand-then (code-back s (at + 1) p q) (x .1))) refl (λ row offset next owner slot. refl)))
 
   reference-back : getD s at 0 ≡ 9 → Said (Back s rows 9 at) (referenceAt s at)
   unfolding referenceAt enc
@@ -116,16 +113,16 @@ module _ (s : List ℕ) (rows : List Row) (at : ℕ) (byte : Bytes s) (i : at < 
       said-number (Back s rows 9 at) _ (u32At s (at + 1)) (λ id e q.
       let n = number-back s (at + 1) id e byte q in
       said-if (Back s rows 9 at) (positive id) _ _ (λ t.
-      plain-back 9 (reference id) id e 0 g (is-reference t) (stand-then (kind-stands 9 g) (n .stands)) refl (λ row offset after owner slot. refl))
+      plain-back 9 (reference id) id e 0 g (is-reference t) (stand-then (stand-is 9 i g) (n .stands)) refl (λ row offset next owner slot. refl))
       (λ t. tt))
 
   null-back : getD s at 0 ≡ 10 → Back s rows 10 at (plainHead 0 (at + 1) 1)
   unfolding enc
-  null-back g = plain-back 10 null 0 (at + 1) 1 g is-null (kind-stands 10 g) refl (λ row offset after owner slot. refl)
+  null-back g = plain-back 10 null 0 (at + 1) 1 g is-null (stand-is 10 i g) refl (λ row offset next owner slot. refl)
 
   end-back : getD s at 0 ≡ 11 → Back s rows 11 at (plainHead 0 (at + 1) 0)
   unfolding enc
-  end-back g = plain-back 11 end 0 (at + 1) 0 g is-end (kind-stands 11 g) refl (λ row offset after owner slot. refl)
+  end-back g = plain-back 11 end 0 (at + 1) 0 g is-end (stand-is 11 i g) refl (λ row offset next owner slot. refl)
 
   library-back : getD s at 0 ≡ 12 → Said (Back s rows 12 at) (libraryAt s rows at)
   unfolding libraryAt enc
@@ -137,7 +134,7 @@ module _ (s : List ℕ) (rows : List Row) (at : ℕ) (byte : Bytes s) (i : at < 
       let x = name-back s p e byte u in
       let l = library-new s rows id t in
       plain-back 12 (library id (textFrom s p)) id e 0 g (is-library (l .0) (l .1) (x .0))
-      (stand-then (kind-stands 12 g) (stand-then (n .stands) (x .1))) refl (λ row offset after owner slot. refl)))
+      (stand-then (stand-is 12 i g) (stand-then (n .stands) (x .1))) refl (λ row offset next owner slot. refl)))
       (λ t. tt))
 
   nulls-back : getD s at 0 ≡ 13 → Said (Back s rows 13 at) (nullsAt s at)
@@ -147,7 +144,7 @@ module _ (s : List ℕ) (rows : List Row) (at : ℕ) (byte : Bytes s) (i : at < 
       let z : at + 1 + 1 ≡ at + 2 = omega arith in
       let w : Stand s (getD s (at + 1) 0 ∷ []) (at + 1) (at + 2) = rw (← z) (stand-byte (ltb-true (at + 1) (length s) t)) in
       plain-back 13 (nulls (getD s (at + 1) 0)) 0 (at + 2) (getD s (at + 1) 0) g (is-nulls (byte (at + 1)))
-      (stand-then (kind-stands 13 g) w) refl (λ row offset after owner slot. refl))
+      (stand-then (stand-is 13 i g) w) refl (λ row offset next owner slot. refl))
       (λ t. tt)
 
   many-nulls-back : getD s at 0 ≡ 14 → Said (Back s rows 14 at) (longNullsAt s at)
@@ -156,5 +153,5 @@ module _ (s : List ℕ) (rows : List Row) (at : ℕ) (byte : Bytes s) (i : at < 
       said-number (Back s rows 14 at) _ (u32At s (at + 1)) (λ k e q.
       let n = number-back s (at + 1) k e byte q in
       said-if (Back s rows 14 at) (positive k) _ _ (λ t.
-      plain-back 14 (manyNulls k) 0 e k g (is-many-nulls t) (stand-then (kind-stands 14 g) (n .stands)) refl (λ row offset after owner slot. refl))
+      plain-back 14 (manyNulls k) 0 e k g (is-many-nulls t) (stand-then (stand-is 14 i g) (n .stands)) refl (λ row offset next owner slot. refl))
       (λ t. tt))
