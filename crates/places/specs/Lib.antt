@@ -10,3 +10,4 @@ pub mod Classes
 pub mod Recs
 pub mod Tells
 pub mod TellsClasses
+pub mod TellsArrays

@@ -155,3 +155,24 @@ module _ (s : List ℕ) where
         slots-are = refl;
         entry-is = λ row offset next owner slot. refl;
       }
+
+  -- ---- arrays of slots
+
+  -- the fields of one
+  abbrev pub slottedHead : ℕ → ℕ → ℕ → SlotType → ℕ → Head
+  slottedHead id after n t infos = record { id = id; end = after; count = n; slots = n; first = alike t infos; link = 0 }
+
+  pub slotted-told : (k at : ℕ) (r : Rec) (id after n : ℕ) (t : SlotType) (infos : ℕ) → Stand s (enc r) at after → at < length s → getD s at 0 ≡ k
+      → isClass k ≡ false → ((row offset next owner slot : ℕ) → entryOf s row (rowWith k (slottedHead id after n t infos) offset next owner slot) ≡ entryFor row r)
+      → Told s k at (slottedHead id after n t infos) r id n 0 (replicate n t)
+  slotted-told k at r id after n t infos w i b c f =
+      record {
+        stands = w;
+        inside = i;
+        kind-byte = b;
+        id-is = refl;
+        count-is = refl;
+        link-is = rw c;
+        slots-are = alike-slots s t infos n;
+        entry-is = f;
+      }

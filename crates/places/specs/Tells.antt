@@ -60,13 +60,13 @@ module _ (P : Head → Type 0) where
 -- ---- records without slots
 
 module _ (s : List ℕ) (rows : List Row) (at : ℕ) (byte : Bytes s) (i : at < length s) where
-  plain-back : (k : ℕ) (r : Rec) (id after count : ℕ) → getD s at 0 ≡ k → Good (envOf s rows) k r id count 0 [] → Stand s (enc r) at after
+  pub plain-back : (k : ℕ) (r : Rec) (id after count : ℕ) → getD s at 0 ≡ k → Good (envOf s rows) k r id count 0 [] → Stand s (enc r) at after
       → isClass k ≡ false → ((row offset next owner slot : ℕ) → entryOf s row (rowWith k (plainHead id after count) offset next owner slot) ≡ entryFor row r)
       → Back s rows k at (plainHead id after count)
   plain-back k r id after count g x w c f =
       record { rec = r; id = id; count = count; class = 0; types = []; good = x; told = plain-told s k at r id after count w i g c f }
 
-  header-back : getD s at 0 ≡ 0 → Said (Back s rows 0 at) (headerAt s at)
+  pub header-back : getD s at 0 ≡ 0 → Said (Back s rows 0 at) (headerAt s at)
   unfolding headerAt enc
   header-back g =
       said-number (Back s rows 0 at) _ (u32At s (at + 1)) (λ root p q.
@@ -86,7 +86,7 @@ module _ (s : List ℕ) (rows : List Row) (at : ℕ) (byte : Bytes s) (i : at < 
       (λ t. tt)))
       (λ t. tt))))
 
-  string-back : getD s at 0 ≡ 6 → Said (Back s rows 6 at) (stringRecordAt s rows at)
+  pub string-back : getD s at 0 ≡ 6 → Said (Back s rows 6 at) (stringRecordAt s rows at)
   unfolding stringRecordAt enc
   string-back g =
       said-number (Back s rows 6 at) _ (u32At s (at + 1)) (λ id p q.
@@ -98,7 +98,7 @@ module _ (s : List ℕ) (rows : List Row) (at : ℕ) (byte : Bytes s) (i : at < 
       (stand-then (stand-is 6 i g) (stand-then (n .stands) (x .1))) refl (λ row offset next owner slot. refl)))
       (λ t. tt))
 
-  typed-primitive-back : getD s at 0 ≡ 8 → Said (Back s rows 8 at) (typedPrimitiveAt s at)
+  pub typed-primitive-back : getD s at 0 ≡ 8 → Said (Back s rows 8 at) (typedPrimitiveAt s at)
   unfolding typedPrimitiveAt enc
   typed-primitive-back g =
       said-field (Back s rows 8 at) _ (codeAt s (at + 1)) (λ p q.
@@ -107,7 +107,7 @@ module _ (s : List ℕ) (rows : List Row) (at : ℕ) (byte : Bytes s) (i : at < 
       plain-back 8 (typedPrimitive (codeFrom s (at + 1)) (part s p (e - p))) 0 e 0 g (is-typed-primitive (x .0))
       (stand-then (stand-is 8 i g) (stand-then (code-back s (at + 1) p q) (x .1))) refl (λ row offset next owner slot. refl)))
 
-  reference-back : getD s at 0 ≡ 9 → Said (Back s rows 9 at) (referenceAt s at)
+  pub reference-back : getD s at 0 ≡ 9 → Said (Back s rows 9 at) (referenceAt s at)
   unfolding referenceAt enc
   reference-back g =
       said-number (Back s rows 9 at) _ (u32At s (at + 1)) (λ id e q.
@@ -116,15 +116,15 @@ module _ (s : List ℕ) (rows : List Row) (at : ℕ) (byte : Bytes s) (i : at < 
       plain-back 9 (reference id) id e 0 g (is-reference t) (stand-then (stand-is 9 i g) (n .stands)) refl (λ row offset next owner slot. refl))
       (λ t. tt))
 
-  null-back : getD s at 0 ≡ 10 → Back s rows 10 at (plainHead 0 (at + 1) 1)
+  pub null-back : getD s at 0 ≡ 10 → Back s rows 10 at (plainHead 0 (at + 1) 1)
   unfolding enc
   null-back g = plain-back 10 null 0 (at + 1) 1 g is-null (stand-is 10 i g) refl (λ row offset next owner slot. refl)
 
-  end-back : getD s at 0 ≡ 11 → Back s rows 11 at (plainHead 0 (at + 1) 0)
+  pub end-back : getD s at 0 ≡ 11 → Back s rows 11 at (plainHead 0 (at + 1) 0)
   unfolding enc
   end-back g = plain-back 11 end 0 (at + 1) 0 g is-end (stand-is 11 i g) refl (λ row offset next owner slot. refl)
 
-  library-back : getD s at 0 ≡ 12 → Said (Back s rows 12 at) (libraryAt s rows at)
+  pub library-back : getD s at 0 ≡ 12 → Said (Back s rows 12 at) (libraryAt s rows at)
   unfolding libraryAt enc
   library-back g =
       said-number (Back s rows 12 at) _ (u32At s (at + 1)) (λ id p q.
@@ -137,7 +137,7 @@ module _ (s : List ℕ) (rows : List Row) (at : ℕ) (byte : Bytes s) (i : at < 
       (stand-then (stand-is 12 i g) (stand-then (n .stands) (x .1))) refl (λ row offset next owner slot. refl)))
       (λ t. tt))
 
-  nulls-back : getD s at 0 ≡ 13 → Said (Back s rows 13 at) (nullsAt s at)
+  pub nulls-back : getD s at 0 ≡ 13 → Said (Back s rows 13 at) (nullsAt s at)
   unfolding nullsAt enc
   nulls-back g =
       said-if (Back s rows 13 at) (ltb (at + 1) (length s)) _ _ (λ t.
@@ -147,7 +147,7 @@ module _ (s : List ℕ) (rows : List Row) (at : ℕ) (byte : Bytes s) (i : at < 
       (stand-then (stand-is 13 i g) w) refl (λ row offset next owner slot. refl))
       (λ t. tt)
 
-  many-nulls-back : getD s at 0 ≡ 14 → Said (Back s rows 14 at) (longNullsAt s at)
+  pub many-nulls-back : getD s at 0 ≡ 14 → Said (Back s rows 14 at) (longNullsAt s at)
   unfolding longNullsAt enc
   many-nulls-back g =
       said-number (Back s rows 14 at) _ (u32At s (at + 1)) (λ k e q.
