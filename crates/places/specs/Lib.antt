@@ -11,3 +11,4 @@ pub mod Recs
 pub mod Tells
 pub mod TellsClasses
 pub mod TellsArrays
+pub mod Tell
