@@ -12,3 +12,4 @@ pub mod Tells
 pub mod TellsClasses
 pub mod TellsArrays
 pub mod Tell
+pub mod Reads
