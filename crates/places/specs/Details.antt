@@ -121,6 +121,16 @@ module _ (s : List ℕ) (rows : List Row) (p : ℕ) where
     detail-in texts g w = refl
     detail-in (primitives c) g w = ap primitives (code-from s c p e w)
 
+pub byte-small : (d : Detail ℕ) → typeByte d ≤ 7
+byte-small (primitive c) = omega arith
+byte-small text = omega arith
+byte-small object = omega arith
+byte-small (system n) = omega arith
+byte-small (class n l) = omega arith
+byte-small objects = omega arith
+byte-small texts = omega arith
+byte-small (primitives c) = omega arith
+
 -- the eight type bytes
 by-type : (P : ℕ → Type 0) → P 0 → P 1 → P 2 → P 3 → P 4 → P 5 → P 6 → P 7 → (b : ℕ) → b ≤ 7 → P b
 by-type P p0 p1 p2 p3 p4 p5 p6 p7 zero h = p0

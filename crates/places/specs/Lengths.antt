@@ -46,6 +46,11 @@ ranked-back (suc (suc zero)) rank h e =
     both false false e = (e, e)
 ranked-back (suc (suc (suc n))) rank h e = absurd (omega arith)
 
+pub ranked-small : (type rank : ℕ) → Ranked type rank → (type ≤ 2) × (rank ≤ 32)
+ranked-small type rank single = (omega arith, omega arith)
+ranked-small type rank jagged = (omega arith, omega arith)
+ranked-small type rank (rectangular h g) = (omega arith, g)
+
 -- ---- lengths
 
 no-product : {A : Type 0} (f : Refusal) (m e : ℕ) → L.Fault f ≡ L.Product m e → A

@@ -13,3 +13,5 @@ pub mod TellsClasses
 pub mod TellsArrays
 pub mod Tell
 pub mod Reads
+pub mod ReadsClasses
+pub mod ReadsArrays

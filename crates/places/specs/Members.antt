@@ -16,7 +16,7 @@ use Rattle.format.specs.Text.{stringBytes}
 use Rattle.format.specs.Values.{onEnd, times}
 use Rattle.format.specs.Types.{typeByteAt, nameAt, infoAt, slotOf, typedAt, moved}
 use Rattle.format.specs.Records.{knownLibrary, infoKnown, infosAt}
-use Rattle.format.specs.Contents.{Detail, primitive, text, object, system, class, objects, texts, primitives, Member, typeByte, infoBytes, slotFor, namesBytes, typesBytes, infosBytes}
+use Rattle.format.specs.Contents.{Member, typeByte, infoBytes, slotFor, namesBytes, typesBytes, infosBytes}
 use Rattle.format.specs.Says.{textFrom, afterText, afterInfo}
 use Rattle.format.specs.Grammar.{Entry, Members, no-more, member, typesOf}
 use Rattle.fields.specs.Sequence.{through}
@@ -28,7 +28,7 @@ use Rattle.classes.specs.Moves.{known-moves, info-known-moves}
 use Rattle.places.specs.Env.{envOf, slotsFrom}
 use Rattle.places.specs.Stand.{Stand, stand-size, stand-none, stand-byte, stand-then, stand-split, stand-inside, stand-here, stand-after}
 use Rattle.places.specs.Fields.{name-there, name-text, name-after, name-back}
-use Rattle.places.specs.Details.{detailIn, detail-there, detail-in, detail-byte, detail-slot, detail-back}
+use Rattle.places.specs.Details.{detailIn, detail-there, detail-in, detail-byte, detail-slot, detail-back, byte-small}
 
 -- n members whose names, type bytes and details stand at these places
 unfoldable pub membersIn : List ℕ → ℕ → ℕ → ℕ → ℕ → List (Member ℕ)
@@ -97,16 +97,6 @@ module _ (s : List ℕ) (rows : List Row) where
           })
 
   -- ---- what is written is read
-
-  byte-small : (d : Detail ℕ) → typeByte d ≤ 7
-  byte-small (primitive c) = omega arith
-  byte-small text = omega arith
-  byte-small object = omega arith
-  byte-small (system n) = omega arith
-  byte-small (class n l) = omega arith
-  byte-small objects = omega arith
-  byte-small texts = omega arith
-  byte-small (primitives c) = omega arith
 
   -- where good members end, and that they are those read at these places
   pub record MembersEnd (ms : List (Member ℕ)) (names types infos a b c : ℕ) : Type 0 where

@@ -129,11 +129,11 @@ module _ (s : List ℕ) where
   abbrev pub classHead : ℕ → ℕ → ℕ → ℕ → ℕ → Head
   classHead id n types infos after = record { id = id; end = after; count = n; slots = n; first = typedAt s types infos; link = types }
 
-  pub class-told : (k at : ℕ) (r : Rec) (id n types infos after : ℕ) (ms : List (Member ℕ)) → Stand s (enc r) at after → at < length s → getD s at 0 ≡ k
+  pub class-head-told : (k at : ℕ) (r : Rec) (id n types infos after : ℕ) (ms : List (Member ℕ)) → Stand s (enc r) at after → at < length s → getD s at 0 ≡ k
       → isClass k ≡ true → length ms ≡ n → slotsFrom s (typedAt s types infos) n ≡ typesOf ms
       → ((row offset next owner slot : ℕ) → entryOf s row (rowWith k (classHead id n types infos after) offset next owner slot) ≡ entryFor row r)
       → Told s k at (classHead id n types infos after) r id (length ms) 0 (typesOf ms)
-  class-told k at r id n types infos after ms w i b c l z f =
+  class-head-told k at r id n types infos after ms w i b c l z f =
       record { stands = w; inside = i; kind-byte = b; id-is = refl; count-is = sym l; link-is = rw c; slots-are = z; entry-is = f }
 
   -- the fields of an object of the class in this row

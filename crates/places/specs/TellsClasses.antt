@@ -27,7 +27,7 @@ use Rattle.places.specs.Fields.{number-back}
 use Rattle.places.specs.Details.{library-back}
 use Rattle.places.specs.Members.{membersIn}
 use Rattle.places.specs.Classes.{ClassAt, class-back}
-use Rattle.places.specs.Recs.{Good, is-class-by-id, is-system-class, is-library-class, entryFor, rowWith, Told, Back, length-slots, classHead, class-told, byIdHead, by-id-told}
+use Rattle.places.specs.Recs.{Good, is-class-by-id, is-system-class, is-library-class, entryFor, rowWith, Told, Back, length-slots, classHead, class-head-told, byIdHead, by-id-told}
 use Rattle.places.specs.Tells.{Said, said-number, said-field, said-if}
 
 module _ (s : List ℕ) (rows : List Row) (at : ℕ) (byte : Bytes s) (i : at < length s) where
@@ -62,7 +62,7 @@ module _ (s : List ℕ) (rows : List Row) (at : ℕ) (byte : Bytes s) (i : at < 
         class = 0;
         types = typesOf ms;
         good = is-system-class (class-id s rows id t (a .bits)) (c .info);
-        told = class-told s 4 at (systemClass id (textFrom s p) ms) id n types infos e ms (stand-then (stand-is 4 i g) (stand-then (a .stands) w)) i g refl
+        told = class-head-told s 4 at (systemClass id (textFrom s p) ms) id n types infos e ms (stand-then (stand-is 4 i g) (stand-then (a .stands) w)) i g refl
             (c .counted) (c .slots) (λ row offset next owner slot. ap (λ (ts : List SlotType). aClass id row ts ∷ []) (c .known));
       }))
       (λ t. tt))
@@ -82,7 +82,7 @@ module _ (s : List ℕ) (rows : List Row) (at : ℕ) (byte : Bytes s) (i : at < 
         class = 0;
         types = typesOf ms;
         good = is-library-class (class-id s rows id t (a .bits)) (c .info) (l .0);
-        told = class-told s 5 at (libraryClass id (textFrom s p) ms (numberFrom s x)) id n types infos e ms
+        told = class-head-told s 5 at (libraryClass id (textFrom s p) ms (numberFrom s x)) id n types infos e ms
             (stand-then (stand-is 5 i g) (stand-then (a .stands) (stand-then (c .stands) (l .1)))) i g refl
             (c .counted) (c .slots) (λ row offset next owner slot. ap (λ (ts : List SlotType). aClass id row ts ∷ []) (c .known));
       }))
