@@ -15,3 +15,4 @@ pub mod Tell
 pub mod Reads
 pub mod ReadsClasses
 pub mod ReadsArrays
+pub mod Read
