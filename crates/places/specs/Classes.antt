@@ -1,10 +1,10 @@
 -- A class's name and members at a place (01, Records, kinds 4 and 5): those that the grammar takes are those that end.
-use Prim.Native.Nat.{ℕ, _+_, _-_, _≤_, _<_}
-use mathlib.Core.Path.{_≡_, refl, sym, ap, _∙_, subst}
-use mathlib.Core.Bool.{Bool, true, false}
-use mathlib.Core.List.{List, [], _∷_, _++_}
+use Prim.Native.Nat.{ℕ, _+_, _-_, _≤_}
+use mathlib.Core.Path.{_≡_, refl, ap, _∙_}
+use mathlib.Core.Bool.{false}
+use mathlib.Core.List.{List, _++_}
 use native.Mathlib.Omega.{arith}
-use lib.ListN.{length, getD}
+use lib.ListN.{length}
 use borrow.Author.Tests.{le-ltb}
 use Rattle.format.specs.declared.Number32.the-variants as N32
 use Rattle.format.specs.declared.Field.the-variants as F
@@ -13,7 +13,7 @@ use Rattle.format.specs.Numbers.{leBytes, u32At, negative}
 use Rattle.format.specs.Text.{stringBytes}
 use Rattle.format.specs.Values.{times}
 use Rattle.format.specs.Types.{typeByteAt, nameAt, typedAt}
-use Rattle.format.specs.Records.{within, infosAt}
+use Rattle.format.specs.Records.{infosAt}
 use Rattle.format.specs.Contents.{Member, namesBytes, typesBytes, infosBytes, classBytes}
 use Rattle.format.specs.Says.{textFrom}
 use Rattle.format.specs.Grammar.{ClassInfo, typesOf}

@@ -1,14 +1,13 @@
 -- LibraryIds and the details of types at a place (01, Records; 2.1.2.2): those that the grammar takes are those that end, and a detail read
 -- at a place is one written there. Its library is given by number.
-use Prim.Native.Nat.{ℕ, zero, suc, _+_, _-_, _≤_, _<_}
+use Prim.Native.Nat.{ℕ, zero, suc, _+_, _-_, _≤_}
 use mathlib.Core.Path.{_≡_, refl, sym, ap, _∙_, subst}
 use mathlib.Core.Bool.{Bool, true, false}
-use mathlib.Core.List.{List, [], _∷_, _++_}
+use mathlib.Core.List.{List, [], _++_}
 use native.Mathlib.Omega.{arith}
 use lib.ListN.{length, getD}
 use lib.Dec.{eqb}
 use Rattle.format.specs.declared.Refusal.the-variants as R
-use Rattle.format.specs.declared.PrimitiveCode.{PrimitiveCode}
 use Rattle.format.specs.declared.Field.{Field}
 use Rattle.format.specs.declared.Field.the-variants as F
 use Rattle.format.specs.declared.Row.{Row}
@@ -16,12 +15,12 @@ use Rattle.format.specs.Bytes.{pick, part}
 use Rattle.format.specs.Numbers.{le, leBytes}
 use Rattle.format.specs.Text.{stringBytes}
 use Rattle.format.specs.Values.{onEnd}
-use Rattle.format.specs.Types.{codeNumber, primitiveOf, codeAt, nameAt, libraryIdAt, positive, infoAt, slotOf}
+use Rattle.format.specs.Types.{codeAt, nameAt, libraryIdAt, positive, infoAt, slotOf}
 use Rattle.format.specs.Rows.{libraryRow}
 use Rattle.format.specs.Records.{knownLibrary, ownLibraryAt, infoKnown}
 use Rattle.format.specs.Contents.{Detail, primitive, text, object, system, class, objects, texts, primitives, typeByte, infoBytes, slotFor}
 use Rattle.format.specs.Says.{textFrom, afterText, numberFrom, codeFrom}
-use Rattle.format.specs.Grammar.{Name, LibraryId, GoodDetail}
+use Rattle.format.specs.Grammar.{LibraryId, GoodDetail}
 use Rattle.fields.specs.Judged.{no-end}
 use Rattle.fields.specs.Sequence.{through}
 use Rattle.num.specs.Le.{Bytes}
@@ -29,7 +28,7 @@ use Rattle.types.specs.Ends.{library-end}
 use Rattle.types.specs.Keeps.{library-told}
 use Rattle.classes.specs.Moves.{known-moves}
 use Rattle.places.specs.Env.{envOf, library-id, library-id-good}
-use Rattle.places.specs.Stand.{Stand, stand-size, stand-none, stand-then, stand-split, stand-here}
+use Rattle.places.specs.Stand.{Stand, stand-size, stand-none, stand-then, stand-split}
 use Rattle.places.specs.Fields.{Number, number-size, number-there, number-back, number-from, positive-bits, name-there, name-text, name-after, name-back, code-there, code-from, code-back}
 
 -- ---- LibraryIds

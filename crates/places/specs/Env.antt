@@ -1,7 +1,7 @@
 -- What rows make known (01, Field rules): the classes, objects and libraries of earlier records, as a function of the rows before linking
 -- and the stream; a lookup among the rows finds what the grammar knows.
 use Prim.Native.Nat.{ℕ, zero, suc, _+_, _-_, _<_}
-use mathlib.Core.Path.{_≡_, refl, sym, ap, _∙_, subst}
+use mathlib.Core.Path.{_≡_, refl, sym, _∙_}
 use mathlib.Core.Bool.{Bool, true, false, _&&_, _||_, not}
 use mathlib.Core.List.{List, [], _∷_, _++_, append-assoc, append-nil}
 use native.Mathlib.Omega.{arith}
@@ -9,7 +9,7 @@ use native.Mathlib.Numerals.{add-one}
 use lib.ListN.{length, getD, length-append}
 use lib.Seq.{getD-at}
 use lib.Dec.{eqb}
-use borrow.Author.Tests.{eqb-true, ne-eqb}
+use borrow.Author.Tests.{eqb-true, not-true, not-false, ne-eqb}
 use Rattle.format.specs.declared.SlotType.{SlotType}
 use Rattle.format.specs.declared.Typed.{Typed}
 use Rattle.format.specs.declared.Row.{Row}
@@ -180,27 +180,19 @@ module _ (s : List ℕ) (rows : List Row) where
 
 -- ---- the tests of a record's numbers are those of the grammar
 
-both : (a b : Bool) → (a && b) ≡ true → (a ≡ true) × (b ≡ true)
+pub both : (a b : Bool) → (a && b) ≡ true → (a ≡ true) × (b ≡ true)
 both true b e = (refl, e)
 both false true e = (e, refl)
 both false false e = (e, e)
-
-flip : (t : Bool) → not t ≡ true → t ≡ false
-flip true e = sym e
-flip false e = refl
-
-flipped : (t : Bool) → not t ≡ false → t ≡ true
-flipped true e = refl
-flipped false e = sym e
 
 module _ (s : List ℕ) (rows : List Row) (i : ℕ) where
   pub class-id : goodClassId rows i ≡ true → i < 4294967296 → ClassId i (envOf s rows)
   class-id e h =
       let w = both (not (eqb i 0)) (eqb (objectRow i rows) 0) e in
-      record { apart = flip (eqb i 0) (w .0); bits = h; fresh = used-is s i rows ∙ rw (w .1) }
+      record { apart = not-true (eqb i 0) (w .0); bits = h; fresh = used-is s i rows ∙ rw (w .1) }
 
   pub class-id-good : ClassId i (envOf s rows) → goodClassId rows i ≡ true
-  class-id-good c = rw (c .apart, flipped (eqb (objectRow i rows) 0) (sym (used-is s i rows) ∙ c .fresh))
+  class-id-good c = rw (c .apart, not-false (eqb (objectRow i rows) 0) (sym (used-is s i rows) ∙ c .fresh))
 
   pub object-id : goodId rows i ≡ true → ObjectId i (envOf s rows)
   object-id e =
@@ -208,13 +200,13 @@ module _ (s : List ℕ) (rows : List Row) (i : ℕ) where
       record { sign = w .0; fresh = used-is s i rows ∙ rw (w .1) }
 
   pub object-id-good : ObjectId i (envOf s rows) → goodId rows i ≡ true
-  object-id-good c = rw (c .sign, flipped (eqb (objectRow i rows) 0) (sym (used-is s i rows) ∙ c .fresh))
+  object-id-good c = rw (c .sign, not-false (eqb (objectRow i rows) 0) (sym (used-is s i rows) ∙ c .fresh))
 
   pub library-id : positive i ≡ true → eqb (libraryRow i rows) 0 ≡ false → LibraryId i (envOf s rows)
   library-id p e = record { sign = p; there = known-is s i rows ∙ rw e }
 
   pub library-id-good : LibraryId i (envOf s rows) → eqb (libraryRow i rows) 0 ≡ false
-  library-id-good c = flip (eqb (libraryRow i rows) 0) (sym (known-is s i rows) ∙ c .there)
+  library-id-good c = not-true (eqb (libraryRow i rows) 0) (sym (known-is s i rows) ∙ c .there)
 
   -- the LibraryId of a library record is new
   pub library-new : (positive i && eqb (libraryRow i rows) 0) ≡ true → (positive i ≡ true) × (known i (envOf s rows) ≡ false)
@@ -223,4 +215,4 @@ module _ (s : List ℕ) (rows : List Row) (i : ℕ) where
       (w .0, known-is s i rows ∙ rw (w .1))
 
   pub library-new-good : positive i ≡ true → known i (envOf s rows) ≡ false → (positive i && eqb (libraryRow i rows) 0) ≡ true
-  library-new-good p e = rw (p, flipped (eqb (libraryRow i rows) 0) (sym (known-is s i rows) ∙ e))
+  library-new-good p e = rw (p, not-false (eqb (libraryRow i rows) 0) (sym (known-is s i rows) ∙ e))

@@ -1,13 +1,13 @@
 -- Numbers, names and codes at a place (01, Field rules): what is written is read, and what is read is written so, with contents that are
 -- functions of the stream and the place.
-use Prim.Native.Nat.{ℕ, _+_, _-_, _≤_, _<_}
+use Prim.Native.Nat.{ℕ, _+_, _-_, _<_}
 use mathlib.Core.Path.{_≡_, refl, sym, ap, _∙_}
 use mathlib.Core.Bool.{Bool, true, false, not, _&&_}
-use mathlib.Core.List.{List, [], _∷_, _++_}
+use mathlib.Core.List.{List, [], _∷_}
 use native.Mathlib.Omega.{arith}
 use lib.ListN.{length, getD, drop}
-use lib.Dec.{leb, eqb}
-use borrow.Author.Tests.{leb-true, leb-false, lt-leb, ne-eqb, eqb-false}
+use lib.Dec.{eqb}
+use borrow.Author.Tests.{leb-false, lt-leb}
 use Rattle.format.specs.declared.Refusal.the-variants as R
 use Rattle.format.specs.declared.PrimitiveCode.{PrimitiveCode}
 use Rattle.format.specs.declared.Coded.the-variants as D
@@ -15,7 +15,7 @@ use Rattle.format.specs.declared.Number32.the-variants as N32
 use Rattle.format.specs.declared.Text.the-variants as T
 use Rattle.format.specs.declared.Field.the-variants as F
 use Rattle.format.specs.Bytes.{part}
-use Rattle.format.specs.Numbers.{le, leBytes, negative, u32At}
+use Rattle.format.specs.Numbers.{leBytes, negative, u32At}
 use Rattle.format.specs.Prefix.{prefixBytes}
 use Rattle.format.specs.Text.{wellFormed, stringAt, stringBytes}
 use Rattle.format.specs.Types.{codeNumber, primitiveOf, codeAt, nameAt, positive}
@@ -111,8 +111,7 @@ name-back s p e b q =
     let c = string-told s p a e (w .1) in
     let i = bound s p (c .0) a (c .1 .says) in
     let j = judged-taken wellFormed R.BadText s a (c .0) e (c .1 .ends) in
-    let l = length-part s a (e - a) (omega arith) in
-    (
+    let l = length-part s a (e - a) (omega arith) in (
       record { good = rw (w .1) (string-well s p a e (w .1)); short = rw (w .1, l) (omega (arith, j .ends)) },
       rw (w .1) (record { bytes = string-converse s b p a e (w .1); onward = omega arith; room = m .2 }),
       rw q,

@@ -1,19 +1,18 @@
 -- The lengths of an array at a place, with their exact product, and its rank (01, Records, BinaryArray): those that the grammar takes are
 -- those that end, and read at a place they are those written there.
-use Prim.Native.Nat.{ℕ, zero, suc, _+_, _-_, _*_, _≤_, _<_}
+use Prim.Native.Nat.{ℕ, zero, suc, _+_, _-_, _*_, _≤_}
 use mathlib.Core.Path.{_≡_, refl, sym, ap, _∙_, subst}
-use mathlib.Core.Bool.{Bool, true, false, _&&_}
-use mathlib.Core.List.{List, [], _∷_, _++_}
+use mathlib.Core.Bool.{Bool, true, false}
+use mathlib.Core.List.{List, [], _∷_}
 use native.Mathlib.Omega.{arith}
-use native.Mathlib.Nat.{mul-assoc, mul-one}
+use native.Mathlib.Nat.{mul-assoc}
 use lib.ListN.{length}
-use lib.Dec.{leb, eqb}
+use lib.Dec.{leb}
 use borrow.Author.Tests.{le-leb, leb-true, eqb-true}
 use Rattle.format.specs.declared.Refusal.{Refusal}
 use Rattle.format.specs.declared.Refusal.the-variants as R
 use Rattle.format.specs.declared.Number32.{Number32}
 use Rattle.format.specs.declared.Number32.the-variants as N32
-use Rattle.format.specs.declared.Slots.{Slots}
 use Rattle.format.specs.declared.Slots.the-variants as L
 use Rattle.format.specs.Bytes.{pick}
 use Rattle.format.specs.Numbers.{leBytes, u32At, negative}
@@ -23,6 +22,7 @@ use Rattle.format.specs.Says.{numberFrom, numbersFrom}
 use Rattle.format.specs.Grammar.{product, Lengths, no-length, length-of, Ranked, single, jagged, rectangular}
 use Rattle.fields.specs.Judged.{told}
 use Rattle.num.specs.Le.{Bytes}
+use Rattle.places.specs.Env.{both}
 use Rattle.places.specs.Stand.{Stand, stand-size, stand-none, stand-then, stand-split}
 use Rattle.places.specs.Fields.{number-size, number-there, number-back, number-from, not-negative, below-negative}
 
@@ -39,11 +39,6 @@ ranked-back (suc zero) rank h e = subst (λ (n : ℕ). Ranked 1 n) (sym (eqb-tru
 ranked-back (suc (suc zero)) rank h e =
     let w = both (leb 2 rank) (leb rank 32) e in
     rectangular (leb-true 2 rank (w .0)) (leb-true rank 32 (w .1))
-  where
-    both : (a b : Bool) → (a && b) ≡ true → (a ≡ true) × (b ≡ true)
-    both true b e = (refl, e)
-    both false true e = (e, refl)
-    both false false e = (e, e)
 ranked-back (suc (suc (suc n))) rank h e = absurd (omega arith)
 
 pub ranked-small : (type rank : ℕ) → Ranked type rank → (type ≤ 2) × (rank ≤ 32)

@@ -1,9 +1,9 @@
 -- The members of a class at their places (01, Records): all names, then all type bytes, then the details. Members that the grammar takes are
 -- those that end, read at a place they are those written there, and the types that an open object sees are those of the members.
 use Prim.Native.Nat.{ℕ, zero, suc, _+_, _-_, _≤_, _<_}
-use mathlib.Core.Path.{_≡_, refl, sym, ap, ap₂, _∙_, subst}
+use mathlib.Core.Path.{_≡_, refl, sym, ap, _∙_}
 use mathlib.Core.Bool.{Bool, true, false}
-use mathlib.Core.List.{List, [], _∷_, _++_}
+use mathlib.Core.List.{List, [], _∷_}
 use native.Mathlib.Omega.{arith}
 use lib.ListN.{length, getD}
 use lib.Dec.{eqb}
@@ -13,8 +13,8 @@ use Rattle.format.specs.declared.Field.the-variants as F
 use Rattle.format.specs.declared.Row.{Row}
 use Rattle.format.specs.Bytes.{pick}
 use Rattle.format.specs.Text.{stringBytes}
-use Rattle.format.specs.Values.{onEnd, times}
-use Rattle.format.specs.Types.{typeByteAt, nameAt, infoAt, slotOf, typedAt, moved}
+use Rattle.format.specs.Values.{times}
+use Rattle.format.specs.Types.{typeByteAt, nameAt, infoAt, typedAt}
 use Rattle.format.specs.Records.{knownLibrary, infoKnown, infosAt}
 use Rattle.format.specs.Contents.{Member, typeByte, infoBytes, slotFor, namesBytes, typesBytes, infosBytes}
 use Rattle.format.specs.Says.{textFrom, afterText, afterInfo}
@@ -27,7 +27,7 @@ use Rattle.types.specs.Slots.{moved-on}
 use Rattle.classes.specs.Moves.{known-moves, info-known-moves}
 use Rattle.places.specs.Env.{envOf, slotsFrom}
 use Rattle.places.specs.Stand.{Stand, stand-size, stand-none, stand-byte, stand-then, stand-split, stand-inside, stand-here, stand-after}
-use Rattle.places.specs.Fields.{name-there, name-text, name-after, name-back}
+use Rattle.places.specs.Fields.{name-there, name-text, name-back}
 use Rattle.places.specs.Details.{detailIn, detail-there, detail-in, detail-byte, detail-slot, detail-back, byte-small}
 
 -- n members whose names, type bytes and details stand at these places

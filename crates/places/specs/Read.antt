@@ -1,14 +1,18 @@
 -- Every record that the grammar takes is read, whatever its kind (01, Records): its fields are good, and say what the record has.
-use Prim.Native.Nat.{ℕ, _+_, _≤_, _<_}
-use mathlib.Core.Path.{_≡_, sym, _∙_, subst}
+use Prim.Native.Nat.{ℕ, _+_, _≤_}
+use mathlib.Core.Path.{_≡_, sym, subst}
 use mathlib.Core.List.{List, _++_}
 use lib.ListN.{length, drop}
+use Rattle.format.specs.declared.PrimitiveCode.{PrimitiveCode}
 use Rattle.format.specs.declared.SlotType.{SlotType}
+use Rattle.format.specs.declared.Field.the-variants as F
 use Rattle.format.specs.declared.Row.{Row}
-use Rattle.format.specs.Contents.{Rec, enc}
-use Rattle.format.specs.Grammar.{Entry, size}
+use Rattle.format.specs.Values.{valueAt}
+use Rattle.format.specs.Contents.{Rec, value, enc}
+use Rattle.format.specs.Grammar.{Entry, Value, size}
 use Rattle.places.specs.Env.{envOf}
-use Rattle.places.specs.Stand.{Stand, stand-size, stand-of, stand-rest}
+use Rattle.places.specs.Stand.{Stand, stand-of, stand-rest}
+use Rattle.places.specs.Values.{value-there}
 use Rattle.places.specs.Recs.{Good, is-header, is-class-by-id, is-system-class, is-library-class, is-string, is-typed-primitive, is-reference, is-null, is-end, is-library, is-nulls, is-many-nulls, is-array, There}
 use Rattle.places.specs.Reads.{header-there, string-there, typed-primitive-there, reference-there, null-there, end-there, library-there, nulls-there, many-nulls-there}
 use Rattle.places.specs.ReadsClasses.{system-class-there, library-class-there, class-by-id-there}
@@ -35,8 +39,13 @@ module _ (s : List ℕ) (rows : List Row) (at e : ℕ) where
 pub record-there : (s : List ℕ) (rows : List Row) (es : List Entry) (at k : ℕ) (r : Rec) (id count class : ℕ) (ts : List SlotType) (q : List ℕ)
     → envOf s rows ≡ es → Good es k r id count class ts → at ≤ length s → drop at s ≡ enc r ++ q
     → There s rows k at r id count class ts × (drop (at + size r) s ≡ q)
-record-there s rows es at k r id count class ts q known g h d =
-    (
-      record-read s rows at (at + size r) k r id count class ts (subst (λ (l : List Entry). Good l k r id count class ts) (sym known) g) (stand-of s (enc r) q at h d),
-      stand-rest s (enc r) q at h d,
-    )
+record-there s rows es at k r id count class ts q known g h d = (
+  record-read s rows at (at + size r) k r id count class ts (subst (λ (l : List Entry). Good l k r id count class ts) (sym known) g) (stand-of s (enc r) q at h d),
+  stand-rest s (enc r) q at h d,
+)
+
+-- ---- member values
+
+pub member-read : (s : List ℕ) (c : PrimitiveCode) (v : List ℕ) (at e : ℕ) → Value c v → Stand s (enc (value v)) at e → valueAt s c at ≡ F.End e
+unfolding enc
+member-read s c v at e g w = value-there s c v at e g w

@@ -1,7 +1,7 @@
 -- Array records that the grammar takes are read (01, Records, kinds 7, 15, 16 and 17): their fields are good, and say what the record has.
-use Prim.Native.Nat.{ℕ, _+_, _*_, _≤_, _<_}
+use Prim.Native.Nat.{ℕ, _+_, _*_, _<_}
 use mathlib.Core.Path.{_≡_, refl, sym, ap, _∙_, subst}
-use mathlib.Core.Bool.{Bool, true, false}
+use mathlib.Core.Bool.{false}
 use mathlib.Core.List.{List, [], _∷_, _++_}
 use native.Mathlib.Omega.{arith}
 use native.Mathlib.Nat.{add-zero, one-mul}
@@ -25,9 +25,9 @@ use Rattle.places.specs.Env.{envOf, entryOf, object-id-good}
 use Rattle.places.specs.Stand.{Stand, stand-size, stand-split, stand-inside, stand-here, stand-after}
 use Rattle.places.specs.Fields.{number-there, not-negative, positive-bits, code-there, code-from}
 use Rattle.places.specs.Values.{items-there}
-use Rattle.places.specs.Details.{detailIn, detail-there, detail-in, detail-slot, byte-small}
+use Rattle.places.specs.Details.{detail-there, detail-in, detail-slot, byte-small}
 use Rattle.places.specs.Lengths.{ranked-there, ranked-small, lengths-there}
-use Rattle.places.specs.Recs.{entryFor, rowWith, There, plainHead, slottedHead, slotted-told}
+use Rattle.places.specs.Recs.{entryFor, rowWith, There, slottedHead, slotted-told}
 use Rattle.places.specs.Reads.{plain-there}
 
 module _ (s : List ℕ) (rows : List Row) (at e : ℕ) where

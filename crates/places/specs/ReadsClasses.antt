@@ -1,10 +1,9 @@
 -- Class records that the grammar takes are read (01, Records, kinds 1, 4 and 5): their fields are good, and say what the record has.
-use Prim.Native.Nat.{ℕ, _+_, _-_, _≤_, _<_}
-use mathlib.Core.Path.{_≡_, refl, sym, ap, _∙_, subst}
+use Prim.Native.Nat.{ℕ, _+_, _-_, _<_}
+use mathlib.Core.Path.{_≡_, refl, ap, subst}
 use mathlib.Core.Bool.{Bool, true, false}
 use mathlib.Core.List.{List, [], _∷_, _++_}
 use lib.ListN.{length, getD}
-use lib.Dec.{eqb}
 use Rattle.format.specs.declared.SlotType.{SlotType}
 use Rattle.format.specs.declared.Field.the-variants as F
 use Rattle.format.specs.declared.Heading.the-variants as H
@@ -15,7 +14,7 @@ use Rattle.format.specs.Records.{afterInfos, membersAt, classAt, classByIdAt, h
 use Rattle.format.specs.Contents.{Member, classBytes, classById, systemClass, libraryClass, enc}
 use Rattle.format.specs.Grammar.{aClass, ClassId, LibraryId, ClassInfo, typesOf, classed, classOf}
 use Rattle.classes.specs.Stages.{namedClassAt}
-use Rattle.places.specs.Env.{envOf, classSlots, class-told, class-id-good}
+use Rattle.places.specs.Env.{envOf, class-told, class-id-good}
 use Rattle.places.specs.Stand.{Stand, stand-split, stand-inside, stand-here, stand-after}
 use Rattle.places.specs.Fields.{number-there}
 use Rattle.places.specs.Details.{library-there}

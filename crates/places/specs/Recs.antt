@@ -1,8 +1,8 @@
 -- A record as the grammar has it (01, Records), of any kind, and what its fields say of it at a place: the same statement for every kind.
-use Prim.Native.Nat.{ℕ, zero, suc, _+_, _≤_, _<_}
+use Prim.Native.Nat.{ℕ, zero, suc, _+_, _<_}
 use mathlib.Core.Path.{_≡_, refl, sym, ap, _∙_}
-use mathlib.Core.Bool.{Bool, true, false}
-use mathlib.Core.List.{List, [], _∷_, _++_}
+use mathlib.Core.Bool.{true, false}
+use mathlib.Core.List.{List, [], _∷_}
 use lib.ListN.{length, getD, replicate}
 use Rattle.format.specs.declared.PrimitiveCode.{PrimitiveCode}
 use Rattle.format.specs.declared.SlotType.{SlotType}
@@ -16,10 +16,10 @@ use Rattle.format.specs.Types.{positive, typedAt, alike, moved}
 use Rattle.format.specs.Rows.{isClass}
 use Rattle.format.specs.Records.{within, headingAt}
 use Rattle.format.specs.Contents.{Member, Rec, header, classById, systemClass, libraryClass, string, array, typedPrimitive, reference, null, nulls, manyNulls, end, library, primitiveArray, objectArray, stringArray, value, enc}
-use Rattle.format.specs.Grammar.{Entry, aClass, another, aLibrary, known, classed, classOf, ClassId, ObjectId, LibraryId, Name, Value, ClassInfo, typesOf, Array}
+use Rattle.format.specs.Grammar.{Entry, aClass, another, aLibrary, known, classed, classOf, ClassId, ObjectId, LibraryId, Name, Value, ClassInfo, typesOf, size, Array}
 use Rattle.types.specs.Slots.{moved-alike}
 use Rattle.places.specs.Env.{slotsFrom, typesAt, classSlots, entryOf, envOf}
-use Rattle.places.specs.Stand.{Stand}
+use Rattle.places.specs.Stand.{Stand, stand-size}
 
 -- a record that the grammar takes where this is known: its kind, its number (ObjectId, LibraryId, IdRef or RootId) or 0, its count, the row of
 -- the class that it names or 0, and the types of its slots
@@ -108,6 +108,11 @@ alike-slots s t infos (suc n) = rw (moved-alike s (alike t infos) refl) (ap (λ 
 
 pub told-slots : {s : List ℕ} {k at id count class : ℕ} {h : Head} {r : Rec} {ts : List SlotType} → Told s k at h r id count class ts → h .slots ≡ length ts
 told-slots {s} {h = h} t = sym (length-slots s (h .first) (h .slots)) ∙ ap length (t .slots-are)
+
+-- ---- where a record ends
+
+pub told-end : {s : List ℕ} {k at id count class : ℕ} {h : Head} {r : Rec} {ts : List SlotType} → Told s k at h r id count class ts → h .end ≡ at + size r
+told-end t = stand-size (t .stands)
 
 -- ---- records without slots
 

@@ -1,5 +1,5 @@
 -- Bytes that stand at a place of a stream: one after the other, and parts of them.
-use Prim.Native.Nat.{ℕ, suc, _+_, _-_, _≤_, _<_}
+use Prim.Native.Nat.{ℕ, _+_, _-_, _≤_, _<_}
 use mathlib.Core.Path.{_≡_, refl, sym, ap, _∙_}
 use mathlib.Core.List.{List, [], _∷_, _++_, append-assoc}
 use native.Mathlib.Omega.{arith}
@@ -64,8 +64,7 @@ stand-split {s} a b {p} {e} w =
     let k = stand-size w in
     let l : length (a ++ b) ≡ length a + length b = length-append a b in
     let d : drop p s ≡ a ++ (b ++ drop e s) = w .bytes ∙ append-assoc a b (drop e s) in
-    let h : p ≤ length s = omega (arith, w .onward, w .room) in
-    (
+    let h : p ≤ length s = omega (arith, w .onward, w .room) in (
       p + length a,
       stand-of s a (b ++ drop e s) p h d,
       record { bytes = stand-rest s a (b ++ drop e s) p h d; onward = omega arith; room = w .room },

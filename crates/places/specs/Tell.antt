@@ -1,5 +1,5 @@
 -- What good fields tell of, whatever the kind (01, Records): a record that the grammar takes stands at the place.
-use Prim.Native.Nat.{ℕ, _+_, _≤_, _<_}
+use Prim.Native.Nat.{ℕ, _-_, _≤_, _<_}
 use mathlib.Core.Path.{_≡_, refl, sym, _∙_, subst}
 use mathlib.Core.Bool.{Bool, true, false, _||_}
 use mathlib.Core.List.{List}
@@ -7,17 +7,24 @@ use native.Mathlib.Omega.{arith}
 use lib.ListN.{length, getD}
 use lib.Dec.{leb, eqb}
 use borrow.Author.Tests.{leb-true, eqb-true, eqb-false}
+use Rattle.format.specs.declared.PrimitiveCode.{PrimitiveCode}
 use Rattle.format.specs.declared.SlotType.the-variants as S
+use Rattle.format.specs.declared.Field.the-variants as F
 use Rattle.format.specs.declared.Where.{Where}
 use Rattle.format.specs.declared.Kind.the-variants as K
 use Rattle.format.specs.declared.Head.{Head}
 use Rattle.format.specs.declared.Heading.{Heading}
 use Rattle.format.specs.declared.Heading.the-variants as H
 use Rattle.format.specs.declared.Row.{Row}
-use Rattle.format.specs.Bytes.{pick}
+use Rattle.format.specs.Bytes.{pick, part}
+use Rattle.format.specs.Values.{valueAt}
 use Rattle.format.specs.Records.{isKind, notTaken, kindAt, slotArrayAt, headingAt}
+use Rattle.format.specs.Contents.{value, enc}
+use Rattle.format.specs.Grammar.{Value}
 use Rattle.num.specs.Le.{Bytes}
 use Rattle.records.specs.Kinds.{kind-within, kind-byte}
+use Rattle.places.specs.Stand.{Stand}
+use Rattle.places.specs.Values.{value-back}
 use Rattle.places.specs.Recs.{Back}
 use Rattle.places.specs.Tells.{Said, said-if, header-back, string-back, typed-primitive-back, reference-back, null-back, end-back, library-back, nulls-back, many-nulls-back}
 use Rattle.places.specs.TellsClasses.{system-class-back, library-class-back, class-by-id-back}
@@ -77,3 +84,10 @@ pub record-told : (s : List ℕ) (rows : List Row) (w : Where) (at k : ℕ) (h :
 record-told s rows w at k h byte q e =
     let b = kind-byte s w at k q in
     fields-tell s rows at k byte (kind-within s w at k q) (sym (b .byte)) h (b .known) (b .free) e
+
+-- ---- member values
+
+pub member-told : (s : List ℕ) (c : PrimitiveCode) (at e : ℕ) → Bytes s → valueAt s c at ≡ F.End e
+    → Value c (part s at (e - at)) × Stand s (enc (value (part s at (e - at)))) at e
+unfolding enc
+member-told s c at e byte q = value-back s c at e byte q

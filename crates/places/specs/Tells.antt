@@ -1,12 +1,12 @@
 -- What good fields tell of (01, Records): for each kind, the record that stands at the place is one that the grammar takes, its contents read
 -- from the stream.
-use Prim.Native.Nat.{ℕ, zero, suc, _+_, _-_, _≤_, _<_}
-use mathlib.Core.Path.{_≡_, refl, sym, ap, _∙_, subst}
+use Prim.Native.Nat.{ℕ, _+_, _-_, _<_}
+use mathlib.Core.Path.{_≡_, refl}
 use mathlib.Core.Bool.{Bool, true, false, _&&_}
-use mathlib.Core.List.{List, [], _∷_, _++_}
+use mathlib.Core.List.{List, [], _∷_}
 use native.Mathlib.Omega.{arith}
 use lib.ListN.{length, getD}
-use lib.Dec.{ltb, leb, eqb}
+use lib.Dec.{ltb, eqb}
 use borrow.Author.Tests.{ltb-true, eqb-true}
 use Rattle.format.specs.declared.Number32.{Number32}
 use Rattle.format.specs.declared.Number32.the-variants as N32
@@ -19,7 +19,7 @@ use Rattle.format.specs.declared.Heading.{Heading}
 use Rattle.format.specs.declared.Heading.the-variants as H
 use Rattle.format.specs.declared.Row.{Row}
 use Rattle.format.specs.Bytes.{pick, part}
-use Rattle.format.specs.Numbers.{leBytes, u32At, negative}
+use Rattle.format.specs.Numbers.{leBytes, u32At}
 use Rattle.format.specs.Values.{valueAt}
 use Rattle.format.specs.Types.{codeAt, nameAt, positive}
 use Rattle.format.specs.Rows.{isClass, libraryRow}

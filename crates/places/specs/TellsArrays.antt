@@ -1,9 +1,9 @@
 -- What good fields of an array record tell of (01, Records, kinds 7, 15, 16 and 17): the record that stands at the place is one that the
 -- grammar takes, its contents read from the stream.
-use Prim.Native.Nat.{ℕ, _+_, _-_, _*_, _≤_, _<_}
-use mathlib.Core.Path.{_≡_, refl, sym, ap, _∙_, subst}
-use mathlib.Core.Bool.{Bool, true, false}
-use mathlib.Core.List.{List, [], _∷_, _++_, append-nil}
+use Prim.Native.Nat.{ℕ, _+_, _-_, _≤_, _<_}
+use mathlib.Core.Path.{_≡_, refl, sym, _∙_, subst}
+use mathlib.Core.Bool.{true, false}
+use mathlib.Core.List.{List, [], _∷_, _++_}
 use native.Mathlib.Omega.{arith}
 use native.Mathlib.Nat.{one-mul}
 use lib.ListN.{length, getD, replicate}
@@ -13,13 +13,13 @@ use Rattle.format.specs.declared.SlotType.{SlotType}
 use Rattle.format.specs.declared.SlotType.the-variants as S
 use Rattle.format.specs.declared.Field.the-variants as F
 use Rattle.format.specs.declared.Row.{Row}
-use Rattle.format.specs.Bytes.{pick, part}
+use Rattle.format.specs.Bytes.{part}
 use Rattle.format.specs.Numbers.{leBytes, u32At, negative}
 use Rattle.format.specs.Values.{itemsAt}
 use Rattle.format.specs.Types.{codeAt, typeByteAt, typedAt, isPrimitive}
 use Rattle.format.specs.Rows.{isClass}
 use Rattle.format.specs.Records.{goodId, slotArrayAt, primitiveArrayAt, goodRank, lengthsAt, itemsOf, infoKnown, itemTypeAt, rankAt, binaryArrayAt}
-use Rattle.format.specs.Contents.{Detail, primitive, text, object, system, class, objects, texts, primitives, typeByte, infoBytes, slotFor, Rec, array, primitiveArray, objectArray, stringArray, numbersBytes, enc}
+use Rattle.format.specs.Contents.{Detail, primitive, text, object, system, class, objects, texts, primitives, typeByte, infoBytes, slotFor, Rec, array, primitiveArray, objectArray, stringArray, enc}
 use Rattle.format.specs.Says.{codeFrom, numbersFrom}
 use Rattle.format.specs.Grammar.{GoodDetail, ObjectId, Shape, product, Array, of-objects, of-strings, of-primitives, of-any, of-values}
 use Rattle.num.specs.Le.{Bytes}
@@ -30,7 +30,7 @@ use Rattle.places.specs.Fields.{number-back, below-negative, code-back}
 use Rattle.places.specs.Values.{items-back}
 use Rattle.places.specs.Details.{detailIn, detail-byte, detail-slot, detail-back}
 use Rattle.places.specs.Lengths.{ranked-back, length-numbers, LengthsAt, lengths-back}
-use Rattle.places.specs.Recs.{is-array, entryFor, rowWith, Back, plainHead, plain-told, slottedHead, slotted-told}
+use Rattle.places.specs.Recs.{is-array, entryFor, rowWith, Back, slottedHead, slotted-told}
 use Rattle.places.specs.Tells.{Said, said-number, said-field, said-slots, said-if, plain-back}
 
 module _ (s : List ℕ) (rows : List Row) (at : ℕ) (byte : Bytes s) (i : at < length s) where

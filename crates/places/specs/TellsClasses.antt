@@ -1,33 +1,32 @@
 -- What good fields of a class record tell of (01, Records, kinds 1, 4 and 5): the record that stands at the place is one that the grammar
 -- takes, its contents read from the stream.
-use Prim.Native.Nat.{ℕ, _+_, _-_, _≤_, _<_}
-use mathlib.Core.Path.{_≡_, refl, sym, ap, _∙_, subst}
+use Prim.Native.Nat.{ℕ, _+_, _-_, _<_}
+use mathlib.Core.Path.{_≡_, refl, ap}
 use mathlib.Core.Bool.{Bool, true, false}
-use mathlib.Core.List.{List, [], _∷_, _++_}
+use mathlib.Core.List.{List, [], _∷_}
 use lib.ListN.{length, getD}
 use lib.Dec.{eqb}
 use Rattle.format.specs.declared.SlotType.{SlotType}
-use Rattle.format.specs.declared.Number32.the-variants as N32
 use Rattle.format.specs.declared.Field.the-variants as F
 use Rattle.format.specs.declared.Head.{Head}
 use Rattle.format.specs.declared.Row.{Row}
-use Rattle.format.specs.Numbers.{leBytes, u32At, negative}
+use Rattle.format.specs.Numbers.{u32At, negative}
 use Rattle.format.specs.Values.{times}
-use Rattle.format.specs.Types.{typeByteAt, nameAt, typedAt}
-use Rattle.format.specs.Rows.{blank, isClass, classRow}
-use Rattle.format.specs.Records.{within, goodClassId, infosAt, afterInfos, membersAt, classAt, classByIdAt}
-use Rattle.format.specs.Contents.{Member, Rec, classBytes, classById, systemClass, libraryClass, enc}
+use Rattle.format.specs.Types.{typeByteAt, nameAt}
+use Rattle.format.specs.Rows.{blank, classRow}
+use Rattle.format.specs.Records.{goodClassId, infosAt, afterInfos, membersAt, classAt, classByIdAt}
+use Rattle.format.specs.Contents.{Member, classBytes, classById, systemClass, libraryClass, enc}
 use Rattle.format.specs.Says.{textFrom, numberFrom}
-use Rattle.format.specs.Grammar.{Entry, aClass, typesOf}
+use Rattle.format.specs.Grammar.{aClass, typesOf}
 use Rattle.num.specs.Le.{Bytes}
-use Rattle.classes.specs.Stages.{namedClassAt, byMetadataAt}
-use Rattle.places.specs.Env.{envOf, entryOf, slotsFrom, typesAt, classSlots, class-found, class-id}
+use Rattle.classes.specs.Stages.{namedClassAt}
+use Rattle.places.specs.Env.{classSlots, class-found, class-id}
 use Rattle.places.specs.Stand.{Stand, stand-is, stand-then}
 use Rattle.places.specs.Fields.{number-back}
 use Rattle.places.specs.Details.{library-back}
 use Rattle.places.specs.Members.{membersIn}
 use Rattle.places.specs.Classes.{ClassAt, class-back}
-use Rattle.places.specs.Recs.{Good, is-class-by-id, is-system-class, is-library-class, entryFor, rowWith, Told, Back, length-slots, classHead, class-head-told, byIdHead, by-id-told}
+use Rattle.places.specs.Recs.{is-class-by-id, is-system-class, is-library-class, Back, classHead, class-head-told, by-id-told}
 use Rattle.places.specs.Tells.{Said, said-number, said-field, said-if}
 
 module _ (s : List ℕ) (rows : List Row) (at : ℕ) (byte : Bytes s) (i : at < length s) where

@@ -2,21 +2,20 @@
 use Prim.Native.Nat.{ℕ, zero, suc, _+_, _-_, _*_, _≤_, _<_}
 use mathlib.Core.Path.{_≡_, refl, sym, ap, _∙_, subst}
 use mathlib.Core.Bool.{Bool, true, false}
-use mathlib.Core.List.{List, [], _∷_, _++_}
+use mathlib.Core.List.{List, _++_}
 use native.Mathlib.Omega.{arith}
 use native.Mathlib.Nat.{add-comm, mul-suc}
 use lib.ListN.{length, getD, drop, length-append}
-use lib.Dec.{leb, eqb}
-use borrow.Author.Tests.{le-leb, leb-true, ne-eqb, eqb-true, eqb-false}
+use lib.Dec.{eqb}
+use borrow.Author.Tests.{leb-true, ne-eqb, eqb-false}
 use Rattle.format.specs.declared.Refusal.the-variants as R
 use Rattle.format.specs.declared.PrimitiveCode.{PrimitiveCode}
 use Rattle.format.specs.declared.PrimitiveCode.the-variants as C
 use Rattle.format.specs.declared.Field.the-variants as F
 use Rattle.format.specs.Bytes.{pick, part}
-use Rattle.format.specs.Numbers.{le}
 use Rattle.format.specs.Prefix.{prefixBytes}
 use Rattle.format.specs.Text.{needOf, wellFormed}
-use Rattle.format.specs.Values.{bytesAt, booleanAt, charAt, decimal, decimalAt, dateTime, dateTimeAt, sizeOf, valueAt, times, itemsAt}
+use Rattle.format.specs.Values.{bytesAt, booleanAt, charAt, decimal, decimalAt, dateTimeAt, sizeOf, valueAt, times, itemsAt}
 use Rattle.format.specs.Grammar.{Value, number, boolean, scalar, exact, moment, Values, none, more}
 use Rattle.fields.specs.Parts.{length-part, part-cons, part-first, part-add, part-through}
 use Rattle.fields.specs.Judged.{judged-taken, judged-end}
@@ -27,7 +26,7 @@ use Rattle.prefix.specs.Both.{round-trip, taken}
 use Rattle.strings.specs.Counted.{counted-moves}
 use Rattle.text.specs.Laws.{need-bound}
 use Rattle.values.specs.Ends.{bytes-end, boolean-end}
-use Rattle.values.specs.Judged.{any, truth, oneScalar, bytes-judged, boolean-judged, date-judged, char-taken, char-of, decimal-told, decimal-of}
+use Rattle.values.specs.Judged.{any, truth, bytes-judged, boolean-judged, date-judged, char-taken, char-of, decimal-told, decimal-of}
 use Rattle.values.specs.Judged as J
 use Rattle.values.specs.Keeps.{value-moves, items-kept}
 use Rattle.places.specs.Stand.{Stand, stand-size, stand-same, stand-part, stand-split, stand-inside, stand-here}
