@@ -73,6 +73,8 @@ module _ (s : List ℕ) (rows : List Row) where
     pub names-end : times (nameAt s) (length ms) names-at ≡ F.End types-at
     pub types-end : times (typeByteAt s) (length ms) types-at ≡ F.End infos-at
     pub infos-end : infosAt s rows (length ms) types-at infos-at ≡ F.End e
+    pub infos-are : infos-at ≡ types-at + length ms
+    pub same : membersIn s (length ms) names-at types-at infos-at ≡ ms
     pub class-at : ClassAt name ms p e (length ms) types-at infos-at
 
   pub class-there : (name : List ℕ) (ms : List (Member ℕ)) (p e : ℕ) → ClassInfo (envOf s rows) name ms → Stand s (classBytes name ms) p e → ClassEnds name ms p e
@@ -103,5 +105,7 @@ module _ (s : List ℕ) (rows : List Row) where
             names-end = k .names-end;
             types-end = k .types-end;
             infos-end = k .infos-end;
+            infos-are = u .0;
+            same = k .same;
             class-at = record { info = g; stands = w; counted = refl; slots = z; known = types-known types infos (length ms) (u .0) (u .1) ∙ z };
           }

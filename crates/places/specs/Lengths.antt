@@ -6,7 +6,7 @@ use mathlib.Core.Bool.{Bool, true, false}
 use mathlib.Core.List.{List, [], _∷_}
 use native.Mathlib.Omega.{arith}
 use native.Mathlib.Nat.{mul-assoc}
-use lib.ListN.{length}
+use lib.ListN.{length, length-append}
 use lib.Dec.{leb}
 use borrow.Author.Tests.{le-leb, leb-true, eqb-true}
 use Rattle.format.specs.declared.Refusal.{Refusal}
@@ -21,7 +21,7 @@ use Rattle.format.specs.Contents.{numbersBytes}
 use Rattle.format.specs.Says.{numberFrom, numbersFrom}
 use Rattle.format.specs.Grammar.{product, Lengths, no-length, length-of, Ranked, single, jagged, rectangular}
 use Rattle.fields.specs.Judged.{told}
-use Rattle.num.specs.Le.{Bytes}
+use Rattle.num.specs.Le.{Bytes, length-leBytes}
 use Rattle.places.specs.Env.{both}
 use Rattle.places.specs.Stand.{Stand, stand-size, stand-none, stand-then, stand-split}
 use Rattle.places.specs.Fields.{number-size, number-there, number-back, number-from, not-negative, below-negative}
@@ -55,6 +55,13 @@ pub length-numbers : (s : List ℕ) (n p : ℕ) → length (numbersFrom s n p) �
 unfolding numbersFrom
 length-numbers s zero p = refl
 length-numbers s (suc n) p = ap suc (length-numbers s n (p + 4))
+
+pub length-numbers-bytes : (ns : List ℕ) → length (numbersBytes ns) ≡ 4 * length ns
+length-numbers-bytes [] = refl
+length-numbers-bytes (n ∷ ns) =
+    let a = length-leBytes 4 n in
+    let b = length-numbers-bytes ns in
+    length-append (leBytes 4 n) (numbersBytes ns) ∙ omega arith
 
 module _ (s : List ℕ) where
   -- over the product k of the lengths before

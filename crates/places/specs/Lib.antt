@@ -16,3 +16,4 @@ pub mod Reads
 pub mod ReadsClasses
 pub mod ReadsArrays
 pub mod Read
+pub mod Contents

@@ -14,9 +14,9 @@ use Rattle.format.specs.declared.Row.{Row}
 use Rattle.format.specs.Bytes.{pick}
 use Rattle.format.specs.Types.{positive, typedAt, alike, moved}
 use Rattle.format.specs.Rows.{isClass}
-use Rattle.format.specs.Records.{within, headingAt}
+use Rattle.format.specs.Records.{isKind, notTaken, within, headingAt}
 use Rattle.format.specs.Contents.{Member, Rec, header, classById, systemClass, libraryClass, string, array, typedPrimitive, reference, null, nulls, manyNulls, end, library, primitiveArray, objectArray, stringArray, value, enc}
-use Rattle.format.specs.Grammar.{Entry, aClass, another, aLibrary, known, classed, classOf, ClassId, ObjectId, LibraryId, Name, Value, ClassInfo, typesOf, size, Array}
+use Rattle.format.specs.Grammar.{Entry, aClass, another, aLibrary, known, classed, classOf, ClassId, ObjectId, LibraryId, Name, Value, ClassInfo, typesOf, size, Array, of-objects, of-strings, of-primitives, of-any, of-values}
 use Rattle.types.specs.Slots.{moved-alike}
 use Rattle.places.specs.Env.{slotsFrom, typesAt, classSlots, entryOf, envOf}
 use Rattle.places.specs.Stand.{Stand, stand-size}
@@ -40,6 +40,29 @@ pub data Good (es : List Entry) : (kind : ℕ) → Rec → (id count class : ℕ
   is-nulls : {k : ℕ} → k < 256 → Good es 13 (nulls k) 0 k 0 []
   is-many-nulls : {k : ℕ} → positive k ≡ true → Good es 14 (manyNulls k) 0 k 0 []
   is-array : {k i n : ℕ} {r : Rec} {ts : List SlotType} → ObjectId i es → Array es r k i n ts → Good es k r i n 0 ts
+
+-- its kind is known and not refused by name
+array-kind : {es : List Entry} {k i n : ℕ} {r : Rec} {ts : List SlotType} → Array es r k i n ts → (isKind k ≡ true) × (notTaken k ≡ false)
+array-kind (of-objects a) = (refl, refl)
+array-kind (of-strings a) = (refl, refl)
+array-kind (of-primitives a b) = (refl, refl)
+array-kind (of-any a b c d e) = (refl, refl)
+array-kind (of-values a b c) = (refl, refl)
+
+pub good-kind : {es : List Entry} {k id count class : ℕ} {r : Rec} {ts : List SlotType} → Good es k r id count class ts → (isKind k ≡ true) × (notTaken k ≡ false)
+good-kind (is-header a b) = (refl, refl)
+good-kind (is-class-by-id a b c) = (refl, refl)
+good-kind (is-system-class a b) = (refl, refl)
+good-kind (is-library-class a b c) = (refl, refl)
+good-kind (is-string a b) = (refl, refl)
+good-kind (is-typed-primitive a) = (refl, refl)
+good-kind (is-reference a) = (refl, refl)
+good-kind is-null = (refl, refl)
+good-kind is-end = (refl, refl)
+good-kind (is-library a b c) = (refl, refl)
+good-kind (is-nulls a) = (refl, refl)
+good-kind (is-many-nulls a) = (refl, refl)
+good-kind (is-array a b) = array-kind b
 
 -- what a record makes known; row is the number of its row plus 1
 abbrev pub entryFor : ℕ → Rec → List Entry
