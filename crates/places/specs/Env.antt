@@ -63,6 +63,10 @@ env-more s rows r =
     let z : 0 + length rows ≡ length rows = omega arith in
     rw z at (env-from-more s 0 rows r)
 
+-- and one that makes nothing known
+pub env-same : (s : List ℕ) (rows : List Row) (r : Row) → entryOf s (suc (length rows)) r ≡ [] → envOf s (rows ++ (r ∷ [])) ≡ envOf s rows
+env-same s rows r e = env-more s rows r ∙ rw e (append-nil (envOf s rows))
+
 -- ---- lookups
 
 some-row : (i : ℕ) → not (eqb (i + 1) 0) ≡ true

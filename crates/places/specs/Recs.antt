@@ -2,7 +2,7 @@
 use Prim.Native.Nat.{ℕ, zero, suc, _+_, _<_}
 use mathlib.Core.Path.{_≡_, refl, sym, ap, _∙_}
 use mathlib.Core.Bool.{true, false}
-use mathlib.Core.List.{List, [], _∷_}
+use mathlib.Core.List.{List, [], _∷_, _++_}
 use lib.ListN.{length, getD, replicate}
 use Rattle.format.specs.declared.PrimitiveCode.{PrimitiveCode}
 use Rattle.format.specs.declared.SlotType.{SlotType}
@@ -18,7 +18,7 @@ use Rattle.format.specs.Records.{isKind, notTaken, within, headingAt}
 use Rattle.format.specs.Contents.{Member, Rec, header, classById, systemClass, libraryClass, string, array, typedPrimitive, reference, null, nulls, manyNulls, end, library, primitiveArray, objectArray, stringArray, value, enc}
 use Rattle.format.specs.Grammar.{Entry, aClass, another, aLibrary, known, classed, classOf, ClassId, ObjectId, LibraryId, Name, Value, ClassInfo, typesOf, size, Array, of-objects, of-strings, of-primitives, of-any, of-values}
 use Rattle.types.specs.Slots.{moved-alike}
-use Rattle.places.specs.Env.{slotsFrom, typesAt, classSlots, entryOf, envOf}
+use Rattle.places.specs.Env.{slotsFrom, typesAt, classSlots, entryOf, envOf, env-more}
 use Rattle.places.specs.Stand.{Stand, stand-size}
 
 -- a record that the grammar takes where this is known: its kind, its number (ObjectId, LibraryId, IdRef or RootId) or 0, its count, the row of
@@ -131,6 +131,15 @@ alike-slots s t infos (suc n) = rw (moved-alike s (alike t infos) refl) (ap (λ 
 
 pub told-slots : {s : List ℕ} {k at id count class : ℕ} {h : Head} {r : Rec} {ts : List SlotType} → Told s k at h r id count class ts → h .slots ≡ length ts
 told-slots {s} {h = h} t = sym (length-slots s (h .first) (h .slots)) ∙ ap length (t .slots-are)
+
+-- ---- what is known after a record
+
+pub told-env : {s : List ℕ} {k at id count class : ℕ} {h : Head} {r : Rec} {ts : List SlotType} → Told s k at h r id count class ts
+    → (rows : List Row) (offset next owner slot : ℕ)
+    → envOf s (rows ++ (rowWith k h offset next owner slot ∷ [])) ≡ envOf s rows ++ entryFor (suc (length rows)) r
+told-env {s} {k = k} {h = h} t rows offset next owner slot =
+    env-more s rows (rowWith k h offset next owner slot)
+    ∙ ap (λ (es : List Entry). envOf s rows ++ es) (t .entry-is (suc (length rows)) offset next owner slot)
 
 -- ---- where a record ends
 

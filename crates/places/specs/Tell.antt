@@ -80,7 +80,8 @@ module _ (s : List ℕ) (rows : List Row) (at k : ℕ) (byte : Bytes s) (i : at 
   fields-tell h known free e = subst (Said (Back s rows k at)) e (heading-said known free)
 
 -- a record of a kind that is taken where it stands
-pub record-told : (s : List ℕ) (rows : List Row) (w : Where) (at k : ℕ) (h : Head) → Bytes s → kindAt s w at ≡ K.Taken k → headingAt s rows k at ≡ H.Fields h → Back s rows k at h
+pub record-told : (s : List ℕ) (rows : List Row) (w : Where) (at k : ℕ) (h : Head) → Bytes s → kindAt s w at ≡ K.Taken k
+    → headingAt s rows k at ≡ H.Fields h → Back s rows k at h
 record-told s rows w at k h byte q e =
     let b = kind-byte s w at k q in
     fields-tell s rows at k byte (kind-within s w at k q) (sym (b .byte)) h (b .known) (b .free) e

@@ -32,7 +32,8 @@ use Rattle.places.specs.Tells.{Said, said-number, said-field, said-if}
 module _ (s : List ℕ) (rows : List Row) (at : ℕ) (byte : Bytes s) (i : at < length s) where
   -- the fields after the ObjectId of a class record, of either kind
   class-said : (P : Head → Type 0) (own : Bool) (id p : ℕ)
-      → ((e n types infos x : ℕ) (ms : List (Member ℕ)) → ClassAt s rows (textFrom s p) ms p x n types infos → afterInfos own s rows x ≡ F.End e → P (classHead s id n types infos e))
+      → ((e n types infos x : ℕ) (ms : List (Member ℕ)) → ClassAt s rows (textFrom s p) ms p x n types infos
+      → afterInfos own s rows x ≡ F.End e → P (classHead s id n types infos e))
       → Said P (namedClassAt s rows own id p)
   unfolding namedClassAt membersAt
   class-said P own id p f =
