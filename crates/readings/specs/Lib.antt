@@ -1,0 +1,2 @@
+-- The readings that the grammar allows against what the machine accepts.
+pub mod Rows
