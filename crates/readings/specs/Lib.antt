@@ -1,2 +1,3 @@
 -- The readings that the grammar allows against what the machine accepts.
 pub mod Rows
+pub mod Steps
