@@ -1,13 +1,13 @@
 -- What a step of the machine does where a record or a member value stands that the grammar takes (01, What may stand where; Records): one law for an
 -- object without slots, an object with slots, a record that fills one slot, a null run, a library, a member value, the end record and the header.
-use Prim.Native.Nat.{ℕ, zero, suc, _+_, _-_, _≤_, _<_}
+use Prim.Native.Nat.{ℕ, _+_, _≤_, _<_}
 use mathlib.Core.Path.{_≡_, refl, sym, ap, subst, _∙_}
 use mathlib.Core.Bool.{Bool, true, false, _||_}
 use mathlib.Core.List.{List, [], _∷_, _++_}
 use native.Mathlib.Omega.{arith}
-use lib.ListN.{length, take, drop}
+use lib.ListN.{length}
 use lib.Dec.{eqb}
-use borrow.Author.Tests.{lt-ltb, le-ltb, eqb-true, eqb-false, eq-eqb, ne-eqb}
+use borrow.Author.Tests.{lt-ltb, le-ltb, eqb-true, eq-eqb, ne-eqb}
 use Rattle.format.specs.declared.PrimitiveCode.{PrimitiveCode}
 use Rattle.format.specs.declared.SlotType.{SlotType}
 use Rattle.format.specs.declared.SlotType.the-variants as S
@@ -15,23 +15,21 @@ use Rattle.format.specs.declared.Typed.{Typed}
 use Rattle.format.specs.declared.Where.{Where}
 use Rattle.format.specs.declared.Where.the-variants as W
 use Rattle.format.specs.declared.Kind.the-variants as K
-use Rattle.format.specs.declared.Passed.{Passed}
 use Rattle.format.specs.declared.Passed.the-variants as O
 use Rattle.format.specs.declared.Head.{Head}
 use Rattle.format.specs.declared.Heading.the-variants as H
 use Rattle.format.specs.declared.Row.{Row}
-use Rattle.format.specs.Bytes.{pick}
-use Rattle.format.specs.Types.{alike, moved, isPrimitive, passed, passedOf}
+use Rattle.format.specs.Types.{alike, moved, isPrimitive, passedOf}
 use Rattle.format.specs.Rows.{isObject}
 use Rattle.format.specs.Records.{isKind, notTaken, allowed, kindOf, kindAt, headingAt}
 use Rattle.format.specs.Contents.{Rec, value, enc}
-use Rattle.format.specs.Grammar.{Value, somePrimitive}
+use Rattle.format.specs.Grammar.{Value}
 use Rattle.format.specs.Machine.{Open, State, go, ended, close, filled, opened, rowIn, rowApart, add, object, nullRun, ending, act, onKind, recordStep, valueHead, onValue, valueStep, whereIn, bySlot, step, start}
 use Rattle.classes.specs.Ends.{EndsIn}
 use Rattle.records.specs.Moves.{heading-ends}
 use Rattle.records.specs.Kinds.{kind-there, kind-taken}
-use Rattle.types.specs.Slots.{moved-alike, passed-alike, passed-walk}
-use Rattle.places.specs.Env.{slotsFrom, envOf}
+use Rattle.types.specs.Slots.{moved-alike}
+use Rattle.places.specs.Env.{envOf}
 use Rattle.places.specs.Stand.{Stand, stand-size}
 use Rattle.places.specs.Recs.{Good, good-kind, Told, told-end, told-slots}
 use Rattle.places.specs.Read.{record-read, member-read}
@@ -67,9 +65,9 @@ pub record Taken (s : List ℕ) (rows : List Row) (at e k : ℕ) (r : Rec) (id c
   pub ends : head .end ≡ e
   pub onward : at < e
 
-pub taken : (s : List ℕ) (rows : List Row) (at e k : ℕ) (r : Rec) (id count class : ℕ) (ts : List SlotType) → Good (envOf s rows) k r id count class ts
+pub record-taken : (s : List ℕ) (rows : List Row) (at e k : ℕ) (r : Rec) (id count class : ℕ) (ts : List SlotType) → Good (envOf s rows) k r id count class ts
     → Stand s (enc r) at e → Taken s rows at e k r id count class ts
-taken s rows at e k r id count class ts g w =
+record-taken s rows at e k r id count class ts g w =
     let x = record-read s rows at e k r id count class ts g w in
     let q = good-kind g in
     let n : x .head .end ≡ e = told-end (x .told) ∙ sym (stand-size w) in
@@ -214,53 +212,16 @@ module _ (s : List ℕ) (room at : ℕ) (rows : List Row) (o : Open) where
         by-kind k f =
             rw (f, lt-ltb (length rows) room h) (ap (λ (p : ℕ). ended (rows ++ (rowIn (stateAt at rows o) 11 (w .head) ∷ [])) p) (w .ends))
 
+-- at the top level no slot is filled
+pub top-filled : (s : List ℕ) → filled (start .stack) 1 (moved s (start .stack .cur .typed)) ≡ start .stack
+unfolding filled close
+top-filled s = rw (moved-alike s (alike S.Object 0) refl)
+
 -- the header stands first
 pub header-goes : (s : List ℕ) (room e : ℕ) (r : Rec) (id count class : ℕ) (ts : List SlotType) (w : Taken s [] 0 e 0 r id count class ts) → 0 < room
     → recordStep s room start W.Start ≡ go (stateAt e (rowIn start 0 (w .head) ∷ []) (start .stack))
-unfolding allowed filled close
+unfolding allowed
 header-goes s room e r id count class ts w h =
     record-acts s room 0 [] (start .stack) e 0 r id count class ts w W.Start refl
     ∙ (act-fills s room 0 [] (start .stack) e 0 r id count class ts w (record { no-object = refl; no-run = refl; no-library = refl; no-end = refl }) h
-    ∙ ap (λ (t : Typed). go (stateAt e (rowIn start 0 (w .head) ∷ []) (record { cur = record { owner = 0; count = 0; left = 0; typed = t }; below = [] })))
-    (moved-alike s (alike S.Object 0) refl))
-
--- ---- slots that a null run passes
-
-module _ (s : List ℕ) where
-  -- what passes n of the m slots whose first has type t
-  abbrev pub Passes : Typed → ℕ → ℕ → Passed → Type 0
-  Passes t n m p = (u : Typed) × (p ≡ O.Over u) × (slotsFrom s u (m - n) ≡ drop n (slotsFrom s t m))
-
-  alike-drop : (t : Typed) (n m : ℕ) → n ≤ m → moved s t ≡ t → slotsFrom s t (m - n) ≡ drop n (slotsFrom s t m)
-  unfolding slotsFrom
-  alike-drop t zero m h e = let z : m - 0 ≡ m = omega arith in rw z
-  alike-drop t (suc n) zero h e = absurd (omega arith)
-  alike-drop t (suc n) (suc m) h e =
-      let z : suc m - suc n ≡ m - n = omega arith in
-      rw z (alike-drop t n m (omega arith) e ∙ ap (λ (u : Typed). drop n (slotsFrom s u m)) (sym e))
-
-  split-some : (t : SlotType) (ts : List SlotType) → somePrimitive (t ∷ ts) ≡ false → (isPrimitive t ≡ false) × (somePrimitive ts ≡ false)
-  split-some t ts e = by-test (isPrimitive t) refl e
-    where
-      by-test : (b : Bool) → isPrimitive t ≡ b → pick b true (somePrimitive ts) ≡ false → (isPrimitive t ≡ false) × (somePrimitive ts ≡ false)
-      by-test true q e = absurd (let z : _≡_ {A = ℕ} 0 1 = cc in omega arith)
-      by-test false q e = (q, e)
-
-  walk-passes : (t : Typed) (n m : ℕ) → n ≤ m → somePrimitive (take n (slotsFrom s t m)) ≡ false → Passes t n m (passed s t n)
-  unfolding slotsFrom passed
-  walk-passes t zero m h e = let z : m - 0 ≡ m = omega arith in (t, refl, rw z)
-  walk-passes t (suc n) zero h e = absurd (omega arith)
-  walk-passes t (suc n) (suc m) h e =
-      let z : suc m - suc n ≡ m - n = omega arith in
-      let q = split-some (t .slot) (take n (slotsFrom s (moved s t) m)) e in
-      let w = walk-passes (moved s t) n m (omega arith) (q .1) in
-      (w .0, rw (q .0) (w .1), ap (slotsFrom s (w .0)) z ∙ w .2)
-
-  pub run-passes : (t : Typed) (n m : ℕ) → n ≤ m → somePrimitive (take n (slotsFrom s t m)) ≡ false → Passes t n m (passedOf s t n)
-  run-passes t n m h e = by-test (eqb (t .types) 0) refl
-    where
-      by-test : (b : Bool) → eqb (t .types) 0 ≡ b → Passes t n m (passedOf s t n)
-      by-test true q =
-          let z : t .types ≡ 0 = eqb-true (t .types) 0 q in
-          (t, passed-alike s t n z, alike-drop t n m h (moved-alike s t z))
-      by-test false q = rw (passed-walk s t n (eqb-false (t .types) 0 q)) (walk-passes t n m h e)
+    ∙ ap (λ (o : Open). go (stateAt e (rowIn start 0 (w .head) ∷ []) o)) (top-filled s))
