@@ -11,3 +11,4 @@ pub mod Goal
 pub mod Said
 pub mod StepSaid
 pub mod Derive
+pub mod Accept
