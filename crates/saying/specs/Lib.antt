@@ -1,0 +1,3 @@
+-- What a record says, what may be said, and that what is written says what it was written from.
+pub mod Said
+pub mod Good
