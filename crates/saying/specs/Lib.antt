@@ -1,3 +1,4 @@
 -- What a record says, what may be said, and that what is written says what it was written from.
 pub mod Said
 pub mod Good
+pub mod There
