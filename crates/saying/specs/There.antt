@@ -16,21 +16,22 @@ use Rattle.format.specs.declared.Text.the-variants as T
 use Rattle.format.specs.declared.Field.the-variants as F
 use Rattle.format.specs.declared.SlotType.{SlotType}
 use Rattle.format.specs.declared.Row.{Row}
-use Rattle.format.specs.Bytes.{part}
+use Rattle.format.specs.Bytes.{pick, part}
 use Rattle.format.specs.Numbers.{leBytes, negative}
 use Rattle.format.specs.Prefix.{prefixBytes}
 use Rattle.format.specs.Text.{stringAt, stringBytes}
 use Rattle.format.specs.Types.{codeNumber, primitiveOf, codeAt, nameAt, positive, infoAt}
 use Rattle.format.specs.Values.{times}
-use Rattle.format.specs.Contents.{Detail, primitive, text, object, system, class, objects, texts, primitives, Member, typeByte, infoBytes, slotFor, namesBytes, typesBytes, infosBytes}
-use Rattle.format.specs.Says.{textFrom, afterText, numberFrom, codeFrom, libraryName, detailFrom, afterInfo, membersFrom}
-use Rattle.format.specs.Grammar.{Name, GoodDetail, Members, no-more, member, Entry, typesOf}
+use Rattle.format.specs.Rows.{blank, withLink}
+use Rattle.format.specs.Contents.{Detail, primitive, text, object, system, class, objects, texts, primitives, Member, Rec, header, classById, systemClass, libraryClass, string, array, typedPrimitive, reference, null, nulls, manyNulls, end, library, primitiveArray, objectArray, stringArray, value, typeByte, infoBytes, slotFor, namesBytes, typesBytes, infosBytes, classBytes, numbersBytes, enc}
+use Rattle.format.specs.Says.{From, theSystem, theLibrary, Class, What, anObject, aString, anArray, aPrimitive, aReference, aNull, aPrimitiveArray, anObjectArray, aStringArray, aValue, Node, node, textFrom, afterText, numberFrom, codeFrom, numbersFrom, libraryName, detailFrom, afterInfo, membersFrom, classFrom, arrayFrom, orderOf, whatFrom, spread, nodesOf}
+use Rattle.format.specs.Grammar.{Name, GoodDetail, Members, no-more, member, Entry, typesOf, Lengths, no-length, length-of, Ranked, single, jagged, rectangular, Shape, rowOf, Array, of-objects, of-strings, of-primitives, of-any, of-values}
 use Rattle.num.specs.Le.{length-leBytes}
 use Rattle.num.specs.Read.{says-written, u32-written}
 use Rattle.strings.specs.Laws.{string-round}
 use Rattle.types.specs.Codes.{primitive-number}
 use Rattle.types.specs.Ends.{code-end, name-end, library-end, info-primitive, info-array, info-system, info-class}
-use Rattle.saying.specs.Said.{named, namedAll}
+use Rattle.saying.specs.Said.{named, namedAll, classOfAll, saidBy}
 use Rattle.saying.specs.Good.{slotsOf}
 
 -- ---- bytes at a place, and what follows them
@@ -173,7 +174,7 @@ pub own-members : {es : List Entry} {ms : List (Member ℕ)} → Members es ms �
 own-members no-more = none
 own-members {es} (member {m = m} n g gs) = one-more n (own-detail es (m .type) g) (own-members gs)
 
-module _ (s : List ℕ) (rows : List Row) where
+module _ (s : List ℕ) where
   pub names-there : (ms : List (Member ℕ)) (q : List ℕ) (p : ℕ) → OwnMembers ms → drop p s ≡ namesBytes ms ++ q
       → times (nameAt s) (length ms) p ≡ F.End (p + length (namesBytes ms))
   unfolding times
@@ -185,19 +186,20 @@ module _ (s : List ℕ) (rows : List Row) where
       let k : a + length (namesBytes ms) ≡ p + length (stringBytes (m .name) ++ namesBytes ms) = simp length-append (omega arith) in
       rw (name-there s (m .name) (namesBytes ms ++ q) p n f) (names-there ms q a gs r ∙ ap F.End k)
 
-  pub members-there : (ms : List (Member ℕ)) (x y z : List ℕ) (a b c : ℕ) → OwnMembers ms
-      → drop a s ≡ namesBytes ms ++ x → drop b s ≡ typesBytes ms ++ y → drop c s ≡ infosBytes ms ++ z
-      → membersFrom s rows (length ms) a b c ≡ namedAll (libraryName s rows) ms
-  unfolding membersFrom
-  members-there [] x y z a b c none d e f = refl
-  members-there (m ∷ ms) x y z a b c (one-more n g gs) d e f =
-      let u = text-there s (m .name) (namesBytes ms ++ x) a n (d ∙ append-assoc (stringBytes (m .name)) (namesBytes ms) x) in
-      let t = byte-there s (typesBytes ms ++ y) (typeByte (m .type)) b e in
-      let v = byte-rest s (typesBytes ms ++ y) (typeByte (m .type)) b e in
-      let w = detail-there s (infosBytes ms ++ z) c rows (m .type) g (f ∙ append-assoc (infoBytes (m .type)) (infosBytes ms) z) in
-      rw (u .0, u .1, t, w .0, w .1)
-      (ap (λ (l : List (Member (List ℕ))). record { name = m .name; type = named (libraryName s rows) (m .type) } ∷ l)
-      (members-there ms x y z (a + length (stringBytes (m .name))) (b + 1) (c + length (infoBytes (m .type))) gs (u .2) v (w .2)))
+  module _ (rows : List Row) where
+    pub members-there : (ms : List (Member ℕ)) (x y z : List ℕ) (a b c : ℕ) → OwnMembers ms
+        → drop a s ≡ namesBytes ms ++ x → drop b s ≡ typesBytes ms ++ y → drop c s ≡ infosBytes ms ++ z
+        → membersFrom s rows (length ms) a b c ≡ namedAll (libraryName s rows) ms
+    unfolding membersFrom
+    members-there [] x y z a b c none d e f = refl
+    members-there (m ∷ ms) x y z a b c (one-more n g gs) d e f =
+        let u = text-there s (m .name) (namesBytes ms ++ x) a n (d ∙ append-assoc (stringBytes (m .name)) (namesBytes ms) x) in
+        let t = byte-there s (typesBytes ms ++ y) (typeByte (m .type)) b e in
+        let v = byte-rest s (typesBytes ms ++ y) (typeByte (m .type)) b e in
+        let w = detail-there s (infosBytes ms ++ z) c rows (m .type) g (f ∙ append-assoc (infoBytes (m .type)) (infosBytes ms) z) in
+        rw (u .0, u .1, t, w .0, w .1)
+        (ap (λ (l : List (Member (List ℕ))). record { name = m .name; type = named (libraryName s rows) (m .type) } ∷ l)
+        (members-there ms x y z (a + length (stringBytes (m .name))) (b + 1) (c + length (infoBytes (m .type))) gs (u .2) v (w .2)))
 
 -- the types of the slots are the same by number and by name
 slot-same : (name : ℕ → List ℕ) (d : Detail ℕ) → slotFor (named name d) ≡ slotFor d
@@ -213,3 +215,169 @@ slot-same name (primitives c) = refl
 pub slots-same : (name : ℕ → List ℕ) (ms : List (Member ℕ)) → slotsOf (namedAll name ms) ≡ typesOf ms
 slots-same name [] = refl
 slots-same name (m ∷ ms) = rw (slot-same name (m .type), slots-same name ms)
+
+-- ---- lengths
+
+pub length-numbers : (ns : List ℕ) → length (numbersBytes ns) ≡ 4 * length ns
+length-numbers [] = refl
+length-numbers (n ∷ ns) = simp (length-append, length-leBytes) (omega (arith, length-numbers ns))
+
+pub numbers-there : (s : List ℕ) (ns q : List ℕ) (p : ℕ) → Lengths ns → drop p s ≡ numbersBytes ns ++ q → numbersFrom s (length ns) p ≡ ns
+unfolding numbersFrom
+numbers-there s [] q p no-length d = refl
+numbers-there s (n ∷ ns) q p (length-of h g) d =
+    let f : drop p s ≡ leBytes 4 n ++ (numbersBytes ns ++ q) = d ∙ append-assoc (leBytes 4 n) (numbersBytes ns) q in
+    rw (number-there s (numbersBytes ns ++ q) n p f (omega arith), numbers-there s ns q (p + 4) g (number-rest s (numbersBytes ns ++ q) n p f))
+
+rank-bits : {type rank : ℕ} → Ranked type rank → rank < 4294967296
+rank-bits single = omega arith
+rank-bits jagged = omega arith
+rank-bits (rectangular l h) = omega arith
+
+-- ---- records
+
+-- the kind in the row of a record; a member value has the kind 32
+abbrev pub kindOf : Rec → ℕ
+kindOf (header r h) = 0
+kindOf (classById i k) = 1
+kindOf (systemClass i n ms) = 4
+kindOf (libraryClass i n ms l) = 5
+kindOf (string i x) = 6
+kindOf (array i t ns d vs) = 7
+kindOf (typedPrimitive c v) = 8
+kindOf (reference i) = 9
+kindOf null = 10
+kindOf (nulls n) = 13
+kindOf (manyNulls n) = 14
+kindOf end = 11
+kindOf (library i n) = 12
+kindOf (primitiveArray i n c vs) = 15
+kindOf (objectArray i n) = 16
+kindOf (stringArray i n) = 17
+kindOf (value v) = 32
+
+-- the count in its row, where what is said goes by it
+abbrev pub CountIs : Rec → ℕ → Type 0
+CountIs (header r h) n = Unit {0}
+CountIs (classById i k) n = Unit {0}
+CountIs (systemClass i x ms) n = n ≡ length ms
+CountIs (libraryClass i x ms l) n = n ≡ length ms
+CountIs (string i x) n = Unit {0}
+CountIs (array i t ns d vs) n = Unit {0}
+CountIs (typedPrimitive c v) n = Unit {0}
+CountIs (reference i) n = Unit {0}
+CountIs null n = n ≡ 1
+CountIs (nulls k) n = n ≡ k
+CountIs (manyNulls k) n = n ≡ k
+CountIs end n = Unit {0}
+CountIs (library i x) n = Unit {0}
+CountIs (primitiveArray i k c vs) n = n ≡ k
+CountIs (objectArray i k) n = n ≡ k
+CountIs (stringArray i k) n = n ≡ k
+CountIs (value v) n = Unit {0}
+
+-- w is a row of the record r at this place
+pub record RowOf (r : Rec) (at : ℕ) (w : Row) : Type 0 where
+  pub kind-is : w .kind ≡ kindOf r
+  pub offset-is : w .offset ≡ at
+  pub end-is : w .end ≡ at + length (enc r)
+  pub count-is : CountIs r (w .count)
+
+pub row-of : (r : Rec) (at id own slot link count : ℕ) → CountIs r count → RowOf r at (rowOf (kindOf r) at r id own slot link count)
+row-of r at id own slot link count h = record { kind-is = refl; offset-is = refl; end-is = refl; count-is = h }
+
+pub row-linked : {r : Rec} {at : ℕ} {w : Row} (link : ℕ) → RowOf r at w → RowOf r at (withLink w link)
+row-linked link g = record { kind-is = g .kind-is; offset-is = g .offset-is; end-is = g .end-is; count-is = g .count-is }
+
+-- what is asked of a record by itself
+abbrev pub GoodRec : Rec → Type 0
+GoodRec (header r h) = Unit {0}
+GoodRec (classById i k) = Unit {0}
+GoodRec (systemClass i n ms) = Name n × OwnMembers ms
+GoodRec (libraryClass i n ms l) = Name n × OwnMembers ms × (l < 4294967296)
+GoodRec (string i x) = Name x
+GoodRec (array i t ns d vs) = Shape t ns × OwnDetail d
+GoodRec (typedPrimitive c v) = Unit {0}
+GoodRec (reference i) = Unit {0}
+GoodRec null = Unit {0}
+GoodRec (nulls n) = Unit {0}
+GoodRec (manyNulls n) = Unit {0}
+GoodRec end = Unit {0}
+GoodRec (library i n) = Name n
+GoodRec (primitiveArray i n c vs) = Unit {0}
+GoodRec (objectArray i n) = Unit {0}
+GoodRec (stringArray i n) = Unit {0}
+GoodRec (value v) = Unit {0}
+
+pub own-array : {es : List Entry} {r : Rec} {kind id count : ℕ} {ts : List SlotType} → Array es r kind id count ts → GoodRec r
+own-array (of-objects h) = tt
+own-array (of-strings h) = tt
+own-array (of-primitives h g) = tt
+own-array {es} (of-any {d = d} g e h f k) = (g, own-detail es d h)
+own-array (of-values g e h) = (g, tt)
+
+-- a row with these fields, and the others of w
+abbrev like : ℕ → ℕ → ℕ → ℕ → Row → Row
+like kind offset after count w =
+    record { kind = kind; offset = offset; end = after; id = w .id; owner = w .owner; slot = w .slot; link = w .link; count = count }
+
+row-like : {k o e n : ℕ} (w : Row) → w .kind ≡ k → w .offset ≡ o → w .end ≡ e → w .count ≡ n → w ≡ like k o e n w
+row-like {k} {o} {e} {n} w a b c d =
+    ap (λ (x : ℕ). like x (w .offset) (w .end) (w .count) w) a
+    ∙ (ap (λ (x : ℕ). like k x (w .end) (w .count) w) b
+    ∙ (ap (λ (x : ℕ). like k o x (w .count) w) c
+    ∙ ap (λ (x : ℕ). like k o e x w) d))
+
+module _ (s q : List ℕ) (at : ℕ) where
+  -- after the kind byte and a number
+  after-id : (k i : ℕ) (b : List ℕ) → drop at s ≡ (k ∷ (leBytes 4 i ++ b)) ++ q → drop (at + 5) s ≡ b ++ q
+  after-id k i b d =
+      let l : length (leBytes 4 i) ≡ 4 = length-leBytes 4 i in
+      rest-there s (k ∷ leBytes 4 i) (b ++ q) at (at + 5) (omega arith) (d ∙ ap (λ (x : List ℕ). k ∷ x) (append-assoc (leBytes 4 i) b q))
+
+length-types : (ms : List (Member ℕ)) → length (typesBytes ms) ≡ length ms
+length-types [] = refl
+length-types (m ∷ ms) = ap suc (length-types ms)
+
+-- ---- classes
+
+module _ (s : List ℕ) (rows : List Row) (w : Row) (at : ℕ) where
+  class-like : (k e : ℕ) (n : List ℕ) (ms : List (Member ℕ)) (q : List ℕ) → Name n → OwnMembers ms → drop (at + 5) s ≡ classBytes n ms ++ q
+      → (from : From) → pick (eqb k 5) (theLibrary (libraryName s rows (numberFrom s (e - 4)))) theSystem ≡ from
+      → classFrom s rows (like k at e (length ms) w) ≡ classOfAll (libraryName s rows) n from ms
+  unfolding classFrom
+  class-like k e n ms q g gs d from f =
+      let types = typesBytes ms ++ infosBytes ms in
+      let names = namesBytes ms ++ types in
+      let count = leBytes 4 (length ms) in
+      let t = text-there s n ((count ++ names) ++ q) (at + 5) g (d ∙ append-assoc (stringBytes n) (count ++ names) q) in
+      let a = at + 5 + length (stringBytes n) + 4 in
+      let d1 = number-rest s (names ++ q) (length ms) (at + 5 + length (stringBytes n)) (t .2 ∙ append-assoc count names q) in
+      let d2 : drop a s ≡ namesBytes ms ++ (types ++ q) = d1 ∙ append-assoc (namesBytes ms) types q in
+      let b = a + length (namesBytes ms) in
+      let d3 : drop b s ≡ typesBytes ms ++ (infosBytes ms ++ q) =
+          rest-there s (namesBytes ms) (types ++ q) a b refl d2 ∙ append-assoc (typesBytes ms) (infosBytes ms) q in
+      let d4 : drop (b + length ms) s ≡ infosBytes ms ++ q =
+          rest-there s (typesBytes ms) (infosBytes ms ++ q) b (b + length ms) (ap (λ (x : ℕ). b + x) (sym (length-types ms))) d3 in
+      rw (t .0, t .1, names-there s ms (types ++ q) a gs d2, f, members-there s rows ms (types ++ q) (infosBytes ms ++ q) q a b (b + length ms) gs d2 d3 d4)
+
+  module _ (q : List ℕ) (i : ℕ) (n : List ℕ) (ms : List (Member ℕ)) (g : Name n) (gs : OwnMembers ms) where
+    pub system-class-from : drop at s ≡ enc (systemClass i n ms) ++ q → RowOf (systemClass i n ms) at w
+        → classFrom s rows w ≡ classOfAll (libraryName s rows) n theSystem ms
+    unfolding enc
+    system-class-from d r =
+        ap (classFrom s rows) (row-like w (r .kind-is) (r .offset-is) (r .end-is) (r .count-is))
+        ∙ class-like 4 (at + length (enc (systemClass i n ms))) n ms q g gs (after-id s q at 4 i (classBytes n ms) d) theSystem refl
+
+    pub library-class-from : (l : ℕ) → l < 4294967296 → drop at s ≡ enc (libraryClass i n ms l) ++ q → RowOf (libraryClass i n ms l) at w
+        → classFrom s rows w ≡ classOfAll (libraryName s rows) n (theLibrary (libraryName s rows l)) ms
+    unfolding enc
+    library-class-from l h d r =
+        let b = classBytes n ms in
+        let d1 : drop (at + 5) s ≡ b ++ (leBytes 4 l ++ q) = after-id s q at 5 i (b ++ leBytes 4 l) d ∙ append-assoc b (leBytes 4 l) q in
+        let e = at + length (enc (libraryClass i n ms l)) in
+        let k : length (leBytes 4 i ++ (b ++ leBytes 4 l)) ≡ 8 + length b = simp (length-append, length-leBytes) (omega arith) in
+        let z : e - 4 ≡ at + 5 + length b = omega arith in
+        let m = number-there s q l (e - 4) (rest-there s b (leBytes 4 l ++ q) (at + 5) (e - 4) z d1) h in
+        ap (classFrom s rows) (row-like w (r .kind-is) (r .offset-is) (r .end-is) (r .count-is))
+        ∙ class-like 5 e n ms (leBytes 4 l ++ q) g gs d1 (theLibrary (libraryName s rows l)) (rw m)
