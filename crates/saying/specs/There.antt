@@ -1,11 +1,10 @@
 -- A record that stands at a place says, by format's Says, what it says by itself: its fields, the details of its types, its members, and the
 -- record of each kind. Its bytes are those of the encoder, and nothing is asked of the stream after them.
-use Prim.Native.Nat.{ℕ, zero, suc, _+_, _-_, _*_, _≤_, _<_}
+use Prim.Native.Nat.{ℕ, suc, _+_, _-_, _*_, _<_}
 use mathlib.Core.Path.{_≡_, refl, sym, ap, _∙_}
 use mathlib.Core.Bool.{Bool, true, false, not, _&&_}
-use mathlib.Core.List.{List, [], _∷_, _++_, append-assoc}
+use mathlib.Core.List.{List, [], _∷_, _++_, map, append-assoc}
 use native.Mathlib.Omega.{arith}
-use native.Mathlib.Numerals.{add-one}
 use lib.ListN.{length, getD, drop, length-drop, length-append}
 use lib.Dec.{eqb}
 use lib.Seq.{drop-drop, drop-cons, take-at, drop-at}
@@ -24,13 +23,13 @@ use Rattle.format.specs.Types.{codeNumber, primitiveOf, codeAt, nameAt, positiv
 use Rattle.format.specs.Values.{times}
 use Rattle.format.specs.Rows.{blank, withLink}
 use Rattle.format.specs.Contents.{Detail, primitive, text, object, system, class, objects, texts, primitives, Member, Rec, header, classById, systemClass, libraryClass, string, array, typedPrimitive, reference, null, nulls, manyNulls, end, library, primitiveArray, objectArray, stringArray, value, typeByte, infoBytes, slotFor, namesBytes, typesBytes, infosBytes, classBytes, numbersBytes, enc}
-use Rattle.format.specs.Says.{From, theSystem, theLibrary, Class, What, anObject, aString, anArray, aPrimitive, aReference, aNull, aPrimitiveArray, anObjectArray, aStringArray, aValue, Node, node, textFrom, afterText, numberFrom, codeFrom, numbersFrom, libraryName, detailFrom, afterInfo, membersFrom, classFrom, arrayFrom, orderOf, whatFrom, spread, nodesOf}
+use Rattle.format.specs.Says.{From, theSystem, theLibrary, Class, What, anObject, aString, anArray, aPrimitive, aReference, aPrimitiveArray, anObjectArray, aStringArray, aValue, Node, node, textFrom, afterText, numberFrom, codeFrom, numbersFrom, libraryName, detailFrom, afterInfo, membersFrom, classFrom, arrayFrom, orderOf, whatFrom, spread, isNulls, isSilent, nodesOf}
 use Rattle.format.specs.Grammar.{Name, GoodDetail, Members, no-more, member, Entry, typesOf, Lengths, no-length, length-of, Ranked, single, jagged, rectangular, Shape, rowOf, Array, of-objects, of-strings, of-primitives, of-any, of-values}
 use Rattle.num.specs.Le.{length-leBytes}
 use Rattle.num.specs.Read.{says-written, u32-written}
 use Rattle.strings.specs.Laws.{string-round}
 use Rattle.types.specs.Codes.{primitive-number}
-use Rattle.types.specs.Ends.{code-end, name-end, library-end, info-primitive, info-array, info-system, info-class}
+use Rattle.types.specs.Ends.{code-end, name-end, library-end}
 use Rattle.saying.specs.Said.{named, namedAll, classOfAll, saidBy}
 use Rattle.saying.specs.Good.{slotsOf}
 
@@ -167,19 +166,19 @@ module _ (s q : List ℕ) (p : ℕ) where
 -- ---- members
 
 pub data OwnMembers : List (Member ℕ) → Type 0 where
-  none : OwnMembers []
-  one-more : {m : Member ℕ} {ms : List (Member ℕ)} → Name (m .name) → OwnDetail (m .type) → OwnMembers ms → OwnMembers (m ∷ ms)
+  no-member : OwnMembers []
+  own-member : {m : Member ℕ} {ms : List (Member ℕ)} → Name (m .name) → OwnDetail (m .type) → OwnMembers ms → OwnMembers (m ∷ ms)
 
 pub own-members : {es : List Entry} {ms : List (Member ℕ)} → Members es ms → OwnMembers ms
-own-members no-more = none
-own-members {es} (member {m = m} n g gs) = one-more n (own-detail es (m .type) g) (own-members gs)
+own-members no-more = no-member
+own-members {es} (member {m = m} n g gs) = own-member n (own-detail es (m .type) g) (own-members gs)
 
 module _ (s : List ℕ) where
   pub names-there : (ms : List (Member ℕ)) (q : List ℕ) (p : ℕ) → OwnMembers ms → drop p s ≡ namesBytes ms ++ q
       → times (nameAt s) (length ms) p ≡ F.End (p + length (namesBytes ms))
   unfolding times
-  names-there [] q p none d = ap F.End (omega arith)
-  names-there (m ∷ ms) q p (one-more n g gs) d =
+  names-there [] q p no-member d = ap F.End (omega arith)
+  names-there (m ∷ ms) q p (own-member n g gs) d =
       let f : drop p s ≡ stringBytes (m .name) ++ (namesBytes ms ++ q) = d ∙ append-assoc (stringBytes (m .name)) (namesBytes ms) q in
       let a = p + length (stringBytes (m .name)) in
       let r = text-there s (m .name) (namesBytes ms ++ q) p n f .2 in
@@ -191,8 +190,8 @@ module _ (s : List ℕ) where
         → drop a s ≡ namesBytes ms ++ x → drop b s ≡ typesBytes ms ++ y → drop c s ≡ infosBytes ms ++ z
         → membersFrom s rows (length ms) a b c ≡ namedAll (libraryName s rows) ms
     unfolding membersFrom
-    members-there [] x y z a b c none d e f = refl
-    members-there (m ∷ ms) x y z a b c (one-more n g gs) d e f =
+    members-there [] x y z a b c no-member d e f = refl
+    members-there (m ∷ ms) x y z a b c (own-member n g gs) d e f =
         let u = text-there s (m .name) (namesBytes ms ++ x) a n (d ∙ append-assoc (stringBytes (m .name)) (namesBytes ms) x) in
         let t = byte-there s (typesBytes ms ++ y) (typeByte (m .type)) b e in
         let v = byte-rest s (typesBytes ms ++ y) (typeByte (m .type)) b e in
@@ -356,9 +355,9 @@ module _ (s : List ℕ) (rows : List Row) (w : Row) (at : ℕ) where
       let d2 : drop a s ≡ namesBytes ms ++ (types ++ q) = d1 ∙ append-assoc (namesBytes ms) types q in
       let b = a + length (namesBytes ms) in
       let d3 : drop b s ≡ typesBytes ms ++ (infosBytes ms ++ q) =
-          rest-there s (namesBytes ms) (types ++ q) a b refl d2 ∙ append-assoc (typesBytes ms) (infosBytes ms) q in
+      rest-there s (namesBytes ms) (types ++ q) a b refl d2 ∙ append-assoc (typesBytes ms) (infosBytes ms) q in
       let d4 : drop (b + length ms) s ≡ infosBytes ms ++ q =
-          rest-there s (typesBytes ms) (infosBytes ms ++ q) b (b + length ms) (ap (λ (x : ℕ). b + x) (sym (length-types ms))) d3 in
+      rest-there s (typesBytes ms) (infosBytes ms ++ q) b (b + length ms) (ap (λ (x : ℕ). b + x) (sym (length-types ms))) d3 in
       rw (t .0, t .1, names-there s ms (types ++ q) a gs d2, f, members-there s rows ms (types ++ q) (infosBytes ms ++ q) q a b (b + length ms) gs d2 d3 d4)
 
   module _ (q : List ℕ) (i : ℕ) (n : List ℕ) (ms : List (Member ℕ)) (g : Name n) (gs : OwnMembers ms) where
@@ -381,3 +380,177 @@ module _ (s : List ℕ) (rows : List Row) (w : Row) (at : ℕ) where
         let m = number-there s q l (e - 4) (rest-there s b (leBytes 4 l ++ q) (at + 5) (e - 4) z d1) h in
         ap (classFrom s rows) (row-like w (r .kind-is) (r .offset-is) (r .end-is) (r .count-is))
         ∙ class-like 5 e n ms (leBytes 4 l ++ q) g gs d1 (theLibrary (libraryName s rows l)) (rw m)
+
+-- ---- what each kind says
+
+-- by the row alone
+module _ (s : List ℕ) (rows : List Row) (w : Row) (at : ℕ) where
+  -- of the class in the row that it is linked to
+  pub class-by-id-said : (i k : ℕ) → RowOf (classById i k) at w → whatFrom s rows w ≡ anObject (classFrom s rows (getD rows (w .link - 1) blank))
+  unfolding whatFrom
+  class-by-id-said i k r = ap (whatFrom s rows) (row-like w (r .kind-is) refl refl refl)
+
+  -- to the object in the row that it is linked to
+  pub reference-said : (i : ℕ) → RowOf (reference i) at w → whatFrom s rows w ≡ aReference (orderOf rows (w .link))
+  unfolding whatFrom
+  reference-said i r = ap (whatFrom s rows) (row-like w (r .kind-is) refl refl refl)
+
+  pub object-array-said : (i n : ℕ) → RowOf (objectArray i n) at w → whatFrom s rows w ≡ anObjectArray n
+  unfolding whatFrom
+  object-array-said i n r = ap (whatFrom s rows) (row-like w (r .kind-is) refl refl (r .count-is))
+
+  pub string-array-said : (i n : ℕ) → RowOf (stringArray i n) at w → whatFrom s rows w ≡ aStringArray n
+  unfolding whatFrom
+  string-array-said i n r = ap (whatFrom s rows) (row-like w (r .kind-is) refl refl (r .count-is))
+
+-- by the row and the bytes at its place
+module _ (s : List ℕ) (rows : List Row) (w : Row) (at : ℕ) (q : List ℕ) where
+  pub system-class-said : (i : ℕ) (n : List ℕ) (ms : List (Member ℕ)) → Name n → OwnMembers ms → drop at s ≡ enc (systemClass i n ms) ++ q
+      → RowOf (systemClass i n ms) at w → whatFrom s rows w ≡ anObject (classOfAll (libraryName s rows) n theSystem ms)
+  unfolding whatFrom
+  system-class-said i n ms g gs d r =
+      let z = row-like w (r .kind-is) refl refl refl in
+      ap (whatFrom s rows) z ∙ ap anObject (ap (classFrom s rows) (sym z) ∙ system-class-from s rows w at q i n ms g gs d r)
+
+  pub library-class-said : (i : ℕ) (n : List ℕ) (ms : List (Member ℕ)) (l : ℕ) → Name n → OwnMembers ms → l < 4294967296
+      → drop at s ≡ enc (libraryClass i n ms l) ++ q → RowOf (libraryClass i n ms l) at w
+      → whatFrom s rows w ≡ anObject (classOfAll (libraryName s rows) n (theLibrary (libraryName s rows l)) ms)
+  unfolding whatFrom
+  library-class-said i n ms l g gs h d r =
+      let z = row-like w (r .kind-is) refl refl refl in
+      ap (whatFrom s rows) z ∙ ap anObject (ap (classFrom s rows) (sym z) ∙ library-class-from s rows w at q i n ms g gs l h d r)
+
+  pub string-said : (i : ℕ) (x : List ℕ) → Name x → drop at s ≡ enc (string i x) ++ q → RowOf (string i x) at w → whatFrom s rows w ≡ aString x
+  unfolding enc whatFrom
+  string-said i x g d r =
+      ap (whatFrom s rows) (row-like w (r .kind-is) (r .offset-is) refl refl)
+      ∙ ap aString (text-is s x q (at + 5) g (after-id s q at 6 i (stringBytes x) d))
+
+  pub typed-primitive-said : (c : PrimitiveCode) (v : List ℕ) → drop at s ≡ enc (typedPrimitive c v) ++ q → RowOf (typedPrimitive c v) at w
+      → whatFrom s rows w ≡ aPrimitive c v
+  unfolding enc whatFrom
+  typed-primitive-said c v d r =
+      let e = at + length (enc (typedPrimitive c v)) in
+      let f : codeFrom s (at + 1) ≡ c = code-there s (v ++ q) c (at + 1) (byte-rest s (codeNumber c ∷ (v ++ q)) 8 at d) in
+      let a : drop (at + 2) s ≡ v ++ q = rest-there s (8 ∷ codeNumber c ∷ []) (v ++ q) at (at + 2) (omega arith) d in
+      let b : part s (at + 2) (e - (at + 2)) ≡ v = part-there s v q (at + 2) e (omega arith) a in
+      ap (whatFrom s rows) (row-like w (r .kind-is) (r .offset-is) (r .end-is) refl) ∙ rw (f, b)
+
+  pub primitive-array-said : (i n : ℕ) (c : PrimitiveCode) (vs : List ℕ) → drop at s ≡ enc (primitiveArray i n c vs) ++ q
+      → RowOf (primitiveArray i n c vs) at w → whatFrom s rows w ≡ aPrimitiveArray n c vs
+  unfolding enc whatFrom
+  primitive-array-said i n c vs d r =
+      let e = at + length (enc (primitiveArray i n c vs)) in
+      let l : length (leBytes 4 n) ≡ 4 = length-leBytes 4 n in
+      let k : length (leBytes 4 i ++ (leBytes 4 n ++ (codeNumber c ∷ vs))) ≡ 9 + length vs = simp (length-append, length-leBytes) (omega arith) in
+      let a : drop (at + 5) s ≡ leBytes 4 n ++ (codeNumber c ∷ (vs ++ q)) =
+      after-id s q at 15 i (leBytes 4 n ++ (codeNumber c ∷ vs)) d ∙ append-assoc (leBytes 4 n) (codeNumber c ∷ vs) q in
+      let b : drop (at + 9) s ≡ codeNumber c ∷ (vs ++ q) = rest-there s (leBytes 4 n) (codeNumber c ∷ (vs ++ q)) (at + 5) (at + 9) (omega arith) a in
+      let f : codeFrom s (at + 9) ≡ c = code-there s (vs ++ q) c (at + 9) b in
+      let g : drop (at + 10) s ≡ vs ++ q = rest-there s (codeNumber c ∷ []) (vs ++ q) (at + 9) (at + 10) (omega arith) b in
+      let h : part s (at + 10) (e - (at + 10)) ≡ vs = part-there s vs q (at + 10) e (omega arith) g in
+      ap (whatFrom s rows) (row-like w (r .kind-is) (r .offset-is) (r .end-is) (r .count-is)) ∙ rw (f, h)
+
+  pub value-said : (v : List ℕ) → drop at s ≡ enc (value v) ++ q → RowOf (value v) at w → whatFrom s rows w ≡ aValue v
+  unfolding enc whatFrom
+  value-said v d r =
+      ap (whatFrom s rows) (row-like w (r .kind-is) (r .offset-is) (r .end-is) refl) ∙ ap aValue (part-there s v q at (at + length v) refl d)
+
+  pub array-said : (i t : ℕ) (ns : List ℕ) (x : Detail ℕ) (vs : List ℕ) → Shape t ns → OwnDetail x → drop at s ≡ enc (array i t ns x vs) ++ q
+      → RowOf (array i t ns x vs) at w → whatFrom s rows w ≡ anArray t ns (named (libraryName s rows) x) vs
+  unfolding enc whatFrom arrayFrom
+  array-said i t ns x vs g h d r =
+      let items = infoBytes x ++ vs in
+      let item = typeByte x ∷ items in
+      let rank = leBytes 4 (length ns) in
+      let e = at + length (enc (array i t ns x vs)) in
+      let l : length rank ≡ 4 = length-leBytes 4 (length ns) in
+      let n = length-numbers ns in
+      let k : length (leBytes 4 i ++ (t ∷ (rank ++ (numbersBytes ns ++ item)))) ≡ 10 + 4 * length ns + length (infoBytes x) + length vs =
+      simp (length-append, length-leBytes) (omega arith) in
+      let a = after-id s q at 7 i (t ∷ (rank ++ (numbersBytes ns ++ item))) d in
+      let b : drop (at + 6) s ≡ rank ++ ((numbersBytes ns ++ item) ++ q) =
+      rest-there s (t ∷ []) ((rank ++ (numbersBytes ns ++ item)) ++ q) (at + 5) (at + 6) (omega arith) a ∙ append-assoc rank (numbersBytes ns ++ item) q in
+      let c : drop (at + 10) s ≡ numbersBytes ns ++ (item ++ q) =
+      rest-there s rank ((numbersBytes ns ++ item) ++ q) (at + 6) (at + 10) (omega arith) b ∙ append-assoc (numbersBytes ns) item q in
+      let p = at + 10 + 4 * length ns in
+      let f = rest-there s (numbersBytes ns) (item ++ q) (at + 10) p (omega arith) c in
+      let u : drop (p + 1) s ≡ infoBytes x ++ (vs ++ q) = byte-rest s (items ++ q) (typeByte x) p f ∙ append-assoc (infoBytes x) vs q in
+      let y = detail-there s (vs ++ q) (p + 1) rows x h u in
+      let m = p + 1 + length (infoBytes x) in
+      let v : part s m (e - m) ≡ vs = part-there s vs q m e (omega arith) (y .2) in
+      ap (whatFrom s rows) (row-like w (r .kind-is) (r .offset-is) (r .end-is) refl)
+      ∙ rw (
+        byte-there s ((rank ++ (numbersBytes ns ++ item)) ++ q) t (at + 5) a,
+        number-there s ((numbersBytes ns ++ item) ++ q) (length ns) (at + 6) b (rank-bits (g .ranked)),
+        numbers-there s ns (item ++ q) (at + 10) (g .lengths) c,
+        byte-there s (items ++ q) (typeByte x) p f,
+        y .0,
+        y .1,
+        v,
+      )
+
+  pub library-said : (i : ℕ) (n : List ℕ) → Name n → drop at s ≡ enc (library i n) ++ q → w .offset ≡ at → textFrom s (w .offset + 5) ≡ n
+  unfolding enc
+  library-said i n g d z = ap (λ (p : ℕ). textFrom s (p + 5)) z ∙ text-is s n q (at + 5) g (after-id s q at 12 i (stringBytes n) d)
+
+-- ---- nodes
+
+-- the class of a record of kind 1 and the target of a reference, from the row's link
+module _ (s : List ℕ) (rows : List Row) (of : ℕ → Class) (order : ℕ → ℕ) where
+  abbrev pub LinkIs : Rec → Row → Type 0
+  LinkIs (header r h) w = Unit {0}
+  LinkIs (classById i k) w = classFrom s rows (getD rows (w .link - 1) blank) ≡ of k
+  LinkIs (systemClass i n ms) w = Unit {0}
+  LinkIs (libraryClass i n ms l) w = Unit {0}
+  LinkIs (string i x) w = Unit {0}
+  LinkIs (array i t ns d vs) w = Unit {0}
+  LinkIs (typedPrimitive c v) w = Unit {0}
+  LinkIs (reference i) w = orderOf rows (w .link) ≡ order i
+  LinkIs null w = Unit {0}
+  LinkIs (nulls n) w = Unit {0}
+  LinkIs (manyNulls n) w = Unit {0}
+  LinkIs end w = Unit {0}
+  LinkIs (library i n) w = Unit {0}
+  LinkIs (primitiveArray i n c vs) w = Unit {0}
+  LinkIs (objectArray i n) w = Unit {0}
+  LinkIs (stringArray i n) w = Unit {0}
+  LinkIs (value v) w = Unit {0}
+
+module _ (s : List ℕ) (rows : List Row) (w : Row) where
+  -- in the slot of the row
+  abbrev pub inSlot : What → Node
+  inSlot x = node x (orderOf rows (w .owner)) (w .slot)
+
+  abbrev pub run : List Node
+  run = spread (w .count) (orderOf rows (w .owner)) (w .slot)
+
+  by-kind : (k : ℕ) → w .kind ≡ k → nodesOf s rows w ≡ pick (isSilent k) [] (pick (isNulls k) run (inSlot (whatFrom s rows w) ∷ []))
+  unfolding nodesOf
+  by-kind k e = ap (λ (k : ℕ). pick (isSilent k) [] (pick (isNulls k) run (inSlot (whatFrom s rows w) ∷ []))) e
+
+  one : {x : What} → whatFrom s rows w ≡ x → inSlot (whatFrom s rows w) ∷ [] ≡ inSlot x ∷ []
+  one e = ap (λ (x : What). inSlot x ∷ []) e
+
+  -- a null, or a run of them, is spread; any other record says what it says by itself
+  pub nodes-there : (of : ℕ → Class) (order : ℕ → ℕ) (q : List ℕ) (at : ℕ) (r : Rec) → drop at s ≡ enc r ++ q → RowOf r at w → GoodRec r
+      → LinkIs s rows of order r w
+      → nodesOf s rows w ≡ pick (isNulls (kindOf r)) run (map inSlot (saidBy (libraryName s rows) of order r))
+  nodes-there of order q at (header a h) d r g l = by-kind 0 (r .kind-is)
+  nodes-there of order q at (classById i k) d r g l = by-kind 1 (r .kind-is) ∙ one (class-by-id-said s rows w at i k r ∙ ap anObject l)
+  nodes-there of order q at (systemClass i n ms) d r g l = by-kind 4 (r .kind-is) ∙ one (system-class-said s rows w at q i n ms (g .0) (g .1) d r)
+  nodes-there of order q at (libraryClass i n ms k) d r g l =
+      by-kind 5 (r .kind-is) ∙ one (library-class-said s rows w at q i n ms k (g .0) (g .1) (g .2) d r)
+  nodes-there of order q at (string i x) d r g l = by-kind 6 (r .kind-is) ∙ one (string-said s rows w at q i x g d r)
+  nodes-there of order q at (array i t ns x vs) d r g l = by-kind 7 (r .kind-is) ∙ one (array-said s rows w at q i t ns x vs (g .0) (g .1) d r)
+  nodes-there of order q at (typedPrimitive c v) d r g l = by-kind 8 (r .kind-is) ∙ one (typed-primitive-said s rows w at q c v d r)
+  nodes-there of order q at (reference i) d r g l = by-kind 9 (r .kind-is) ∙ one (reference-said s rows w at i r ∙ ap aReference l)
+  nodes-there of order q at null d r g l = by-kind 10 (r .kind-is)
+  nodes-there of order q at (nulls n) d r g l = by-kind 13 (r .kind-is)
+  nodes-there of order q at (manyNulls n) d r g l = by-kind 14 (r .kind-is)
+  nodes-there of order q at end d r g l = by-kind 11 (r .kind-is)
+  nodes-there of order q at (library i n) d r g l = by-kind 12 (r .kind-is)
+  nodes-there of order q at (primitiveArray i n c vs) d r g l = by-kind 15 (r .kind-is) ∙ one (primitive-array-said s rows w at q i n c vs d r)
+  nodes-there of order q at (objectArray i n) d r g l = by-kind 16 (r .kind-is) ∙ one (object-array-said s rows w at i n r)
+  nodes-there of order q at (stringArray i n) d r g l = by-kind 17 (r .kind-is) ∙ one (string-array-said s rows w at i n r)
+  nodes-there of order q at (value v) d r g l = by-kind 32 (r .kind-is) ∙ one (value-said s rows w at q v d r)
