@@ -5,3 +5,4 @@ pub mod There
 pub mod Order
 pub mod Ids
 pub mod Known
+pub mod SaidGood

@@ -5,7 +5,7 @@ use mathlib.Core.Bool.{Bool, true, false}
 use mathlib.Core.List.{List, [], _∷_, _++_}
 use native.Mathlib.Omega.{arith}
 use lib.ListN.{length, getD, take, drop, length-drop, take-append-drop}
-use lib.Seq.{drop-cons, take-suc}
+use lib.Seq.{drop-cons, take-all, take-suc}
 use lib.Dec.{eqb}
 use borrow.Author.Tests.{eqb-false}
 use Rattle.format.specs.declared.Row.{Row}
@@ -61,6 +61,13 @@ module _ (rows is : List Row) (w : Row) (row : ℕ) (e : drop row rows ≡ w ∷
   pub nodes-more : (s : List ℕ) → nodesFrom s rows (drop row rows) ≡ nodesOf s rows w ++ nodesFrom s rows (drop (suc row) rows)
   unfolding nodesFrom
   nodes-more s = rw (e, items-after rows is w row e)
+
+-- no row is left
+pub order-end : (rows : List Row) (n : ℕ) → drop n rows ≡ [] → (s : List ℕ) → (orderOf rows n ≡ objectsIn rows) × (nodesFrom s rows (drop n rows) ≡ [])
+unfolding orderOf nodesFrom
+order-end rows n e s =
+    let l : length rows ≤ n = omega (arith, simp length-drop at (ap length e)) in
+    (rw (take-all n rows l), rw e)
 
 -- ---- the object of a number
 

@@ -201,7 +201,7 @@ module _ (s : List ℕ) where
         (members-there ms x y z (a + length (stringBytes (m .name))) (b + 1) (c + length (infoBytes (m .type))) gs (u .2) v (w .2)))
 
 -- the types of the slots are the same by number and by name
-slot-same : (name : ℕ → List ℕ) (d : Detail ℕ) → slotFor (named name d) ≡ slotFor d
+pub slot-same : (name : ℕ → List ℕ) (d : Detail ℕ) → slotFor (named name d) ≡ slotFor d
 slot-same name (primitive c) = refl
 slot-same name text = refl
 slot-same name object = refl
