@@ -1,5 +1,5 @@
 -- What earlier records let later ones name: classes that are good with the types of their slots, and libraries by their names.
-use Prim.Native.Nat.{ℕ, suc, _+_, _-_, _<_}
+use Prim.Native.Nat.{ℕ, suc, _+_, _-_}
 use mathlib.Core.Path.{_≡_, refl, sym, ap, subst, _∙_}
 use mathlib.Core.Bool.{Bool, true, false, _&&_}
 use mathlib.Core.List.{List, [], _∷_, _++_}
@@ -14,7 +14,7 @@ use Rattle.format.specs.Bytes.{pick}
 use Rattle.format.specs.Rows.{blank, findFrom, libraryRow}
 use Rattle.format.specs.Contents.{Detail, primitive, text, object, system, class, objects, texts, primitives, Member}
 use Rattle.format.specs.Says.{From, Class, textFrom, libraryName, classFrom}
-use Rattle.format.specs.Grammar.{Name, Entry, aClass, another, aLibrary, known, Classed, classed, unknown, classOf, GoodDetail, Members, no-more, member, ClassInfo}
+use Rattle.format.specs.Grammar.{Name, Entry, aClass, another, aLibrary, known, classed, classOf, GoodDetail, Members, no-more, member, ClassInfo}
 use Rattle.saying.specs.Said.{named, namedAll, classOfAll}
 use Rattle.saying.specs.Good.{GoodType, GoodMembers, GoodFrom, GoodClass, slotsOf}
 use Rattle.saying.specs.Good as G

@@ -1,7 +1,7 @@
 -- Objects by their order: how many stand before a row, the order of the object that a number names, and the nodes of rows one by one.
 use Prim.Native.Nat.{ℕ, suc, _+_, _-_, _≤_, _<_}
-use mathlib.Core.Path.{_≡_, refl, sym, ap, subst, _∙_}
-use mathlib.Core.Bool.{Bool, true, false}
+use mathlib.Core.Path.{_≡_, ap, subst, _∙_}
+use mathlib.Core.Bool.{Bool, false}
 use mathlib.Core.List.{List, [], _∷_, _++_}
 use native.Mathlib.Omega.{arith}
 use lib.ListN.{length, getD, take, drop, length-drop, take-append-drop}
@@ -11,7 +11,7 @@ use borrow.Author.Tests.{eqb-false}
 use Rattle.format.specs.declared.Row.{Row}
 use Rattle.format.specs.Bytes.{pick}
 use Rattle.format.specs.Rows.{blank, isObject, objectRow, linked}
-use Rattle.format.specs.Says.{Node, objectsIn, orderOf, nodesOf, nodesFrom}
+use Rattle.format.specs.Says.{objectsIn, orderOf, nodesOf, nodesFrom}
 use Rattle.table.specs.Find.{object-at}
 use Rattle.table.specs.Links.{object-linked}
 

@@ -14,17 +14,17 @@ use Rattle.format.specs.declared.Row.{Row}
 use Rattle.format.specs.Bytes.{pick}
 use Rattle.format.specs.Types.{isPrimitive}
 use Rattle.format.specs.Rows.{blank, isObject, findFrom, objectRow, withLink, linkOf, linked}
-use Rattle.format.specs.Contents.{Detail, primitive, text, object, system, class, objects, texts, primitives, Member, slotFor, Rec, header, classById, systemClass, libraryClass, string, array, typedPrimitive, reference, null, nulls, manyNulls, end, library, primitiveArray, objectArray, stringArray, value, enc, encs}
-use Rattle.format.specs.Grammar.{Name, Value, Values, ClassInfo, LibraryId, typesOf, Classed, classed, classOf, product, Array, of-objects, of-strings, of-primitives, of-any, of-values, Object, system-class, library-class, class-by-id, Body, hollow, filled, Slots, full, member-value, an-object, a-string, a-typed-primitive, a-reference, a-null, a-run, a-long-run, a-library, Objects, the-end, one-object, one-string, one-array, one-library, Entry, aClass, another, aLibrary, known, Cur, cur, size, rowOf, takesObjects, takesStrings, somePrimitive, refOf, refsOf, idsOf, among, Reading}
-use Rattle.format.specs.Says.{From, theSystem, theLibrary, Class, What, anObject, aString, anArray, aPrimitive, aReference, aNull, aPrimitiveArray, anObjectArray, aStringArray, aValue, Node, node, libraryName, classFrom, objectsIn, orderOf, spread, isNulls, nodesOf, nodesFrom, says}
+use Rattle.format.specs.Contents.{Detail, primitive, text, object, system, class, objects, texts, primitives, Member, slotFor, Rec, header, classById, systemClass, libraryClass, string, typedPrimitive, reference, null, nulls, manyNulls, end, library, value, enc, encs}
+use Rattle.format.specs.Grammar.{Name, Values, ClassInfo, LibraryId, typesOf, classed, classOf, product, Array, of-objects, of-strings, of-primitives, of-any, of-values, Object, system-class, library-class, class-by-id, Body, hollow, filled, Slots, full, member-value, an-object, a-string, a-typed-primitive, a-reference, a-null, a-run, a-long-run, a-library, Objects, the-end, one-object, one-string, one-array, one-library, Entry, aClass, another, aLibrary, known, Cur, cur, size, rowOf, somePrimitive, refOf, refsOf, idsOf, among, Reading}
+use Rattle.format.specs.Says.{theSystem, theLibrary, Class, What, anObject, aString, anArray, aPrimitive, aReference, aNull, aPrimitiveArray, anObjectArray, aStringArray, aValue, Node, node, libraryName, classFrom, objectsIn, orderOf, spread, isNulls, nodesOf, nodesFrom, says}
 use Rattle.num.specs.Le.{length-leBytes}
 use Rattle.saying.specs.Said.{named, classOfAll, saidBy}
 use Rattle.saying.specs.Good.{GoodClass, slotsOf, Place, place, shut, ownerOf, slotOf, filledOne, openedIn, Deep, never-open, one-more, Allowed, in-null, countOf, itemSlots, openAfter, Fits, a-node, Good}
 use Rattle.saying.specs.Good as G
-use Rattle.saying.specs.There.{rest-there, positive-bits, own-detail, system-class-from, library-class-from, kindOf, CountIs, RowOf, row-of, row-linked, GoodRec, LinkIs, inSlot, run, library-said, nodes-there, slot-same, slots-same, own-members}
-use Rattle.saying.specs.Order.{item-there, items-after, order-le, order-more, order-end, nodes-more, Ordered, target-ordered}
+use Rattle.saying.specs.There.{rest-there, positive-bits, own-detail, system-class-from, library-class-from, kindOf, CountIs, row-of, row-linked, GoodRec, LinkIs, inSlot, run, library-said, nodes-there, slot-same, slots-same, own-members}
+use Rattle.saying.specs.Order.{item-there, items-after, order-more, order-end, nodes-more, Ordered, target-ordered}
 use Rattle.saying.specs.Ids.{objects-found, object-there}
-use Rattle.saying.specs.Known.{classAt, ClassAt, GoodEntries, no-entry, Knows, library-known, class-known, type-good, class-good, knows-same, knows-another, knows-class, knows-library}
+use Rattle.saying.specs.Known.{classAt, no-entry, Knows, library-known, class-known, type-good, class-good, knows-same, knows-another, knows-class, knows-library}
 
 -- ---- nulls
 
@@ -66,10 +66,12 @@ among-right i (x ∷ xs) ys e = either (eqb i x) (among-right i xs ys e)
 
 -- ---- along the rows
 
+-- the row of a record of its own kind
 abbrev rowFor : ℕ → Rec → ℕ → ℕ → ℕ → ℕ → ℕ → Row
 rowFor at r id own slot link count = rowOf (kindOf r) at r id own slot link count
 
 module _ (s : List ℕ) (raw : List Row) where
+  -- the rows with their links
   abbrev table : List Row
   table = linked raw
 
@@ -79,14 +81,14 @@ module _ (s : List ℕ) (raw : List Row) where
   abbrev total : ℕ
   total = objectsIn table
 
-  -- a cursor of the reading: its table and bytes stand there, its references have targets, and what is known is good
+  -- a cursor of the reading: its rows and bytes stand there, its references have targets, and what is known is good
   pub record At (at row : ℕ) (es : List Entry) (rs : List Rec) (is : List Row) : Type 0 where
     pub rows-there : drop row table ≡ map withOwn is
     pub bytes-there : drop at s ≡ encs rs
     pub targets : (i : ℕ) → among i (refsOf rs) ≡ true → Ordered total (orderOf table (objectRow i raw))
     pub knows : Knows s table row es
 
-  -- what the table from a cursor on say fits these open objects
+  -- what the rows from a cursor on say fits these open objects
   pub record Ok (fs : List Place) (at row : ℕ) (es : List Entry) (rs : List Rec) (is : List Row) : Type 0 where
     pub leads : At at row es rs is → Fits total (orderOf table row) fs (nodesFrom s table (drop row table))
 
@@ -134,18 +136,20 @@ module _ (s : List ℕ) (raw : List Row) where
 
   module _ {at row : ℕ} {es es₁ : List Entry} {r : Rec} {rs : List Rec} {is : List Row} (id own slot link count : ℕ) where
     nodes-said : {fs gs : List Place} → Stands fs own slot → CountIs r count → GoodRec r → isNulls (kindOf r) ≡ false
-        → At at row es (r ∷ rs) ((rowFor at r id own slot link count) ∷ is) → (t : Step fs gs row r (rowFor at r id own slot link count) es₁) → nodesOf s table (withOwn (rowFor at r id own slot link count)) ≡ node (t .what) (ownerOf fs) (slotOf fs) ∷ []
+        → At at row es (r ∷ rs) (rowFor at r id own slot link count ∷ is) → (t : Step fs gs row r (rowFor at r id own slot link count) es₁)
+        → nodesOf s table (withOwn (rowFor at r id own slot link count)) ≡ node (t .what) (ownerOf fs) (slotOf fs) ∷ []
     nodes-said {fs} p c g n w t =
-        let y = withOwn (rowFor at r id own slot link count) in
-        let a = nodes-there s table y (t .of) (t .order) (encs rs) at r (first-bytes w) (row-linked (linkOf raw (rowFor at r id own slot link count)) (row-of r at id own slot link count c)) g (t .link-is) in
-        a
+        let x = rowFor at r id own slot link count in
+        let y = withOwn x in
+        let f = row-linked (linkOf raw x) (row-of r at id own slot link count c) in
+        nodes-there s table y (t .of) (t .order) (encs rs) at r (first-bytes w) f g (t .link-is)
         ∙ (ap (λ (b : Bool). pick b (run s table y) (map (inSlot s table y) (saidBy (libraryName s table) (t .of) (t .order) r))) n
         ∙ (ap (map (inSlot s table y)) (t .said)
         ∙ (ap (λ (o : ℕ). node (t .what) o slot ∷ []) (p .owner-is) ∙ ap (λ (m : ℕ). node (t .what) (ownerOf fs) m ∷ []) (p .slot-is))))
 
     record-fits : {at₁ : ℕ} {fs gs : List Place} → Stands fs own slot → CountIs r count → GoodRec r → isNulls (kindOf r) ≡ false → at₁ ≡ at + size r
-        → At at row es (r ∷ rs) ((rowFor at r id own slot link count) ∷ is) → Step fs gs row r (rowFor at r id own slot link count) es₁ → Ok gs at₁ (suc row) es₁ rs is
-        → Fits total (orderOf table row) fs (nodesFrom s table (drop row table))
+        → At at row es (r ∷ rs) (rowFor at r id own slot link count ∷ is) → Step fs gs row r (rowFor at r id own slot link count) es₁
+        → Ok gs at₁ (suc row) es₁ rs is → Fits total (orderOf table row) fs (nodesFrom s table (drop row table))
     record-fits {fs = fs} {gs = gs} p c g n e w t k =
         let ns = nodesFrom s table (drop (suc row) table) in
         let f : Fits total (orderOf table (suc row)) gs ns = k .leads (after w e (t .knows)) in
@@ -155,8 +159,10 @@ module _ (s : List ℕ) (raw : List Row) where
         subst (Fits total (orderOf table row) fs) (sym (nodes-are w ∙ ap (λ (l : List Node). l ++ ns) (nodes-said p c g n w t)))
         (a-node (t .allowed) refl refl u)
 
-    record-ok : {at₁ : ℕ} {it : Row} {fs gs : List Place} → it ≡ (rowFor at r id own slot link count) → Stands fs own slot → CountIs r count → GoodRec r → isNulls (kindOf r) ≡ false → at₁ ≡ at + size r
-        → (At at row es (r ∷ rs) ((rowFor at r id own slot link count) ∷ is) → Step fs gs row r (rowFor at r id own slot link count) es₁) → Ok gs at₁ (suc row) es₁ rs is → Ok fs at row es (r ∷ rs) (it ∷ is)
+    record-ok : {at₁ : ℕ} {it : Row} {fs gs : List Place} → it ≡ rowFor at r id own slot link count → Stands fs own slot → CountIs r count → GoodRec r
+        → isNulls (kindOf r) ≡ false → at₁ ≡ at + size r
+        → (At at row es (r ∷ rs) (rowFor at r id own slot link count ∷ is) → Step fs gs row r (rowFor at r id own slot link count) es₁)
+        → Ok gs at₁ (suc row) es₁ rs is → Ok fs at row es (r ∷ rs) (it ∷ is)
     record-ok {fs = fs} q p c g n e t k =
         subst (λ (x : Row). Ok fs at row es (r ∷ rs) (x ∷ is)) (sym q) (record { leads = λ w. record-fits p c g n e w (t w) k })
 
@@ -193,7 +199,7 @@ module _ (s : List ℕ) (raw : List Row) where
 
   -- ---- records that open nothing
 
-  -- by itself a record says what has no link
+  -- a record whose link says nothing
   plain-step : {fs gs : List Place} {row : ℕ} {r : Rec} {x : Row} {es₁ : List Entry} (what : What) → LinkIs s table (classAt s table) (orderOf table) r (withOwn x)
       → saidBy (libraryName s table) (classAt s table) (orderOf table) r ≡ what ∷ [] → countOf what ≡ pick (isObject (kindOf r)) 1 0
       → openAfter (orderOf table row) fs what ≡ gs → Allowed total fs what → Knows s table (suc row) es₁ → Step fs gs row r x es₁
@@ -249,7 +255,8 @@ module _ (s : List ℕ) (raw : List Row) where
   -- what is no object and says these nodes
   fits-same : {at row : ℕ} {es : List Entry} {r : Rec} {rs : List Rec} {x : Row} {is : List Row} {fs : List Place} (ns : List Node)
       → At at row es (r ∷ rs) (x ∷ is) → isObject (x .kind) ≡ false → nodesOf s table (withOwn x) ≡ ns
-      → Fits total (orderOf table (suc row)) fs (ns ++ nodesFrom s table (drop (suc row) table)) → Fits total (orderOf table row) fs (nodesFrom s table (drop row table))
+      → Fits total (orderOf table (suc row)) fs (ns ++ nodesFrom s table (drop (suc row) table))
+      → Fits total (orderOf table row) fs (nodesFrom s table (drop row table))
   fits-same {row = row} {fs = fs} ns w o e f =
       subst (Fits total (orderOf table row) fs) (sym (nodes-are w ∙ ap (λ (l : List Node). l ++ nodesFrom s table (drop (suc row) table)) e))
       (subst (λ (n : ℕ). Fits total n fs (ns ++ nodesFrom s table (drop (suc row) table))) (order-same w o) f)
@@ -272,10 +279,12 @@ module _ (s : List ℕ) (raw : List Row) where
             fits-same [] w refl e (k .leads (after w refl u))
 
     -- a null, or a run of them, in slots none of which is primitive
-    nulls-ok : {at₁ own slot : ℕ} {us : List SlotType} (ts : List SlotType) (fs : List Place) (r : Rec) (n : ℕ) → isNulls (kindOf r) ≡ true → isObject (kindOf r) ≡ false
-        → eqb (kindOf r) 12 ≡ false → CountIs r n → GoodRec r → LinkIs s table (classAt s table) (orderOf table) r (withOwn (rowFor at r 0 own slot 0 n))
+    nulls-ok : {at₁ own slot : ℕ} {us : List SlotType} (ts : List SlotType) (fs : List Place) (r : Rec) (n : ℕ) → isNulls (kindOf r) ≡ true
+        → isObject (kindOf r) ≡ false → eqb (kindOf r) 12 ≡ false → CountIs r n → GoodRec r
+        → LinkIs s table (classAt s table) (orderOf table) r (withOwn (rowFor at r 0 own slot 0 n))
         → at₁ ≡ at + size r → n ≤ length ts → somePrimitive (take n ts) ≡ false → us ≡ drop n ts → it ≡ rowFor at r 0 own slot 0 n
-        → Ok (shut (place (orderOf table own) (slot + n) us ∷ fs)) at₁ (suc row) es rs is → Ok (shut (place (orderOf table own) slot ts ∷ fs)) at row es (r ∷ rs) (it ∷ is)
+        → Ok (shut (place (orderOf table own) (slot + n) us ∷ fs)) at₁ (suc row) es rs is
+        → Ok (shut (place (orderOf table own) slot ts ∷ fs)) at row es (r ∷ rs) (it ∷ is)
     nulls-ok {own = own} {slot = slot} ts fs r n a b l c g z p h j u q k =
         subst (λ (x : Row). Ok (shut (place o slot ts ∷ fs)) at row es (r ∷ rs) (x ∷ is)) (sym q) (record { leads = leads })
       where
@@ -323,8 +332,9 @@ module _ (s : List ℕ) (raw : List Row) where
   opened fs {b = b} {ts = ts} e f = ap (λ (n : ℕ). openedIn n ts fs) e ∙ ap (λ (l : List SlotType). openedIn b l fs) f
 
   class-step : {at row : ℕ} {es es₁ : List Entry} {r : Rec} {rs : List Rec} {x : Row} {is : List Row} {fs : List Place} {ts : List SlotType} (c : Class)
-      → At at row es (r ∷ rs) (x ∷ is) → isObject (x .kind) ≡ true → isObject (kindOf r) ≡ true → Takes fs → Deep ts fs → GoodClass c → slotsOf (c .members) ≡ ts
-      → LinkIs s table (λ k. c) (orderOf table) r (withOwn x) → saidBy (libraryName s table) (λ k. c) (orderOf table) r ≡ anObject c ∷ []
+      → At at row es (r ∷ rs) (x ∷ is) → isObject (x .kind) ≡ true → isObject (kindOf r) ≡ true → Takes fs → Deep ts fs → GoodClass c
+      → slotsOf (c .members) ≡ ts → LinkIs s table (λ k. c) (orderOf table) r (withOwn x)
+      → saidBy (libraryName s table) (λ k. c) (orderOf table) r ≡ anObject c ∷ []
       → Knows s table (suc row) es₁ → Step fs (openedIn (orderOf table (suc row)) ts fs) row r x es₁
   class-step {fs = fs} c w o p a d g e l h k =
       record {
@@ -397,7 +407,8 @@ module _ (s : List ℕ) (raw : List Row) where
 
   -- ---- arrays
 
-  items-are : (name : ℕ → List ℕ) (ns : List ℕ) (d : Detail ℕ) → isPrimitive (slotFor d) ≡ false → itemSlots ns (named name d) ≡ replicate (product ns) (slotFor d)
+  items-are : (name : ℕ → List ℕ) (ns : List ℕ) (d : Detail ℕ) → isPrimitive (slotFor d) ≡ false
+      → itemSlots ns (named name d) ≡ replicate (product ns) (slotFor d)
   items-are name ns (primitive c) e = absurd (let z : _≡_ {A = ℕ} 0 1 = cc in omega arith)
   items-are name ns text e = refl
   items-are name ns object e = refl

@@ -5,9 +5,9 @@ use mathlib.Core.Path.{_≡_, refl, sym, ap, _∙_}
 use mathlib.Core.Bool.{Bool, true, false, not, _&&_}
 use mathlib.Core.List.{List, [], _∷_, _++_, map, append-assoc}
 use native.Mathlib.Omega.{arith}
-use lib.ListN.{length, getD, drop, length-drop, length-append}
+use lib.ListN.{length, getD, drop, length-append}
 use lib.Dec.{eqb}
-use lib.Seq.{drop-drop, drop-cons, take-at, drop-at}
+use lib.Seq.{drop-drop, take-at, drop-at}
 use borrow.Author.Tests.{leb-false}
 use Rattle.format.specs.declared.PrimitiveCode.{PrimitiveCode}
 use Rattle.format.specs.declared.Coded.the-variants as D
@@ -32,6 +32,7 @@ use Rattle.types.specs.Codes.{primitive-number}
 use Rattle.types.specs.Ends.{code-end, name-end, library-end}
 use Rattle.saying.specs.Said.{named, namedAll, classOfAll, saidBy}
 use Rattle.saying.specs.Good.{slotsOf}
+use Rattle.saying.specs.Order.{place-inside, item-there}
 
 -- ---- bytes at a place, and what follows them
 
@@ -45,12 +46,10 @@ module _ (s v q : List ℕ) (p e : ℕ) (z : e ≡ p + length v) (d : drop p s �
 
 module _ (s q : List ℕ) (b p : ℕ) (d : drop p s ≡ b ∷ q) where
   byte-inside : p < length s
-  byte-inside = omega (arith, simp length-drop at (ap length d))
+  byte-inside = place-inside s q b p d
 
   pub byte-there : getD s p 0 ≡ b
-  byte-there =
-      let c = drop-cons s p 0 byte-inside in
-      cc
+  byte-there = item-there s q b p d 0
 
   pub byte-rest : drop (p + 1) s ≡ q
   byte-rest = rest-there s (b ∷ []) q p (p + 1) refl d
