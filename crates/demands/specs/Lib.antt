@@ -1,2 +1,3 @@
 -- What a user can be taught to trust.
 pub mod CounterExamples
+pub mod Readings

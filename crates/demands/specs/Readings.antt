@@ -1,0 +1,27 @@
+-- Demand 2: a list is accepted exactly when the published format, as document 01 settles it, has a reading of it that fits the lent table; and no
+-- list has two readings.
+use Prim.Native.Nat.{ℕ, _+_, _≤_}
+use mathlib.Core.Path.{_≡_, sym, _∙_}
+use mathlib.Core.Logic.{_↔_}
+use mathlib.Core.List.{List}
+use native.Mathlib.Omega.{arith}
+use lib.ListN.{length}
+use Rattle.format.specs.declared.Row.{Row}
+use Rattle.format.specs.Grammar.{Reading}
+use Rattle.format.specs.Machine.{accepted, readOf}
+use Rattle.num.specs.Le.{Bytes}
+use Rattle.readings.specs.Accept.{accepts}
+use Rattle.readings.specs.Derive.{accepted-reading}
+
+-- for every stream of bytes and every room: the machine accepts with rows exactly when the rows are a reading and number at most room
+pub accepted-exactly : (s : List ℕ) → Bytes s → (room : ℕ) (rows : List Row) → (readOf s room ≡ accepted rows) ↔ (Reading s rows × (length rows ≤ room))
+accepted-exactly s byte room rows = (accepted-reading s byte room rows, λ w. accepts (w .0) room (w .1))
+
+same-rows : {a b : List Row} → accepted a ≡ accepted b → a ≡ b
+same-rows e = cc
+
+-- two readings of one stream are equal
+pub reading-unique : (s : List ℕ) (rows others : List Row) → Reading s rows → Reading s others → rows ≡ others
+reading-unique s rows others a b =
+    let room : ℕ = length rows + length others in
+    same-rows (sym (accepts a room (omega arith)) ∙ accepts b room (omega arith))
