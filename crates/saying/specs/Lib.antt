@@ -2,3 +2,6 @@
 pub mod Said
 pub mod Good
 pub mod There
+pub mod Tests
+pub mod Numbers
+pub mod Shown
