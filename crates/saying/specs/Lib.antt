@@ -5,3 +5,4 @@ pub mod There
 pub mod Tests
 pub mod Numbers
 pub mod Shown
+pub mod Round
