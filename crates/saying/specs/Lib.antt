@@ -6,3 +6,4 @@ pub mod Tests
 pub mod Numbers
 pub mod Shown
 pub mod Round
+pub mod Known

@@ -50,14 +50,20 @@ module _ {K : Type 0} where
         go again true q = q
         go again false q = again q
 
-    pub number-new : (b m n : ℕ) (k : K) (t : List (ℕ × K)) → Within b m t → f k ≡ true → numberIn f t ≡ 0 → numberIn f (t ++ ((n, k) ∷ [])) ≡ n
+    -- what had no number may have one in what follows
+    pub number-none : (b m : ℕ) (t u : List (ℕ × K)) → Within b m t → numberIn f t ≡ 0 → numberIn f (t ++ u) ≡ numberIn f u
     unfolding numberIn
-    number-new b m n k [] w h z = rw h
-    number-new b m n k (e ∷ t) w h z = go (number-new (e .0) m n k t (w .1) h) (f (e .1)) z
+    number-none b m [] u w z = refl
+    number-none b m (e ∷ t) u w z = go (number-none (e .0) m t u (w .1)) (f (e .1)) z
       where
-        go : (numberIn f t ≡ 0 → numberIn f (t ++ ((n, k) ∷ [])) ≡ n) → (x : Bool) → pick x (e .0) (numberIn f t) ≡ 0 → pick x (e .0) (numberIn f (t ++ ((n, k) ∷ []))) ≡ n
+        go : (numberIn f t ≡ 0 → numberIn f (t ++ u) ≡ numberIn f u) → (x : Bool) → pick x (e .0) (numberIn f t) ≡ 0
+            → pick x (e .0) (numberIn f (t ++ u)) ≡ numberIn f u
         go again true q = let p = w .0 in absurd (omega arith)
         go again false q = again q
+
+    pub number-new : (b m n : ℕ) (k : K) (t : List (ℕ × K)) → Within b m t → f k ≡ true → numberIn f t ≡ 0 → numberIn f (t ++ ((n, k) ∷ [])) ≡ n
+    unfolding numberIn
+    number-new b m n k t w h z = number-none b m t ((n, k) ∷ []) w z ∙ rw h
 
     -- a number that was given lies in the table's bounds
     pub number-within : (b m k : ℕ) (t : List (ℕ × K)) → Within b m t → numberIn f t ≡ suc k → (b < suc k) × (suc k ≤ m)
