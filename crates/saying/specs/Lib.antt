@@ -7,3 +7,5 @@ pub mod Numbers
 pub mod Shown
 pub mod Round
 pub mod Known
+pub mod Legal
+pub mod Limits
