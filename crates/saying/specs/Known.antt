@@ -6,11 +6,11 @@ use mathlib.Core.Bool.{Bool, true, false}
 use mathlib.Core.List.{List, [], _∷_, _++_}
 use native.Mathlib.Omega.{arith}
 use lib.Dec.{eqb}
-use borrow.Author.Tests.{eqb-true, eqb-false, eq-eqb, ne-eqb}
+use borrow.Author.Tests.{eqb-false, eq-eqb, ne-eqb}
 use Rattle.format.specs.declared.SlotType.{SlotType}
 use Rattle.format.specs.Bytes.{pick}
 use Rattle.format.specs.Contents.{Rec, header, classById, systemClass, libraryClass, string, array, typedPrimitive, reference, null, nulls, manyNulls, end, library, primitiveArray, objectArray, stringArray, value}
-use Rattle.format.specs.Grammar.{Entry, aClass, another, aLibrary, used, known, Classed, classed, unknown, classOf, typesOf}
+use Rattle.format.specs.Grammar.{Entry, aClass, another, aLibrary, used, known, classed, classOf, typesOf}
 use Rattle.format.specs.Says.{Class}
 use Rattle.format.specs.Tidy.{sameClass, numberIn}
 use Rattle.saying.specs.Good.{slotsOf}

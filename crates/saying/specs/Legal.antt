@@ -1,6 +1,6 @@
 -- Records that may follow one another (01, Records and Field rules), as definitions: what a record may hold where this is known, where it may stand
 -- among open objects, and what is open and known after it. Places and bytes are not here.
-use Prim.Native.Nat.{ℕ, zero, suc, _+_, _≤_, _<_}
+use Prim.Native.Nat.{ℕ, suc, _+_, _≤_, _<_}
 use mathlib.Core.Path.{_≡_}
 use mathlib.Core.Bool.{Bool, true, false, _||_}
 use mathlib.Core.List.{List, [], _∷_, _++_}

@@ -9,3 +9,4 @@ pub mod Round
 pub mod Known
 pub mod Legal
 pub mod Limits
+pub mod Written

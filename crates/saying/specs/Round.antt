@@ -7,18 +7,18 @@ use mathlib.Core.List.{List, [], _∷_, _++_, map, append-assoc, append-nil}
 use native.Mathlib.Omega.{arith}
 use lib.ListN.{length}
 use lib.Dec.{eqb, leb}
-use borrow.Author.Tests.{eqb-true, eqb-false}
+use borrow.Author.Tests.{eqb-true}
 use Rattle.format.specs.declared.SlotType.{SlotType}
 use Rattle.format.specs.Bytes.{pick, sameBytes}
-use Rattle.format.specs.Contents.{Detail, primitive, text, object, system, class, objects, texts, primitives, Member, Rec, null, nulls, manyNulls, library}
+use Rattle.format.specs.Contents.{Detail, primitive, text, object, system, class, objects, texts, primitives, Member, Rec, null, library}
 use Rattle.format.specs.Says.{From, theSystem, theLibrary, Class, What, anObject, aString, anArray, aPrimitive, aReference, aNull, aPrimitiveArray, anObjectArray, aStringArray, aValue, Node, node, spread}
 use Rattle.format.specs.Tidy.{sameClass, numberIn, Progress, nothing, Libraries, libraryRecords, allEntered, entered, detailNeeds, membersNeed, fromNeeds, classNeeds, detailBy, membersBy, classBy, objectBy, afterObject, recordsOf, afterWhat, runOf}
 use Rattle.fields.specs.Judged.{picked}
 use Rattle.saying.specs.Said.{named, namedAll, classOfAll, saidBy}
-use Rattle.saying.specs.Good.{Place, place, shutBy, shut, ownerOf, slotOf, tailOf, filledOne, openedIn, Allowed, in-null, countOf, openAfter, Fits, the-end, a-node}
+use Rattle.saying.specs.Good.{Place, place, shutBy, shut, ownerOf, slotOf, filledOne, openedIn, Allowed, in-null, countOf, openAfter, Fits, a-node}
 use Rattle.saying.specs.Tests.{class-of}
-use Rattle.saying.specs.Numbers.{Each, no-name, a-name, each-left, each-right, each-so, Has, all-have, afterNodes, Numbered, numbered-none, numbered-what, numbered-nodes, Later, later-nodes, nameIn, classIn, name-back, class-back}
-use Rattle.saying.specs.Shown.{Shown, shown, shownIn, allShown, packed, Wait, wait, noWait, runShown, oneMore, squeezed, saidNodes, saidAll, Plain, Sort, a-null, plain, sort-of, squeezed-null, squeezed-records}
+use Rattle.saying.specs.Numbers.{Each, no-name, a-name, each-left, each-right, each-so, all-have, afterNodes, Numbered, numbered-none, numbered-what, numbered-nodes, Later, later-nodes, nameIn, classIn, name-back, class-back}
+use Rattle.saying.specs.Shown.{Shown, shown, allShown, packed, Wait, wait, noWait, runShown, oneMore, squeezed, saidNodes, saidAll, Plain, Sort, a-null, plain, sort-of, squeezed-null, squeezed-records}
 
 -- ---- what shown records say
 
@@ -139,7 +139,7 @@ under-more : (b c : ℕ) (fs : List Place) → b ≤ c → Under b fs → Under 
 under-more b c [] l h = omega arith
 under-more b c (f ∷ fs) l h = let i = h .0 in (omega arith, h .1)
 
-under-shut : (b : ℕ) (fs : List Place) → Under b fs → Under b (shut fs)
+pub under-shut : (b : ℕ) (fs : List Place) → Under b fs → Under b (shut fs)
 unfolding shut
 under-shut b [] h = h
 under-shut b (f ∷ fs) h = go (f .types) (under-shut (f .owner) fs (h .1))
@@ -172,7 +172,7 @@ under-after count fs (aStringArray n) h = under-opened count _ fs h
 under-after count fs (aValue v) h = under-next count 0 fs h
 
 -- the innermost is below, and if its order is 0 there is none
-owner-below : (b : ℕ) (fs : List Place) → Under b fs → ownerOf fs < b
+pub owner-below : (b : ℕ) (fs : List Place) → Under b fs → ownerOf fs < b
 owner-below b [] h = h
 owner-below b (f ∷ fs) h = h .0
 

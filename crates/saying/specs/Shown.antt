@@ -1,10 +1,9 @@
 -- The records of the tidy copy, each with the place where it stands: the object whose slot it fills, by order, and the slot, the first one for a
 -- run of nulls. A library fills no slot and has owner 0 and slot 0. Without the places they are the records of format's Tidy.
 use Prim.Native.Nat.{ℕ, zero, suc}
-use mathlib.Core.Path.{_≡_, refl, sym, ap, _∙_}
+use mathlib.Core.Path.{_≡_, refl, ap, _∙_}
 use mathlib.Core.Bool.{Bool, true, false}
 use mathlib.Core.List.{List, [], _∷_, _++_, map, append-assoc}
-use native.Mathlib.Omega.{arith}
 use lib.ListN.{length}
 use lib.Dec.{eqb}
 use Rattle.format.specs.Bytes.{pick, sameBytes}
