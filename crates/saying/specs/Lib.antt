@@ -10,3 +10,4 @@ pub mod Known
 pub mod Legal
 pub mod Limits
 pub mod Written
+pub mod Enough
