@@ -11,3 +11,4 @@ pub mod Legal
 pub mod Limits
 pub mod Written
 pub mod Enough
+pub mod Row
