@@ -6,3 +6,12 @@ pub mod There
 pub mod Ids
 pub mod Known
 pub mod SaidGood
+pub mod Tests
+pub mod Numbers
+pub mod Shown
+pub mod Round
+pub mod Legal
+pub mod Limits
+pub mod Written
+pub mod Enough
+pub mod Row
