@@ -19,7 +19,9 @@ use Rattle.saying.specs.Said.{named, namedAll, classOfAll}
 use Rattle.saying.specs.Good.{GoodType, GoodMembers, GoodFrom, GoodClass, slotsOf}
 use Rattle.saying.specs.Good as G
 use Rattle.saying.specs.Order.{place-inside, item-there, taken-more}
+
 -- ---- lookups among entries
+
 -- a library that is not known after more entries was not known before, nor by them
 pub unknown-both : (i : ℕ) (es fs : List Entry) → known i (es ++ fs) ≡ false → (known i es ≡ false) × (known i fs ≡ false)
 unknown-both i [] fs e = (refl, e)
@@ -31,23 +33,29 @@ unknown-both i (aLibrary j ∷ es) fs e = go (eqb j i) e (unknown-both i es fs)
         → (pick t true (known i es) ≡ false) × (known i fs ≡ false)
     go true e h = absurd (let z : _≡_ {A = ℕ} 0 1 = cc in omega arith)
     go false e h = h e
+
 module _ (s : List ℕ) (rows : List Row) where
   -- the class in the row before this number
   abbrev pub classAt : ℕ → Class
   classAt row = classFrom s rows (getD rows (row - 1) blank)
+
   pub record ClassAt (row : ℕ) (ts : List SlotType) : Type 0 where
     pub good : GoodClass (classAt row)
     pub slots : slotsOf (classAt row .members) ≡ ts
+
   abbrev GoodEntry : Entry → Type 0
   GoodEntry (aClass i row ts) = ClassAt row ts
   GoodEntry (another i) = Unit {0}
   GoodEntry (aLibrary i) = Name (libraryName s rows i)
+
   pub data GoodEntries : List Entry → Type 0 where
     no-entry : GoodEntries []
     an-entry : {e : Entry} {es : List Entry} → GoodEntry e → GoodEntries es → GoodEntries (e ∷ es)
+
   pub entries-more : {es : List Entry} (e : Entry) → GoodEntries es → GoodEntry e → GoodEntries (es ++ (e ∷ []))
   entries-more e no-entry g = an-entry g no-entry
   entries-more e (an-entry {e = d} h w) g = an-entry {e = d} h (entries-more e w g)
+
   pub library-known : (l : ℕ) (es : List Entry) → GoodEntries es → known l es ≡ true → Name (libraryName s rows l)
   library-known l [] w e = absurd (let z : _≡_ {A = ℕ} 0 1 = cc in omega arith)
   library-known l (aClass i r ts ∷ es) (an-entry g w) e = library-known l es w e
@@ -57,9 +65,11 @@ module _ (s : List ℕ) (rows : List Row) where
       go : (t : Bool) → eqb i l ≡ t → pick t true (known l es) ≡ true → (known l es ≡ true → Name (libraryName s rows l)) → Name (libraryName s rows l)
       go true q e h = subst (λ (k : ℕ). Name (libraryName s rows k)) (eqb-true i l q) g
       go false q e h = h e
+
   pub class-known : (k row : ℕ) (ts : List SlotType) (es : List Entry) → GoodEntries es → classOf k es ≡ classed row ts → ClassAt row ts
   class-known k row ts [] w e = absurd (let z : _≡_ {A = ℕ} 0 1 = cc in omega arith)
   class-known k row ts (aClass i r us ∷ es) (an-entry g w) e = go (eqb i k) e (class-known k row ts es w)
+    where
       go : (t : Bool) → pick t (classed r us) (classOf k es) ≡ classed row ts → (classOf k es ≡ classed row ts → ClassAt row ts) → ClassAt row ts
       go true e h =
           let a : r ≡ row = cc in
@@ -68,7 +78,9 @@ module _ (s : List ℕ) (rows : List Row) where
       go false e h = h e
   class-known k row ts (another i ∷ es) (an-entry g w) e = class-known k row ts es w e
   class-known k row ts (aLibrary i ∷ es) (an-entry g w) e = class-known k row ts es w e
+
   -- ---- classes whose libraries are known are good
+
   module _ (es : List Entry) (w : GoodEntries es) where
     pub type-good : (d : Detail ℕ) → GoodDetail es d → GoodType (named (libraryName s rows) d)
     type-good (primitive c) g = tt
@@ -79,9 +91,11 @@ module _ (s : List ℕ) (rows : List Row) where
     type-good objects g = tt
     type-good texts g = tt
     type-good (primitives c) g = tt
+
     members-good : {ms : List (Member ℕ)} → Members es ms → GoodMembers (namedAll (libraryName s rows) ms)
     members-good no-more = G.no-more
     members-good (member {m = m} n g gs) = G.member n (type-good (m .type) g) (members-good gs)
+
     pub class-good : (n : List ℕ) (from : From) (ms : List (Member ℕ)) → ClassInfo es n ms → GoodFrom from
         → GoodClass (classOfAll (libraryName s rows) n from ms)
     class-good n from ms g f =
@@ -92,29 +106,37 @@ module _ (s : List ℕ) (rows : List Row) where
         length-named : (ms : List (Member ℕ)) → length (namedAll (libraryName s rows) ms) ≡ length ms
         length-named [] = refl
         length-named (m ∷ ms) = ap suc (length-named ms)
+
   -- ---- the rows of libraries
+
   abbrev ofLibrary : ℕ → Row → Bool
   ofLibrary i r = eqb (r .kind) 12 && eqb (r .id) i
+
   -- what is known after so many rows: a library that is not known is in none of them
   pub record Knows (row : ℕ) (es : List Entry) : Type 0 where
     pub good : GoodEntries es
     pub fresh : (i : ℕ) → known i es ≡ false → findFrom (ofLibrary i) 0 (take row rows) ≡ 0
+
   find-more : (p : Row → Bool) (k : ℕ) (xs ys : List Row) → findFrom p k xs ≡ 0 → findFrom p k (xs ++ ys) ≡ findFrom p (k + length xs) ys
   unfolding findFrom
   find-more p k [] ys e = ap (λ (n : ℕ). findFrom p n ys) (omega arith)
   find-more p k (r ∷ xs) ys e = go (p r) e (find-more p (k + 1) xs ys)
+    where
       go : (t : Bool) → pick t (k + 1) (findFrom p (k + 1) xs) ≡ 0
           → (findFrom p (k + 1) xs ≡ 0 → findFrom p (k + 1) (xs ++ ys) ≡ findFrom p (k + 1 + length xs) ys)
           → pick t (k + 1) (findFrom p (k + 1) (xs ++ ys)) ≡ findFrom p (k + suc (length xs)) ys
       go true e h = absurd (omega arith)
       go false e h = h e ∙ ap (λ (n : ℕ). findFrom p n ys) (omega arith)
+
   module _ (is : List Row) (w : Row) (row : ℕ) (e : drop row rows ≡ w ∷ is) where
     fresh-more : (i : ℕ) → ofLibrary i w ≡ false → findFrom (ofLibrary i) 0 (take row rows) ≡ 0 → findFrom (ofLibrary i) 0 (take (suc row) rows) ≡ 0
     unfolding findFrom
     fresh-more i n h = rw (taken-more rows is w row e, find-more (ofLibrary i) 0 (take row rows) (w ∷ []) h, n)
+
     -- one row more that is no library
     pub knows-same : {es : List Entry} → eqb (w .kind) 12 ≡ false → Knows row es → Knows (suc row) es
     knows-same n g = record { good = g .good; fresh = λ i h. fresh-more i (rw n) (g .fresh i h) }
+
     knows-entry : {es : List Entry} (x : Entry) → GoodEntry x → ((i : ℕ) → known i (x ∷ []) ≡ false → ofLibrary i w ≡ false) → Knows row es
         → Knows (suc row) (es ++ (x ∷ []))
     knows-entry {es} x q n g =
@@ -124,11 +146,14 @@ module _ (s : List ℕ) (rows : List Row) where
               let b = unknown-both i es (x ∷ []) h in
               fresh-more i (n i (b .1)) (g .fresh i (b .0));
         }
+
     pub knows-another : {es : List Entry} (j : ℕ) → eqb (w .kind) 12 ≡ false → Knows row es → Knows (suc row) (es ++ (another j ∷ []))
     knows-another j n = knows-entry (another j) tt (λ i h. rw n)
+
     pub knows-class : {es : List Entry} (j r : ℕ) (ts : List SlotType) → eqb (w .kind) 12 ≡ false → ClassAt r ts → Knows row es
         → Knows (suc row) (es ++ (aClass j r ts ∷ []))
     knows-class j r ts n q = knows-entry (aClass j r ts) q (λ i h. rw n)
+
     -- a library's row is the first of its number
     module _ {es : List Entry} (j : ℕ) (k : w .kind ≡ 12) (q : w .id ≡ j) (n : known j es ≡ false) (g : Knows row es) where
       library-row : libraryRow j rows ≡ suc row
@@ -140,149 +165,17 @@ module _ (s : List ℕ) (rows : List Row) where
           let h : p w ≡ true = rw (k, q) (eq-eqb j j refl) in
           let b : findFrom p (0 + length (take row rows)) (drop row rows) ≡ suc row = rw (e, h) (omega arith) in
           ap (findFrom p 0) (sym (take-append-drop row rows)) ∙ (a ∙ b)
+
       pub knows-library : Name (textFrom s (w .offset + 5)) → Knows (suc row) (es ++ (aLibrary j ∷ []))
       unfolding libraryName
       knows-library h = knows-entry (aLibrary j) (rw (library-row, z, item-there rows is w row e blank) h) other g
         where
           z : suc row - 1 ≡ row
           z = omega arith
+
           other : (i : ℕ) → known i (aLibrary j ∷ []) ≡ false → ofLibrary i w ≡ false
           other i f = rw (k, q) (go (eqb j i) f)
             where
               go : (t : Bool) → pick t true false ≡ false → t ≡ false
               go true e = absurd (let z : _≡_ {A = ℕ} 0 1 = cc in omega arith)
               go false e = refl
--- What the records of the tidy copy make known (01, Field rules): as many ObjectIds and LibraryIds as were given, from 1 on, and the slots of
--- every class that has a number.
-use Prim.Native.Nat.{ℕ, zero, suc, _≤_, _<_}
-use mathlib.Core.Path.{_≡_, refl, sym, ap, _∙_}
-use mathlib.Core.Bool.{Bool, true, false}
-use borrow.Author.Tests.{eqb-false, eq-eqb, ne-eqb}
-use Rattle.format.specs.Contents.{Rec, header, classById, systemClass, libraryClass, string, array, typedPrimitive, reference, null, nulls, manyNulls, end, library, primitiveArray, objectArray, stringArray, value}
-use Rattle.format.specs.Grammar.{Entry, aClass, another, aLibrary, used, known, classed, classOf, typesOf}
-use Rattle.format.specs.Says.{Class}
-use Rattle.format.specs.Tidy.{sameClass, numberIn}
-use Rattle.saying.specs.Good.{slotsOf}
-use Rattle.saying.specs.Tests.{class-eq}
-use Rattle.saying.specs.Numbers.{Within, number-more, number-none}
--- what a record makes known; row is the number of its row plus 1
-abbrev pub madeKnown : ℕ → Rec → List Entry
-madeKnown row (header r h) = []
-madeKnown row (classById i k) = another i ∷ []
-madeKnown row (systemClass i n ms) = aClass i row (typesOf ms) ∷ []
-madeKnown row (libraryClass i n ms l) = aClass i row (typesOf ms) ∷ []
-madeKnown row (string i t) = another i ∷ []
-madeKnown row (array i t ns d vs) = another i ∷ []
-madeKnown row (typedPrimitive c v) = []
-madeKnown row (reference i) = []
-madeKnown row null = []
-madeKnown row (nulls k) = []
-madeKnown row (manyNulls k) = []
-madeKnown row end = []
-madeKnown row (library i n) = aLibrary i ∷ []
-madeKnown row (primitiveArray i n c vs) = another i ∷ []
-madeKnown row (objectArray i n) = another i ∷ []
-madeKnown row (stringArray i n) = another i ∷ []
-madeKnown row (value v) = []
--- ---- entries after others
-used-append : (i : ℕ) (es ds : List Entry) → used i (es ++ ds) ≡ pick (used i es) true (used i ds)
-used-append i [] ds = refl
-used-append i (aClass j r ts ∷ es) ds = go (eqb j i) (used-append i es ds)
-    go : (b : Bool) → used i (es ++ ds) ≡ pick (used i es) true (used i ds) → pick b true (used i (es ++ ds)) ≡ pick (pick b true (used i es)) true (used i ds)
-    go true again = refl
-    go false again = again
-used-append i (another j ∷ es) ds = go (eqb j i) (used-append i es ds)
-used-append i (aLibrary j ∷ es) ds = used-append i es ds
-known-append : (i : ℕ) (es ds : List Entry) → known i (es ++ ds) ≡ pick (known i es) true (known i ds)
-known-append i [] ds = refl
-known-append i (aClass j r ts ∷ es) ds = known-append i es ds
-known-append i (another j ∷ es) ds = known-append i es ds
-known-append i (aLibrary j ∷ es) ds = go (eqb j i) (known-append i es ds)
-    go : (b : Bool) → known i (es ++ ds) ≡ pick (known i es) true (known i ds) → pick b true (known i (es ++ ds)) ≡ pick (pick b true (known i es)) true (known i ds)
--- a class stays
-class-stays : (i row : ℕ) (ts : List SlotType) (es ds : List Entry) → classOf i es ≡ classed row ts → classOf i (es ++ ds) ≡ classed row ts
-class-stays i row ts [] ds e = absurd (let z : _≡_ {A = ℕ} 0 1 = cc in omega arith)
-class-stays i row ts (aClass j r us ∷ es) ds e = go (eqb j i) (class-stays i row ts es ds) e
-    go : (b : Bool) → (classOf i es ≡ classed row ts → classOf i (es ++ ds) ≡ classed row ts) → pick b (classed r us) (classOf i es) ≡ classed row ts
-        → pick b (classed r us) (classOf i (es ++ ds)) ≡ classed row ts
-    go true again e = e
-    go false again e = again e
-class-stays i row ts (another j ∷ es) ds e = class-stays i row ts es ds e
-class-stays i row ts (aLibrary j ∷ es) ds e = class-stays i row ts es ds e
--- an ObjectId that was not used has no class yet
-class-new : (i : ℕ) (es ds : List Entry) → used i es ≡ false → classOf i (es ++ ds) ≡ classOf i ds
-class-new i [] ds e = refl
-class-new i (aClass j r us ∷ es) ds e = go (eqb j i) (class-new i es ds) e
-    go : (b : Bool) → (used i es ≡ false → classOf i (es ++ ds) ≡ classOf i ds) → pick b true (used i es) ≡ false
-        → pick b (classed r us) (classOf i (es ++ ds)) ≡ classOf i ds
-    go true again e = absurd (let z : _≡_ {A = ℕ} 0 1 = cc in omega arith)
-class-new i (another j ∷ es) ds e = go (eqb j i) (class-new i es ds) e
-    go : (b : Bool) → (used i es ≡ false → classOf i (es ++ ds) ≡ classOf i ds) → pick b true (used i es) ≡ false → classOf i (es ++ ds) ≡ classOf i ds
-class-new i (aLibrary j ∷ es) ds e = class-new i es ds e
--- ---- what is known once so many objects, these classes and m libraries were written
-pub record Knows (es : List Entry) (count : ℕ) (cs : List (ℕ × Class)) (m : ℕ) : Type 0 where
-  pub used-to : (i : ℕ) → 0 < i → i ≤ count → used i es ≡ true
-  pub used-not : (i : ℕ) → count < i → used i es ≡ false
-  pub known-to : (i : ℕ) → 0 < i → i ≤ m → known i es ≡ true
-  pub known-not : (i : ℕ) → m < i → known i es ≡ false
-  pub class-is : (c : Class) (k : ℕ) → numberIn (sameClass c) cs ≡ suc k → (row : ℕ) × (classOf (suc k) es ≡ classed row (slotsOf (c .members)))
-pub knows-none : Knows [] 0 [] 0
-unfolding numberIn
-knows-none =
-    record {
-      used-to = λ i a b. absurd (omega arith);
-      used-not = λ i a. refl;
-      known-to = λ i a b. absurd (omega arith);
-      known-not = λ i a. refl;
-      class-is = λ c k e. absurd (omega arith);
-    }
--- a number more: those to count before it, and then it
-more-to : (count i : ℕ) (before : Bool) → 0 < i → i ≤ suc count → (i ≤ count → before ≡ true) → pick before true (pick (eqb (suc count) i) true false) ≡ true
-more-to count i before a b h = go (eqb (suc count) i) refl before h
-    go : (t : Bool) → eqb (suc count) i ≡ t → (before : Bool) → (i ≤ count → before ≡ true) → pick before true (pick t true false) ≡ true
-    go t e true h = refl
-    go true e false h = refl
-    go false e false h = let z = eqb-false (suc count) i e in h (omega arith)
-more-not : (count i : ℕ) (before : Bool) → suc count < i → before ≡ false → pick before true (pick (eqb (suc count) i) true false) ≡ false
-more-not count i before a e = rw (e, ne-eqb (suc count) i (λ q. omega arith))
-no-more : (before answer : Bool) → before ≡ answer → pick before true false ≡ answer
-no-more true answer e = e
-no-more false answer e = e
-module _ (es : List Entry) (count : ℕ) (cs : List (ℕ × Class)) (m : ℕ) (h : Knows es count cs m) where
-  pub knows-another : Knows (es ++ (another (suc count) ∷ [])) (suc count) cs m
-  knows-another =
-      let ds : List Entry = another (suc count) ∷ [] in
-      record {
-        used-to = λ i a b. used-append i es ds ∙ more-to count i (used i es) a b (h .used-to i a);
-        used-not = λ i a. used-append i es ds ∙ more-not count i (used i es) a (h .used-not i (omega arith));
-        known-to = λ i a b. known-append i es ds ∙ no-more (known i es) true (h .known-to i a b);
-        known-not = λ i a. known-append i es ds ∙ no-more (known i es) false (h .known-not i a);
-        class-is = λ c k e. let q = h .class-is c k e in (q .0, class-stays (suc k) (q .0) (slotsOf (c .members)) es ds (q .1));
-      }
-  pub knows-library : Knows (es ++ (aLibrary (suc m) ∷ [])) count cs (suc m)
-  knows-library =
-      let ds : List Entry = aLibrary (suc m) ∷ [] in
-        used-to = λ i a b. used-append i es ds ∙ no-more (used i es) true (h .used-to i a b);
-        used-not = λ i a. used-append i es ds ∙ no-more (used i es) false (h .used-not i a);
-        known-to = λ i a b. known-append i es ds ∙ more-to m i (known i es) a b (h .known-to i a);
-        known-not = λ i a. known-append i es ds ∙ more-not m i (known i es) a (h .known-not i (omega arith));
-  pub knows-class : (c : Class) (row : ℕ) (ts : List SlotType) → ts ≡ slotsOf (c .members) → Within 0 count cs
-      → Knows (es ++ (aClass (suc count) row ts ∷ [])) (suc count) (cs ++ ((suc count, c) ∷ [])) m
-  unfolding numberIn
-  knows-class c row ts z w =
-        class-is = λ d k e. of-class d k (numberIn (sameClass d) cs) refl e;
-      ds : List Entry
-      ds = aClass (suc count) row ts ∷ []
-      here : classOf (suc count) (es ++ ds) ≡ classed row ts
-      here = class-new (suc count) es ds (h .used-not (suc count) (omega arith)) ∙ rw (eq-eqb (suc count) (suc count) refl)
-      is-new : (d : Class) (k : ℕ) (b : Bool) → sameClass d c ≡ b → pick b (suc count) 0 ≡ suc k → (row : ℕ) × (classOf (suc k) (es ++ ds) ≡ classed row (slotsOf (d .members)))
-      is-new d k true p e =
-          (row, ap (λ (i : ℕ). classOf i (es ++ ds)) (sym e) ∙ (here ∙ ap (classed row) (z ∙ ap (λ (x : Class). slotsOf (x .members)) (sym (class-eq d c p)))))
-      is-new d k false p e = absurd (omega arith)
-      of-class : (d : Class) (k n : ℕ) → numberIn (sameClass d) cs ≡ n → numberIn (sameClass d) (cs ++ ((suc count, c) ∷ [])) ≡ suc k
-          → (row : ℕ) × (classOf (suc k) (es ++ ds) ≡ classed row (slotsOf (d .members)))
-      of-class d k zero q e = is-new d k (sameClass d c) refl (sym (number-none (sameClass d) 0 count cs ((suc count, c) ∷ []) w q) ∙ e)
-      of-class d k (suc n) q e =
-          let f : suc n ≡ suc k = sym (number-more (sameClass d) cs ((suc count, c) ∷ []) n q) ∙ e in
-          let r = h .class-is d k (q ∙ f) in
-          (r .0, class-stays (suc k) (r .0) (slotsOf (d .members)) es ds (r .1))

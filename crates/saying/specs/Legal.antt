@@ -17,7 +17,7 @@ use Rattle.format.specs.Grammar.{Entry, known, classed, classOf, ClassId, Objec
 use Rattle.saying.specs.Good.{Place, place, shut, ownerOf, slotOf, openedIn, Deep}
 use Rattle.saying.specs.There.{kindOf}
 use Rattle.saying.specs.Shown.{Shown}
-use Rattle.saying.specs.Known.{madeKnown}
+use Rattle.saying.specs.Counts.{madeKnown}
 
 -- what a record may hold where this is known, and the types of its slots; total is how many objects there are
 pub data Takes (total : ℕ) (es : List Entry) : Rec → List SlotType → Type 0 where

@@ -10,6 +10,7 @@ pub mod Tests
 pub mod Numbers
 pub mod Shown
 pub mod Round
+pub mod Counts
 pub mod Legal
 pub mod Limits
 pub mod Written

@@ -25,7 +25,7 @@ use Rattle.saying.specs.There.{kindOf}
 use Rattle.saying.specs.Numbers.{Listed, number-within, entered-new, entered-old, entered-listed, all-listed, Each, a-name, no-name, each-right, Has, all-have, afterNodes, Numbered, numbered-none, numbered-what}
 use Rattle.saying.specs.Shown.{Shown, shown, allShown, packed, Wait, wait, noWait, runShown, squeezed, Sort, a-null, plain, sort-of, squeezed-null, squeezed-records}
 use Rattle.saying.specs.Round.{Under, under-shut, owner-below, under-after}
-use Rattle.saying.specs.Known.{Knows, knows-none, knows-another, knows-library, knows-class}
+use Rattle.saying.specs.Counts.{Knows, knows-none, knows-another, knows-library, knows-class}
 use Rattle.saying.specs.Legal.{Takes, class-by-id, system-class, library-class, an-array, some-nulls, many-nulls, Nulls, one, some, many, ofClass, Stands, top-library, in-library, in-nulls, Legal, all-shown, a-record}
 use Rattle.saying.specs.Legal as L
 use Rattle.saying.specs.Limits.{positive-of, all-grow, nodes-grow, what-count, fits-le, types-by, detail-good, class-good, library-there, detail-names, class-names, item-slots, Small, small-after}
