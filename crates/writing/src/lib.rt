@@ -1,6 +1,5 @@
 // Writes the tidy copy from marked rows, one row after the other. Every writer takes the unwritten rest of the output and answers the
 // length that its bytes need; so the same functions measure and write.
-use format::Field;
 use format::LibraryNo;
 use format::ObjectNo;
 use format::Row;
@@ -23,79 +22,6 @@ pub struct Gathered {
     pub count: usize,
 }
 
-// ---- rows and places
-
-// The difference, 0 where b is more.
-fn less(a: usize, b: usize) -> usize
-    ensures { λ r. ⌜ r ≡ a - b ⌝ }
-{
-    if a < b {
-        return 0;
-    }
-    a - b
-}
-
-// A number as a word has it.
-fn word(n: usize) -> u32
-    ensures { λ r. ⌜ r ≡ word n ⌝ }
-{
-    (n % 4294967296) as u32
-}
-
-// The row that a word names: a row's number plus 1.
-fn row_named(table: &[u32], n: usize, f: u32) -> Row
-    requires { ⌜ n ≤ roomOf (now table) ⌝ }
-    ensures { λ r. ⌜ r ≡ rowAt (rowsOf n (now (table .entry))) f ⌝ }
-{
-    let i = less(f as usize, 1);
-    table::row_at(table, n, i)
-}
-
-// The number at a place; bytes past the end are 0.
-fn number_from(s: &[u8], p: usize) -> u32
-    ensures { λ r. ⌜ r ≡ numberFrom (now (s .entry)) p ⌝ }
-{
-    if s.len() <= p {
-        return 0;
-    }
-    let a = types::byte_at(s, p) as u32;
-    let b = types::byte_at(s, p + 1) as u32;
-    let c = types::byte_at(s, p + 2) as u32;
-    let d = types::byte_at(s, p + 3) as u32;
-    a + 256 * (b + 256 * (c + 256 * d))
-}
-
-// The first row, plus 1, of the library whose number stands at a place.
-fn library_at(s: &[u8], table: &[u32], n: usize, p: usize) -> u32
-    requires { ⌜ (n ≤ roomOf (now table)) × (n < 4294967296) ⌝ }
-    ensures { λ r. ⌜ r ≡ libraryAt (now (s .entry)) (rowsOf n (now (table .entry))) p ⌝ }
-{
-    let id = number_from(s, p);
-    let f = table::find_library(table, n, LibraryNo(id));
-    let i = less(f, 1);
-    let r = table::row_at(table, n, i);
-    r.count
-}
-
-// The place after a detail.
-fn after_info(s: &[u8], kind: u8, p: usize) -> usize
-    ensures { λ r. ⌜ r ≡ afterInfo (now (s .entry)) kind p ⌝ }
-{
-    let info = types::info_at(s, kind, p);
-    match info {
-        Field::End(next) => next,
-        Field::Fault(_) => p,
-    }
-}
-
-// Where the item type of a BinaryArray stands.
-fn item_type(s: &[u8], r: Row) -> usize
-    ensures { λ q. ⌜ q ≡ itemType (now (s .entry)) r ⌝ }
-{
-    let rank = number_from(s, (r.offset as usize) + 6) as usize;
-    (r.offset as usize) + 10 + 4 * rank
-}
-
 // ---- libraries, each before the first record that needs it
 
 // The new number of the library whose number stands at p.
@@ -103,8 +29,8 @@ fn library_number(s: &[u8], table: &[u32], n: usize, p: usize) -> LibraryNo
     requires { ⌜ (n ≤ roomOf (now table)) × (n < 4294967296) ⌝ }
     ensures { λ r. ⌜ r .0 ≡ libraryNumber (now (s .entry)) (rowsOf n (now (table .entry))) p ⌝ }
 {
-    let f = library_at(s, table, n, p);
-    let g = row_named(table, n, f);
+    let f = marks::library_at(s, table, n, p);
+    let g = marks::row_named(table, n, f);
     LibraryNo(g.link)
 }
 
@@ -122,9 +48,9 @@ fn put_need(out: &mut [u8], s: &[u8], table: &[u32], n: usize, p: usize) -> usiz
     requires { ⌜ (n ≤ roomOf (now table)) × (n < 4294967296) × (p < 18446744073709551615) ⌝ }
     ensures { λ q. ⌜ Filled (needOut (now (s .entry)) (rowsOf n (now (table .entry))) p) (now (out .entry)) (now (out .exit)) q ⌝ }
 {
-    let f = library_at(s, table, n, p);
-    let g = row_named(table, n, f);
-    let mark = word(p + 1);
+    let f = marks::library_at(s, table, n, p);
+    let g = marks::row_named(table, n, f);
+    let mark = marks::word(p + 1);
     if g.slot == mark {
         return put_library(out, s, g);
     }
@@ -137,7 +63,7 @@ fn put_need_info(out: &mut [u8], s: &[u8], table: &[u32], n: usize, kind: u8, e:
     ensures { λ q. ⌜ Filled (needInfoOut (now (s .entry)) (rowsOf n (now (table .entry))) kind e) (now (out .entry)) (now (out .exit)) q ⌝ }
 {
     if kind == 4 {
-        let p = less(e, 4);
+        let p = marks::less(e, 4);
         return put_need(out, s, table, n, p);
     }
     0
@@ -155,7 +81,7 @@ fn put_need_infos(out: &mut [u8], s: &[u8], table: &[u32], n: usize, r: Row) -> 
     let mut i: usize = 0;
     while i < count {
         let kind = types::byte_at(s, kinds + i);
-        let e = after_info(s, kind, p);
+        let e = marks::after_info(s, kind, p);
         let from = put::least(at, out.len());
         let b = put_need_info(&mut out[from..], s, table, n, kind, e);
         at = put::add_up(at, b);
@@ -171,7 +97,7 @@ fn put_need_own(out: &mut [u8], s: &[u8], table: &[u32], n: usize, r: Row) -> us
     ensures { λ q. ⌜ Filled (needOwnOut (now (s .entry)) (rowsOf n (now (table .entry))) r) (now (out .entry)) (now (out .exit)) q ⌝ }
 {
     if r.kind == 5 {
-        let p = less(r.end as usize, 4);
+        let p = marks::less(r.end as usize, 4);
         return put_need(out, s, table, n, p);
     }
     0
@@ -203,7 +129,7 @@ fn put_info(
     ensures { λ q. ⌜ Filled (infoOut (now (s .entry)) (rowsOf n (now (table .entry))) kind p e) (now (out .entry)) (now (out .exit)) q ⌝ }
 {
     if kind == 4 {
-        let m = less(e, 4);
+        let m = marks::less(e, 4);
         let l = library_number(s, table, n, m);
         let a = put::put_part(out, s, p, m);
         let from = put::least(a, out.len());
@@ -225,7 +151,7 @@ fn put_infos(out: &mut [u8], s: &[u8], table: &[u32], n: usize, r: Row) -> usize
     let mut i: usize = 0;
     while i < count {
         let kind = types::byte_at(s, kinds + i);
-        let e = after_info(s, kind, p);
+        let e = marks::after_info(s, kind, p);
         let from = put::least(at, out.len());
         let b = put_info(&mut out[from..], s, table, n, kind, p, e);
         at = put::add_up(at, b);
@@ -241,7 +167,7 @@ fn put_own(out: &mut [u8], s: &[u8], table: &[u32], n: usize, r: Row) -> usize
     ensures { λ q. ⌜ Filled (ownOut (now (s .entry)) (rowsOf n (now (table .entry))) r) (now (out .entry)) (now (out .exit)) q ⌝ }
 {
     if r.kind == 5 {
-        let p = less(r.end as usize, 4);
+        let p = marks::less(r.end as usize, 4);
         let l = library_number(s, table, n, p);
         return put::put_number(out, l.0);
     }
@@ -284,17 +210,6 @@ fn put_class(out: &mut [u8], s: &[u8], table: &[u32], n: usize, r: Row) -> usize
     put::add_up(a, b)
 }
 
-// A class's first row has its own number as link.
-fn is_first(i: usize, r: Row) -> bool
-    requires { ⌜ i < 4294967296 ⌝ }
-    ensures { λ q. ⌜ q ≡ isFirst i r ⌝ }
-{
-    if table::is_class(r.kind) {
-        return (r.link as usize) == i + 1;
-    }
-    false
-}
-
 // The first object of a class in full, after the libraries that it needs.
 fn put_first(out: &mut [u8], s: &[u8], table: &[u32], n: usize, r: Row) -> usize
     requires { ⌜ (n ≤ roomOf (now table)) × (n < 4294967296) ⌝ }
@@ -311,10 +226,10 @@ fn put_object(out: &mut [u8], s: &[u8], table: &[u32], n: usize, i: usize, r: Ro
     requires { ⌜ (n ≤ roomOf (now table)) × (n < 4294967296) × (i < 4294967296) ⌝ }
     ensures { λ q. ⌜ Filled (objectOut (now (s .entry)) (rowsOf n (now (table .entry))) i r) (now (out .entry)) (now (out .exit)) q ⌝ }
 {
-    if is_first(i, r) {
+    if marks::is_first(i, r) {
         return put_first(out, s, table, n, r);
     }
-    let t = row_named(table, n, r.link);
+    let t = marks::row_named(table, n, r.link);
     put::put_by_id(out, ObjectNo(r.id), ObjectNo(t.id))
 }
 
@@ -366,9 +281,9 @@ fn put_array(out: &mut [u8], s: &[u8], table: &[u32], n: usize, r: Row) -> usize
     requires { ⌜ (n ≤ roomOf (now table)) × (n < 4294967296) ⌝ }
     ensures { λ q. ⌜ Filled (arrayOut (now (s .entry)) (rowsOf n (now (table .entry))) r) (now (out .entry)) (now (out .exit)) q ⌝ }
 {
-    let p = item_type(s, r);
+    let p = marks::item_type(s, r);
     let kind = types::byte_at(s, p);
-    let e = after_info(s, kind, p + 1);
+    let e = marks::after_info(s, kind, p + 1);
     let a = put_need_info(out, s, table, n, kind, e);
     let from = put::least(a, out.len());
     let b = put_body(&mut out[from..], s, table, n, p, e, r);
@@ -404,12 +319,12 @@ fn put_record(out: &mut [u8], s: &[u8], table: &[u32], n: usize, i: usize, r: Ro
     let kind = r.kind;
     match kind {
         0 => {
-            let t = row_named(table, n, r.link);
+            let t = marks::row_named(table, n, r.link);
             put::put_header(out, ObjectNo(t.id))
         }
         1 => {
-            let c = row_named(table, n, r.link);
-            let t = row_named(table, n, c.link);
+            let c = marks::row_named(table, n, r.link);
+            let t = marks::row_named(table, n, c.link);
             put::put_by_id(out, ObjectNo(r.id), ObjectNo(t.id))
         }
         4 => put_object(out, s, table, n, i, r),
@@ -417,7 +332,7 @@ fn put_record(out: &mut [u8], s: &[u8], table: &[u32], n: usize, i: usize, r: Ro
         6 => put_string(out, s, r),
         7 => put_array(out, s, table, n, r),
         9 => {
-            let t = row_named(table, n, r.link);
+            let t = marks::row_named(table, n, r.link);
             put::put_head(out, 9, t.id)
         }
         10 => 0,

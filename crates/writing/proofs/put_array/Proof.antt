@@ -1,7 +1,7 @@
 -- The library that the item type needs, then the array. The place of the item type is small, since the rank is a number of four bytes.
 use native.Mathlib.Omega.{arith}
 use Rattle.put.specs.Put.{joined-as}
-use Rattle.writing.specs.Places.{item-below}
+use Rattle.marks.specs.Places.{item-below}
 use Rattle.writing.specs.Laws.{array-is}
 use borrow.Author.Needs.{needs}
 use Rattle.writing.proofs.put_array.Statement.{statement}
