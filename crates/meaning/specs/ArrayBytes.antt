@@ -1,0 +1,141 @@
+-- The bytes written for a BinaryArray are those of the array that it says, with its new number and the new number of its items' library.
+use Prim.Native.Nat.{ℕ, zero, suc, _+_, _-_, _*_, _≤_, _<_}
+use mathlib.Core.Path.{_≡_, refl, sym, ap, ap₂, subst, _∙_}
+use mathlib.Core.List.{List, [], _∷_, _++_}
+use native.Mathlib.Omega.{arith}
+use lib.ListN.{length, getD}
+use lib.Dec.{eqb}
+use Rattle.format.specs.declared.Field.the-variants as F
+use Rattle.format.specs.declared.Row.{Row}
+use Rattle.format.specs.Bytes.{pick}
+use Rattle.format.specs.Numbers.{leBytes}
+use Rattle.format.specs.Types.{typeByteAt}
+use Rattle.format.specs.Records.{infoKnown}
+use Rattle.format.specs.Contents.{Detail, typeByte, infoBytes, numbersBytes, array, enc}
+use Rattle.format.specs.Says.{anArray, numberFrom, numbersFrom, detailFrom, afterInfo, arrayFrom}
+use Rattle.format.specs.Tidy.{Libraries, detailNeeds, detailBy}
+use Rattle.fields.specs.Parts.{part-through}
+use Rattle.num.specs.Le.{Bytes}
+use Rattle.num.specs.Read.{u32-says}
+use Rattle.prefix.specs.Both.{part-cons}
+use Rattle.types.specs.Keeps.{type-told}
+use Rattle.put.specs.Out.{between, headOut}
+use Rattle.marks.specs.Marks.{itemType}
+use Rattle.writing.specs.Copy.{infoOut, itemsOut, bodyOut}
+use Rattle.meaning.specs.Stands.{ArrayStands}
+use Rattle.meaning.specs.Marked.{All, arrayFields, namesOf}
+use Rattle.meaning.specs.Bytes.{joined, number-there, between-none, info-place, type-is, same-type, needs-is, Numbered, field-of, info-is}
+
+-- ---- lengths
+
+pub numbers-count : (s : List ℕ) (n p : ℕ) → length (numbersFrom s n p) ≡ n
+unfolding numbersFrom
+numbers-count s zero p = refl
+numbers-count s (suc n) p = ap suc (numbers-count s n (p + 4))
+
+pub numbers-is : (s : List ℕ) → Bytes s → (n p e : ℕ) → e ≡ p + 4 * n → e ≤ length s → between s p e ≡ numbersBytes (numbersFrom s n p)
+unfolding numbersFrom
+numbers-is s byte zero p e d h = between-none s p e (omega arith)
+numbers-is s byte (suc n) p e d h =
+    part-through s p (p + 4) e (omega arith) (omega arith)
+    ∙ ap₂ (λ (x y : List ℕ). x ++ y) (number-there s byte p (omega arith)) (numbers-is s byte n (p + 4) e (omega arith) h)
+
+-- ---- what a row of kind 7 says, field by field
+
+abbrev pub arrayItem : List ℕ → List Row → Row → Detail (List ℕ)
+arrayItem s rows r = detailFrom s rows (getD s (itemType s r) 0) (itemType s r + 1)
+
+-- where its items begin
+abbrev pub itemsPlace : List ℕ → Row → ℕ
+itemsPlace s r = afterInfo s (getD s (itemType s r) 0) (itemType s r + 1)
+
+abbrev pub arrayLengths : List ℕ → Row → List ℕ
+arrayLengths s r = numbersFrom s (numberFrom s (r .offset + 6)) (r .offset + 10)
+
+pub array-from : (s : List ℕ) (rows : List Row) (r : Row)
+    → arrayFrom s rows r ≡ anArray (getD s (r .offset + 5) 0) (arrayLengths s r) (arrayItem s rows r) (between s (itemsPlace s r) (r .end))
+unfolding arrayFrom itemType
+array-from s rows r = refl
+
+-- ---- the record
+
+-- array type, rank, lengths and item type in one part
+lengths-is : (s : List ℕ) → Bytes s → (o rank p : ℕ) → p ≡ o + 10 + 4 * rank → p < length s → numberFrom s (o + 6) ≡ rank
+    → between s (o + 5) (p + 1) ≡ getD s (o + 5) 0 ∷ (leBytes 4 rank ++ (numbersBytes (numbersFrom s rank (o + 10)) ++ (getD s p 0 ∷ [])))
+lengths-is s byte o rank p d h n =
+    let x : o + 5 + 1 ≡ o + 6 = omega arith in
+    let y : o + 6 + 4 ≡ o + 10 = omega arith in
+    let z : p + 1 - (p + 1) ≡ 0 = omega arith in
+    let number = rw (y, n) at (number-there s byte (o + 6) (omega arith)) in
+    let last : between s p (p + 1) ≡ getD s p 0 ∷ [] = part-cons s p (p + 1) h (omega arith) ∙ rw z in
+    part-cons s (o + 5) (p + 1) (omega arith) (omega arith)
+    ∙ ap (λ (l : List ℕ). getD s (o + 5) 0 ∷ l)
+    (rw x
+    (part-through s (o + 6) (o + 10) (p + 1) (omega arith) (omega arith)
+    ∙ ap₂ (λ (x y : List ℕ). x ++ y) number
+    (part-through s (o + 10) p (p + 1) (omega arith) (omega arith)
+    ∙ ap₂ (λ (x y : List ℕ). x ++ y) (numbers-is s byte rank (o + 10) p d (omega arith)) last)))
+
+module _ (s : List ℕ) (byte : Bytes s) (rows rs : List Row) (ls : Libraries) where
+  array-bytes : (o end id rank p e : ℕ) → p ≡ o + 10 + 4 * rank → numberFrom s (o + 6) ≡ rank → typeByteAt s p ≡ F.End (p + 1)
+      → infoKnown s rows (getD s p 0) (p + 1) ≡ F.End e → (getD s p 0 ≡ 4 → Numbered s rows rs ls (e - 4))
+      → headOut 7 id ++ (between s (o + 5) (p + 1) ++ (infoOut s rs (getD s p 0) (p + 1) e ++ between s e end))
+      ≡ enc (array id (getD s (o + 5) 0) (numbersFrom s rank (o + 10)) (detailBy ls (detailFrom s rows (getD s p 0) (p + 1))) (between s e end))
+  unfolding enc
+  array-bytes o end id rank p e d n t i f =
+      let w = type-told s p (p + 1) t in
+      let type = getD s p 0 in
+      let item = detailBy ls (detailFrom s rows type (p + 1)) in
+      let lengths = numbersBytes (numbersFrom s rank (o + 10)) in
+      let b : type ≡ typeByte item = sym (same-type ls (detailFrom s rows type (p + 1)) ∙ type-is s rows type (p + 1) (w .0)) in
+      let k : rank ≡ length (numbersFrom s rank (o + 10)) = sym (numbers-count s rank (o + 10)) in
+      ap₂ (λ (x y : List ℕ). 7 ∷ (leBytes 4 id ++ (x ++ (y ++ between s e end)))) (lengths-is s byte o rank p d (w .1) n)
+      (info-is s byte rows rs ls type (p + 1) e (w .0) i f)
+      ∙ ap (λ (l : List ℕ). 7 ∷ (leBytes 4 id ++ (getD s (o + 5) 0 ∷ l))) (joined (leBytes 4 rank) lengths (type ∷ []) (infoBytes item ++ between s e end))
+      ∙ ap₂ (λ (x y : ℕ). 7 ∷ (leBytes 4 id ++ (getD s (o + 5) 0 ∷ (leBytes 4 x ++ (lengths ++ (y ∷ (infoBytes item ++ between s e end))))))) k b
+
+-- what stands at the item type
+record ItemStands (s : List ℕ) (rows : List Row) (r : Row) : Type 0 where
+  typed : typeByteAt s (itemType s r) ≡ F.End (itemType s r + 1)
+  known : infoKnown s rows (getD s (itemType s r) 0) (itemType s r + 1) ≡ F.End (itemsPlace s r)
+
+item-stands : (s : List ℕ) (rows : List Row) (r : Row) → ArrayStands s rows r → ItemStands s rows r
+unfolding itemType
+item-stands s rows r c =
+    let n : c .rank ≡ numberFrom s (r .offset + 6) = u32-says s (r .offset + 6) (c .rank) (r .offset + 10) (c .ranked) .value in
+    let known = subst (λ (k : ℕ). infoKnown s rows (getD s (r .offset + 10 + 4 * k) 0) (r .offset + 10 + 4 * k + 1) ≡ F.End (c .info-end)) n (c .info) in
+    record {
+      typed = subst (λ (k : ℕ). typeByteAt s (r .offset + 10 + 4 * k) ≡ F.End (r .offset + 10 + 4 * k + 1)) n (c .typed);
+      known = known ∙ ap F.End (sym (info-place s rows (getD s (itemType s r) 0) (itemType s r + 1) (c .info-end) known));
+    }
+
+-- a row q that is as r is, but for its number
+module _ (s : List ℕ) (rows : List Row) (r : Row) (c : ArrayStands s rows r) (q : Row) (o : q .offset ≡ r .offset) where
+  array-fields : arrayFields s q ≡ pick (eqb (getD s (itemType s r) 0) 4) ((itemsPlace s r - 4) ∷ []) []
+  unfolding arrayFields itemType
+  array-fields = rw o
+
+  pub array-need : namesOf s rows (arrayFields s q) ≡ detailNeeds (arrayItem s rows r)
+  array-need =
+      let i = item-stands s rows r c in
+      let w = type-told s (itemType s r) (itemType s r + 1) (i .typed) in
+      ap (namesOf s rows) array-fields ∙ needs-is s rows (getD s (itemType s r) 0) (itemType s r + 1) (itemsPlace s r) (w .0) (i .known)
+
+  module _ (e : q .end ≡ r .end) (rs : List Row) where
+    array-out : bodyOut s rs (itemType s q) (itemsPlace s q) q
+        ≡ headOut 7 (q .id) ++ (between s (r .offset + 5) (itemType s r + 1)
+        ++ (infoOut s rs (getD s (itemType s r) 0) (itemType s r + 1) (itemsPlace s r) ++ between s (itemsPlace s r) (r .end)))
+    unfolding bodyOut itemsOut itemType
+    array-out = rw (o, e)
+
+    pub array-is : (byte : Bytes s) (ls : Libraries) → All (Numbered s rows rs ls) (arrayFields s q)
+        → bodyOut s rs (itemType s q) (itemsPlace s q) q
+        ≡ enc (array (q .id) (getD s (r .offset + 5) 0) (arrayLengths s r) (detailBy ls (arrayItem s rows r)) (between s (itemsPlace s r) (r .end)))
+    unfolding itemType
+    array-is byte ls a =
+        let i = item-stands s rows r c in
+        let P = Numbered s rows rs ls in
+        let b = subst (All P) array-fields a in
+        array-out
+        ∙ array-bytes s byte rows rs ls (r .offset) (r .end) (q .id) (numberFrom s (r .offset + 6)) (itemType s r) (itemsPlace s r) refl refl (i .typed) (i .known)
+        (field-of P (getD s (itemType s r) 0) (itemsPlace s r - 4) b)

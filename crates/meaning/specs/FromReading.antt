@@ -1,0 +1,225 @@
+-- The rows of an accepted stream stand in it: what each record's fields say where the row says they do, with the links in the rows.
+use Prim.Native.Nat.{ℕ, suc, _+_, _-_, _≤_, _<_}
+use mathlib.Core.Path.{_≡_, sym, ap, subst, _∙_}
+use mathlib.Core.Bool.{Bool, true, false}
+use mathlib.Core.List.{List}
+use native.Mathlib.Omega.{arith}
+use lib.ListN.{length, getD, take}
+use Rattle.format.specs.declared.Number32.the-variants as N32
+use Rattle.format.specs.declared.Field.the-variants as F
+use Rattle.format.specs.declared.Row.{Row}
+use Rattle.format.specs.Values.{times}
+use Rattle.format.specs.Types.{typeByteAt, nameAt}
+use Rattle.format.specs.Rows.{blank, isClass, withLink, linkOf, linked}
+use Rattle.format.specs.Records.{infosAt, afterInfos}
+use Rattle.format.specs.Says.{isNulls}
+use Rattle.format.specs.Machine.{accepted, readOf}
+use Rattle.types.specs.Keeps.{name-told}
+use Rattle.table.specs.Links.{length-linked, linked-at}
+use Rattle.standing.specs.Standing.{Known, Recorded, Owned, apart, within, record-at, row-moves}
+use Rattle.standing.specs.Standing as K
+use Rattle.standing.specs.Accepted.{Taken, accepted-stands}
+use Rattle.standing.specs.Fields.{Class, class-places, system-row, class-row}
+use Rattle.standing.specs.Plain.{string-row, library-row, typed-row, end-row, null-row, nulls-row, long-nulls-row}
+use Rattle.standing.specs.Arrays.{array-row, primitives-row, objects-row, strings-row}
+use Rattle.standing.specs.Linked.{same-kind, same-offset, same-end, same-owner, same-slot, to-class-linked, ToObject, to-object-linked, reference-link, root-link, owned-linked}
+use Rattle.standing.specs.Known.{Later, first-later, own-later, info-later, infos-later}
+use Rattle.standing.specs.Members.{membersIn, members-fit, members-linked}
+use Rattle.meaning.specs.Stands.{Target, StringStands, OwnStands, of-system, of-library, ClassStands, ArrayStands, Owner, no-owner, owned, RowStands, the-header, by-id, a-class, a-string, an-array, a-primitive, a-reference, nulls, the-end, a-library, primitives, objects, texts, a-value, Stands}
+
+-- ---- links and owners
+
+target : (rows : List Row) (id link : ℕ) → ToObject rows id link → Target rows link
+target rows id link w =
+    let a = w .some in
+    record { row = link - 1; link-is = omega arith; inside = w .found .inside; object = w .found .kind }
+
+owner-is : (rows : List Row) (i o : ℕ) → i ≤ length rows → Owned rows i o → Owner rows o
+owner-is rows i o h (apart e) = no-owner e
+owner-is rows i o h (within a b k) = owned (record { row = o - 1; link-is = omega arith; inside = omega arith; object = k })
+
+-- ---- records
+
+string-stands : (s : List ℕ) (p e : ℕ) → nameAt s p ≡ F.End e → StringStands s p e
+string-stands s p e q =
+    let w = name-told s p e q in
+    record { from = w .0; text = w .1 }
+
+-- a record among the rows, with a link
+module _ {s : List ℕ} {before rows : List Row} {r : Row} (later : Later before rows) (w : Recorded s before r) (inside : r .end ≤ length s) (link : ℕ) where
+  class-stands : (own : Bool) → Class s before own (r .offset) (w .head)
+      → ((p : ℕ) → afterInfos own s before p ≡ F.End (r .end) → OwnStands s rows (withLink r link) p)
+      → ClassStands s rows (withLink r link)
+  class-stands own c after =
+      let h = w .head in
+      let n : h .count ≡ r .count = sym (w .same-count) in
+      let places = class-places s before own (r .offset) h c in
+      let f : c .infos ≡ h .link + r .count = places .2 ∙ ap (λ (k : ℕ). h .link + k) n in
+      record {
+        name-end = c .counts;
+        named = subst (λ (p : ℕ). nameAt s p ≡ F.End (c .counts)) (places .0) (c .name-at);
+        counted = c .count-at ∙ (ap (λ (k : ℕ). N32.Value k (c .names)) n ∙ ap (N32.Value (r .count)) (places .1));
+        types = h .link;
+        names =
+            subst (λ (p : ℕ). times (nameAt s) (r .count) p ≡ F.End (h .link)) (places .1)
+            (subst (λ (k : ℕ). times (nameAt s) k (c .names) ≡ F.End (h .link)) n (c .names-at));
+        type-bytes = subst (λ (k : ℕ). times (typeByteAt s) k (h .link) ≡ F.End (c .infos)) n (c .types-at) ∙ ap F.End f;
+        infos-end = c .after;
+        infos =
+            infos-later s later (r .count) (h .link) (h .link + r .count) (c .after)
+            (subst (λ (p : ℕ). infosAt s before (r .count) (h .link) p ≡ F.End (c .after)) f
+            (subst (λ (k : ℕ). infosAt s before k (h .link) (c .infos) ≡ F.End (c .after)) n (c .infos-at)));
+        own = after (c .after) (c .after-at ∙ ap F.End (sym (w .same-end)));
+        inside = inside;
+      }
+
+  system-stands : r .kind ≡ 4 → ClassStands s rows (withLink r link)
+  system-stands k = class-stands false (system-row w k) (λ p q. of-system k cc)
+
+  library-class-stands : r .kind ≡ 5 → ClassStands s rows (withLink r link)
+  library-class-stands k = class-stands true (class-row w k) (λ p q. of-library k (own-later s later p (r .end) q))
+
+  array-stands : r .kind ≡ 7 → ArrayStands s rows (withLink r link)
+  array-stands k =
+      let a = array-row w k in
+      record {
+        rank = a .rank;
+        ranked = a .rank-at;
+        typed = a .type-at;
+        info-end = a .info-end;
+        info = info-later s later _ _ (a .info-end) (a .info-at);
+        items = a .items;
+        inside = inside;
+      }
+
+-- ---- the rows of an accepted stream
+
+module _ {s : List ℕ} {room : ℕ} {rows : List Row} (bytes : (i : ℕ) → getD s i 0 < 256) (t : Taken s room rows) where
+  abbrev all : List Row
+  all = linked (t .raw)
+
+  size : length all ≡ length (t .raw)
+  size = length-linked (t .raw)
+
+  root-target : Target all (getD all 0 blank .link)
+  root-target = target all _ _ (to-object-linked (t .raw) _ _ (root-link t))
+
+  module _ (i : ℕ) (h : i < length (t .raw)) where
+    abbrev row : Row
+    row = getD (t .raw) i blank
+
+    moves : (row .offset < row .end) × (row .end ≤ length s)
+    moves = row-moves (t .stands) i h
+
+    known : Later (take i (t .raw)) all
+    known = first-later i (t .raw)
+
+    recorded : (n : ℕ) → n < 32 → row .kind ≡ n → Recorded s (take i (t .raw)) row
+    recorded n l k = record-at (t .stands) i h (λ e. omega arith)
+
+    with-link : RowStands s all i (withLink row (linkOf (t .raw) row)) → RowStands s all i (getD all i blank)
+    with-link x = subst (λ (r : Row). RowStands s all i r) (sym (linked-at (t .raw) i h)) x
+
+    by-kind : Known (row .kind) → RowStands s all i (getD all i blank)
+    by-kind (K.header k) =
+        let z : 0 ≡ i = sym (t .stands .header-first i h k) in
+        the-header (sym z) (same-kind (t .raw) i ∙ k) (subst (λ (j : ℕ). Target all (getD all j blank .link)) z root-target)
+    by-kind (K.class-by-id k) =
+        let c = to-class-linked (t .stands) i h k in
+        let a = c .some in
+        by-id (same-kind (t .raw) i ∙ k) (getD all i blank .link - 1) (omega arith) (c .before) (c .class)
+    by-kind (K.system-class k) = with-link (a-class (ap isClass k) (system-stands known (recorded 4 (omega arith) k) (moves .1) _ k))
+    by-kind (K.class k) = with-link (a-class (ap isClass k) (library-class-stands known (recorded 5 (omega arith) k) (moves .1) _ k))
+    by-kind (K.string k) = with-link (a-string k (string-stands s _ _ (string-row (recorded 6 (omega arith) k) k)))
+    by-kind (K.binary-array k) = with-link (an-array k (array-stands known (recorded 7 (omega arith) k) (moves .1) _ k))
+    by-kind (K.typed-primitive k) =
+        let w = typed-row (recorded 8 (omega arith) k) k in
+        with-link (a-primitive k (w .0) (omega (arith, w .1)) (moves .1))
+    by-kind (K.reference k) = a-reference (same-kind (t .raw) i ∙ k) (target all _ _ (to-object-linked (t .raw) _ _ (reference-link t i h k)))
+    by-kind (K.null k) = with-link (nulls (ap isNulls k) (null-row (recorded 10 (omega arith) k) k))
+    by-kind (K.ending k) =
+        let e : suc i ≡ length all = t .stands .end-last i h k ∙ sym size in
+        with-link (the-end k e (end-row (recorded 11 (omega arith) k) k))
+    by-kind (K.library k) = with-link (a-library k (string-stands s _ _ (library-row (recorded 12 (omega arith) k) k)))
+    by-kind (K.nulls k) = with-link (nulls (ap isNulls k) (nulls-row (recorded 13 (omega arith) k) (bytes (row .offset + 1)) k))
+    by-kind (K.long-nulls k) = with-link (nulls (ap isNulls k) (long-nulls-row (recorded 14 (omega arith) k) k))
+    by-kind (K.primitive-array k) =
+        let w = primitives-row (recorded 15 (omega arith) k) k in
+        with-link (primitives k (w .count-at) (w .code-at) (w .items) (moves .1))
+    by-kind (K.object-array k) =
+        let w = objects-row (recorded 16 (omega arith) k) k in
+        with-link (objects k (w .count-at) (w .ends))
+    by-kind (K.string-array k) =
+        let w = strings-row (recorded 17 (omega arith) k) k in
+        with-link (texts k (w .count-at) (w .ends))
+    by-kind (K.value k) = with-link (a-value k (moves .0) (moves .1))
+
+    kind-byte : (getD all i blank .kind ≡ 32 → ⊥) → getD s (getD all i blank .offset) 0 ≡ getD all i blank .kind
+    kind-byte n =
+        ap (λ (p : ℕ). getD s p 0) (same-offset (t .raw) i)
+        ∙ (record-at (t .stands) i h (λ e. n (same-kind (t .raw) i ∙ e)) .byte ∙ sym (same-kind (t .raw) i))
+
+    forward : getD all i blank .offset < getD all i blank .end
+    forward =
+        let a = same-offset (t .raw) i in
+        let b = same-end (t .raw) i in
+        omega (arith, moves .0)
+
+    inside : getD all i blank .end ≤ length s
+    inside =
+        let b = same-end (t .raw) i in
+        omega (arith, moves .1)
+
+    owner : Owner all (getD all i blank .owner)
+    owner =
+        let l = size in
+        owner-is all i _ (omega arith)
+        (subst (λ (o : ℕ). Owned all i o) (sym (same-owner (t .raw) i)) (owned-linked (t .raw) i _ (t .stands .owners i h)))
+
+  all-stand : Stands s all
+  all-stand =
+      let l = size in
+      let w = t .stands in
+      let c = w .counted in
+      let f = w .fits in
+      let n = w .some in
+      let within : (i : ℕ) → i < length all → i < length (t .raw) = λ i h. omega arith in
+      record {
+        bytes = bytes;
+        small = f;
+        few = omega arith;
+        some = omega arith;
+        first = same-kind (t .raw) 0 ∙ w .headed;
+        last =
+            same-kind (t .raw) (length all - 1)
+            ∙ subst (λ (n : ℕ). getD (t .raw) (n - 1) blank .kind ≡ 11) (sym l) (w .closed);
+        each = λ i h. by-kind i (within i h) (w .kinds i (within i h));
+        owners = λ i h. owner i (within i h);
+        kind-byte = λ i h. kind-byte i (within i h);
+        forward = λ i h. forward i (within i h);
+        next = λ i h. same-offset (t .raw) (suc i) ∙ (w .next i (within (suc i) h) ∙ sym (same-end (t .raw) i));
+        inside = λ i h. inside i (within i h);
+      }
+
+pub stands : (s : List ℕ) → ((i : ℕ) → getD s i 0 < 256) → (room : ℕ) (rows : List Row) → readOf s room ≡ accepted rows → Stands s rows
+stands s bytes room rows e =
+    let t = accepted-stands s room rows e in
+    subst (λ (rows : List Row). Stands s rows) (sym (t .same)) (all-stand bytes t)
+
+-- the members of all classes are no more than the stream has bytes
+pub members-small : (s : List ℕ) (room : ℕ) (rows : List Row) → readOf s room ≡ accepted rows → membersIn rows ≤ length s
+members-small s room rows e =
+    let t = accepted-stands s room rows e in
+    let a = members-fit (t .stands) in
+    let b : membersIn rows ≡ membersIn (t .raw) = ap membersIn (t .same) ∙ members-linked (t .raw) in
+    omega arith
+
+-- a library fills no slot
+pub library-slots : (s : List ℕ) (room : ℕ) (rows : List Row) → readOf s room ≡ accepted rows
+    → (i : ℕ) → i < length rows → getD rows i blank .kind ≡ 12 → getD rows i blank .slot ≡ 0
+library-slots s room rows e =
+    let t = accepted-stands s room rows e in
+    subst (λ (rows : List Row). (i : ℕ) → i < length rows → getD rows i blank .kind ≡ 12 → getD rows i blank .slot ≡ 0) (sym (t .same))
+    (λ i h k.
+    let l : length (linked (t .raw)) ≡ length (t .raw) = length-linked (t .raw) in
+    same-slot (t .raw) i ∙ t .stands .libraries i (omega arith) (sym (same-kind (t .raw) i) ∙ k))

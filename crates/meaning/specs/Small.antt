@@ -1,0 +1,369 @@
+-- The copy of a stream of at most 16,777,216 bytes, written from a table of at most as many rows, is far shorter than the greatest usize.
+-- Rows, links and places may be invented: no part is longer than the stream, and a row writes at most four parts, and two more for each member.
+use Prim.Native.Nat.{ℕ, zero, suc, _+_, _-_, _*_, _/_, _%_, _≤_}
+use mathlib.Core.Path.{_≡_, refl, sym, ap, _∙_}
+use mathlib.Core.Bool.{Bool, true, false, _||_}
+use mathlib.Core.List.{List, [], _∷_, _++_}
+use native.Mathlib.Omega.{arith}
+use lib.ListN.{length, getD, set, length-take, length-drop, length-append, length-set}
+use lib.Dec.{eqb, leb, ltb}
+use borrow.Author.Tests.{eqb-true}
+use Rattle.format.specs.declared.Row.{Row}
+use Rattle.format.specs.declared.Prefix.{Prefix}
+use Rattle.format.specs.declared.Prefix.the-variants as P
+use Rattle.format.specs.Bytes.{pick, part}
+use Rattle.format.specs.Numbers.{leBytes}
+use Rattle.format.specs.Prefix.{groupsOf, prefixAt, prefixBytes}
+use Rattle.format.specs.Contents.{Rec, enc, encs}
+use Rattle.format.specs.Tidy.{runOf}
+use Rattle.format.specs.Rows.{blank, isObject, isClass, withLink}
+use Rattle.format.specs.Says.{afterInfo, isNulls}
+use Rattle.num.specs.Le.{length-leBytes}
+use Rattle.fields.specs.Judged.{picked}
+use Rattle.standing.specs.Members.{membersOf, membersIn}
+use Rattle.put.specs.Out.{textOver, textOut, byIdOut, headerOut, runOut}
+use Rattle.marks.specs.Marks.{Pass, pass, sweep, rowAt, withId, withSlot, withCount, word, numberOne, numbered, firstLibrary, typesPlace, placeOne, placed, libraryAt, infosPlace, firstClass, firstOne, firsts, need, needInfo, needInfos, needClass, itemType, needArray, isFirst, needOne, needed, marked}
+use Rattle.writing.specs.declared.Gathered.{Gathered}
+use Rattle.writing.specs.Copy.{libraryNumber, libraryOut, needOut, needInfoOut, needInfosOut, needOwnOut, needClassOut, infoOut, infosOut, ownOut, detailsOut, classOut, objectOut, itemsOut, bodyOut, arrayOut, keptOut, stringOut, recordOut, beforeOut, isPassed, runAfter, rowOut, noneYet, copyFrom, copyOf}
+use Rattle.meaning.specs.Passes.{swept}
+
+-- ---- lengths: a part of the stream has at most 16777216 bytes; what is added to it are prefixes, kind bytes and numbers
+
+abbrev Within : ℕ → List ℕ → Type 0
+Within n l = length l ≤ n
+
+joined : (a b : List ℕ) (m n : ℕ) → length a ≤ m → length b ≤ n → length (a ++ b) ≤ m + n
+joined a b m n h k = rw (length-append a b) (omega arith)
+
+number-long : (n : ℕ) → length (leBytes 4 n) ≤ 4
+number-long n = let e = length-leBytes 4 n in omega arith
+
+-- a kind byte and a number before bytes
+headed : (kind n : ℕ) (l : List ℕ) (m : ℕ) → length l ≤ m → length ((kind ∷ leBytes 4 n) ++ l) ≤ 5 + m
+headed kind n l m h = let a = number-long n in joined (kind ∷ leBytes 4 n) l 5 m (omega arith) h
+
+groups-few : (k n : ℕ) → length (groupsOf k n) ≤ suc k
+unfolding groupsOf
+groups-few zero n = omega arith
+groups-few (suc k) n = go (ltb n 128) (groups-few k (n / 128))
+  where
+    go : (t : Bool) → length (groupsOf k (n / 128)) ≤ suc k → length (pick t (n ∷ []) ((128 + n % 128) ∷ groupsOf k (n / 128))) ≤ suc (suc k)
+    go true h = omega arith
+    go false h = omega arith
+
+run-long : (n : ℕ) → length (runOut n) ≤ 5
+unfolding runOut runOf encs enc
+run-long n =
+    let many = headed 14 n [] 0 (omega arith) in
+    let none : 0 ≤ 5 = omega arith in
+    let one : 1 ≤ 5 = omega arith in
+    let two : 2 ≤ 5 = omega arith in
+    picked Few (eqb n 0) (λ e. none) (λ e. picked Few (eqb n 1) (λ e. one) (λ e. picked Few (leb n 255) (λ e. two) (λ e. many)))
+  where
+    Few : List Rec → Type 0
+    Few l = length (encs l) ≤ 5
+
+by-id-long : (a b : ℕ) → length (byIdOut a b) ≤ 9
+unfolding byIdOut
+by-id-long a b = headed 1 a (leBytes 4 b) 4 (number-long b)
+
+header-long : (root : ℕ) → length (headerOut root) ≤ 17
+unfolding headerOut
+header-long root =
+    let versions = leBytes 4 1 ++ leBytes 4 0 in
+    let a = joined (leBytes 4 1) (leBytes 4 0) 4 4 (number-long 1) (number-long 0) in
+    headed 0 root (leBytes 4 root ++ versions) 12 (joined (leBytes 4 root) versions 4 8 (number-long root) a)
+
+-- ---- what is written of one row
+
+module _ (s : List ℕ) (short : length s ≤ 16777216) where
+  part-long : (a n : ℕ) → length (part s a n) ≤ 16777216
+  part-long a n = simp (length-take, length-drop) (omega arith)
+
+  text-long : (p e : ℕ) → length (textOut s p e) ≤ 16777221
+  unfolding textOut
+  text-long p e = go (prefixAt s p)
+    where
+      go : (x : Prefix) → length (textOver s p e x) ≤ 16777221
+      go (P.Length n next) = joined (prefixBytes n) (part s next (e - next)) 5 16777216 (groups-few 4 n) (part-long next (e - next))
+      go (P.Fault f) = let a = part-long p (e - p) in omega arith
+
+  library-long : (g : Row) → length (libraryOut s g) ≤ 16777226
+  unfolding libraryOut
+  library-long g = headed 12 (g .link) (textOut s (g .offset + 5) (g .end)) 16777221 (text-long (g .offset + 5) (g .end))
+
+  kept-long : (r : Row) → length (keptOut s r) ≤ 16777221
+  unfolding keptOut
+  kept-long r =
+      let a = r .offset + 5 in
+      headed (r .kind % 256) (r .id) (part s a (r .end - a)) 16777216 (part-long a (r .end - a))
+
+  string-long : (r : Row) → length (stringOut s r) ≤ 16777226
+  unfolding stringOut
+  string-long r = headed 6 (r .id) (textOut s (r .offset + 5) (r .end)) 16777221 (text-long (r .offset + 5) (r .end))
+
+  module _ (rs : List Row) where
+    need-long : (p : ℕ) → length (needOut s rs p) ≤ 16777226
+    unfolding needOut
+    need-long p =
+        let g = rowAt rs (libraryAt s rs p) in
+        picked (Within 16777226) (eqb (g .slot) (word (p + 1))) (λ q. library-long g) (λ q. omega arith)
+
+    need-info-long : (type e : ℕ) → length (needInfoOut s rs type e) ≤ 16777226
+    unfolding needInfoOut
+    need-info-long type e = picked (Within 16777226) (eqb type 4) (λ q. need-long (e - 4)) (λ q. omega arith)
+
+    need-infos-long : (n types p : ℕ) → length (needInfosOut s rs n types p) ≤ 16777226 * n
+    unfolding needInfosOut
+    need-infos-long zero types p = omega arith
+    need-infos-long (suc n) types p =
+        let type = getD s types 0 in
+        let e = afterInfo s type p in
+        let one = need-info-long type e in
+        let others = need-infos-long n (types + 1) e in
+        let a = joined (needInfoOut s rs type e) (needInfosOut s rs n (types + 1) e) 16777226 (16777226 * n) one others in
+        omega arith
+
+    need-class-long : (r : Row) → length (needClassOut s rs r) ≤ 16777226 * r .count + 16777226
+    unfolding needClassOut
+    need-class-long r =
+        let own : length (needOwnOut s rs r) ≤ 16777226 = picked (Within 16777226) (eqb (r .kind) 5) (λ q. need-long (r .end - 4)) (λ q. omega arith) in
+        joined (needInfosOut s rs (r .count) (r .slot) (infosPlace r)) (needOwnOut s rs r) (16777226 * r .count) 16777226
+        (need-infos-long (r .count) (r .slot) (infosPlace r)) own
+
+    info-long : (type p e : ℕ) → length (infoOut s rs type p e) ≤ 16777220
+    unfolding infoOut
+    info-long type p e =
+        let n = libraryNumber s rs (e - 4) in
+        let a = part-long p (e - p) in
+        let b = joined (part s p (e - 4 - p)) (leBytes 4 n) 16777216 4 (part-long p (e - 4 - p)) (number-long n) in
+        picked (Within 16777220) (eqb type 4) (λ q. b) (λ q. omega arith)
+
+    infos-long : (n types p : ℕ) → length (infosOut s rs n types p) ≤ 16777220 * n
+    unfolding infosOut
+    infos-long zero types p = omega arith
+    infos-long (suc n) types p =
+        let type = getD s types 0 in
+        let e = afterInfo s type p in
+        let one = info-long type p e in
+        let others = infos-long n (types + 1) e in
+        let a = joined (infoOut s rs type p e) (infosOut s rs n (types + 1) e) 16777220 (16777220 * n) one others in
+        omega arith
+
+    details-long : (r : Row) → length (detailsOut s rs r) ≤ 16777220 * r .count + 4
+    unfolding detailsOut
+    details-long r =
+        let n = libraryNumber s rs (r .end - 4) in
+        let own : length (ownOut s rs r) ≤ 4 = picked (Within 4) (eqb (r .kind) 5) (λ q. number-long n) (λ q. omega arith) in
+        joined (infosOut s rs (r .count) (r .slot) (infosPlace r)) (ownOut s rs r) (16777220 * r .count) 4
+        (infos-long (r .count) (r .slot) (infosPlace r)) own
+
+    class-long : (r : Row) → length (classOut s rs r) ≤ 5 + (16777216 + (16777220 * r .count + 4))
+    unfolding classOut
+    class-long r =
+        let a = r .offset + 5 in
+        let n = 16777220 * r .count + 4 in
+        let l = part s a (infosPlace r - a) in
+        headed (r .kind % 256) (r .id) (l ++ detailsOut s rs r) (16777216 + n)
+        (joined l (detailsOut s rs r) 16777216 n (part-long a (infosPlace r - a)) (details-long r))
+
+    object-long : (i : ℕ) (r : Row) → length (objectOut s rs i r) ≤ 33554451 + 33554446 * r .count
+    unfolding objectOut
+    object-long i r =
+        let m = 16777226 * r .count + 16777226 in
+        let n = 5 + (16777216 + (16777220 * r .count + 4)) in
+        let a = joined (needClassOut s rs r) (classOut s rs r) m n (need-class-long r) (class-long r) in
+        let b = by-id-long (r .id) (rowAt rs (r .link) .id) in
+        picked (Within (33554451 + 33554446 * r .count)) (isFirst i r) (λ q. omega arith) (λ q. omega arith)
+
+    items-long : (p e : ℕ) (r : Row) → length (itemsOut s rs p e r) ≤ 33554436
+    unfolding itemsOut
+    items-long p e r =
+        let type = getD s p 0 in
+        joined (infoOut s rs type (p + 1) e) (part s e (r .end - e)) 16777220 16777216 (info-long type (p + 1) e) (part-long e (r .end - e))
+
+    body-long : (p e : ℕ) (r : Row) → length (bodyOut s rs p e r) ≤ 50331657
+    unfolding bodyOut
+    body-long p e r =
+        let a = r .offset + 5 in
+        let l = part s a (p + 1 - a) in
+        headed 7 (r .id) (l ++ itemsOut s rs p e r) 50331652
+        (joined l (itemsOut s rs p e r) 16777216 33554436 (part-long a (p + 1 - a)) (items-long p e r))
+
+    array-long : (r : Row) → length (arrayOut s rs r) ≤ 67108883
+    unfolding arrayOut
+    array-long r =
+        let p = itemType s r in
+        let type = getD s p 0 in
+        let e = afterInfo s type (p + 1) in
+        joined (needInfoOut s rs type e) (bodyOut s rs p e r) 16777226 50331657 (need-info-long type e) (body-long p e r)
+
+    -- m members, if the row is a class's
+    record-long : (i : ℕ) (r : Row) (m : ℕ) → (isClass (r .kind) ≡ true → m ≡ r .count) → length (recordOut s rs i r) ≤ 67108883 * (1 + m)
+    unfolding recordOut
+    record-long i r m w =
+        picked B (eqb k 0) (λ q. let h = header-long (rowAt rs (r .link) .id) in omega arith)
+        (λ q. picked B (eqb k 1) (λ q. let h = by-id-long (r .id) (rowAt rs (rowAt rs (r .link) .link) .id) in omega arith)
+        (λ q. picked B (isClass k) (λ q. let h = object-long i r in let e = w q in omega arith)
+        (λ q. picked B (eqb k 6) (λ q. let h = string-long r in omega arith)
+        (λ q. picked B (eqb k 7) (λ q. let h = array-long r in omega arith)
+        (λ q. picked B (eqb k 9) (λ q. let h = number-long (rowAt rs (r .link) .id) in omega arith)
+        (λ q. picked B (isNulls k || eqb k 12) (λ q. omega arith)
+        (λ q. picked B (eqb k 15 || (eqb k 16 || eqb k 17)) (λ q. let h = kept-long r in omega arith)
+        (λ q. let h = part-long (r .offset) (r .end - r .offset) in omega arith))))))))
+      where
+        k : ℕ
+        k = r .kind
+
+        B : List ℕ → Type 0
+        B = Within (67108883 * (1 + m))
+
+    before-long : (w : Gathered) (r : Row) → length (beforeOut w r) ≤ 5
+    unfolding beforeOut
+    before-long w r =
+        let h = run-long (w .count) in
+        picked (Within 5) (isPassed r) (λ q. omega arith)
+        (λ q. picked (Within 5) (isNulls (r .kind)) (λ q. picked (Within 5) (eqb (r .owner) (w .owner)) (λ q. omega arith) (λ q. h)) (λ q. h))
+
+    row-long : (i : ℕ) (w : Gathered) (r : Row) → length (rowOut s rs i w r) ≤ 67108888 * (1 + membersOf r)
+    unfolding rowOut
+    row-long i w r =
+        let m = membersOf r in
+        let h = record-long i r m (λ q. ap (λ (t : Bool). pick t (r .count) 0) q) in
+        let a = joined (beforeOut w r) (recordOut s rs i r) 5 (67108883 * (1 + m)) (before-long w r) h in
+        omega arith
+
+    -- ---- the copy
+
+    rows-long : (i : ℕ) (w : Gathered) (more : List Row) → length (copyFrom s rs i w more) ≤ 67108888 * (length more + membersIn more) + 5
+    unfolding copyFrom membersIn
+    rows-long i w [] = let h = run-long (w .count) in omega arith
+    rows-long i w (r ∷ more) =
+        let m = 67108888 * (1 + membersOf r) in
+        let n = 67108888 * (length more + membersIn more) + 5 in
+        let others = rows-long (i + 1) (runAfter w r) more in
+        let a = joined (rowOut s rs i w r) (copyFrom s rs (i + 1) (runAfter w r) more) m n (row-long i w r) others in
+        omega arith
+
+-- the copy of any rows
+pub copy-long : (s : List ℕ) (rs : List Row) → length s ≤ 16777216 → length (copyOf s rs) ≤ 67108888 * (length rs + membersIn rs) + 5
+unfolding copyOf
+copy-long s rs h = rows-long s h rs 0 noneYet rs
+
+-- ---- marks change neither the number of rows nor the members of classes
+
+record Kept (rows rs : List Row) : Type 0 where
+  pub size : length rs ≡ length rows
+  pub members : membersIn rs ≡ membersIn rows
+
+members-set : (rs : List Row) (j : ℕ) (r : Row) → membersOf r ≡ membersOf (getD rs j blank) → membersIn (set rs j r) ≡ membersIn rs
+unfolding membersIn
+members-set [] j r e = refl
+members-set (x ∷ rs) zero r e = ap (λ (n : ℕ). n + membersIn rs) e
+members-set (x ∷ rs) (suc j) r e = ap (λ (n : ℕ). membersOf x + n) (members-set rs j r e)
+
+-- a library's count is no class's
+library-members : (r : Row) (n : ℕ) → eqb (r .kind) 12 ≡ true → membersOf (withCount r n) ≡ membersOf r
+library-members r n q =
+    let e : isClass (r .kind) ≡ false = ap isClass (eqb-true (r .kind) 12 q) in
+    ap (λ (t : Bool). pick t n 0) e ∙ sym (ap (λ (t : Bool). pick t (r .count) 0) e)
+
+module _ (rows : List Row) where
+  kept-set : (rs : List Row) (j : ℕ) (r : Row) → membersOf r ≡ membersOf (getD rs j blank) → Kept rows rs → Kept rows (set rs j r)
+  kept-set rs j r e v = record { size = length-set rs j r ∙ v .size; members = members-set rs j r e ∙ v .members }
+
+  abbrev KeptBy : Pass → Type 0
+  KeptBy st = Kept rows (st .rows)
+
+  number-keeps : (i : ℕ) (st : Pass) → KeptBy st → KeptBy (numberOne i st)
+  unfolding numberOne
+  number-keeps i st v =
+      let r = getD (st .rows) i blank in
+      picked KeptBy (isObject (r .kind)) (λ q. kept-set (st .rows) i (withId r (word (st .count + 1))) refl v) (λ q. v)
+
+  place-keeps : (s : List ℕ) (i : ℕ) (rs : List Row) → Kept rows rs → Kept rows (placeOne s i rs)
+  unfolding placeOne
+  place-keeps s i rs v =
+      let r = getD rs i blank in
+      picked (Kept rows) (eqb (r .kind) 12) (λ q. kept-set rs i (withCount r (firstLibrary s rs r)) (library-members r (firstLibrary s rs r) q) v)
+      (λ q. picked (Kept rows) (isClass (r .kind)) (λ q. kept-set rs i (withSlot r (word (typesPlace s r))) refl v) (λ q. v))
+
+  first-keeps : (s : List ℕ) (i : ℕ) (rs : List Row) → Kept rows rs → Kept rows (firstOne s i rs)
+  unfolding firstOne
+  first-keeps s i rs v =
+      let r = getD rs i blank in
+      picked (Kept rows) (isClass (r .kind)) (λ q. kept-set rs i (withLink r (firstClass s rs r)) refl v) (λ q. v)
+
+  module _ (s : List ℕ) where
+    need-keeps : (p : ℕ) (st : Pass) → KeptBy st → KeptBy (need s p st)
+    unfolding need
+    need-keeps p st v =
+        let f = libraryAt s (st .rows) p in
+        let g = rowAt (st .rows) f in
+        let g′ = withLink (withSlot g (word (p + 1))) (word (st .count + 1)) in
+        picked KeptBy (eqb (g .slot) 0) (λ q. kept-set (st .rows) (f - 1) g′ refl v) (λ q. v)
+
+    need-info-keeps : (type e : ℕ) (st : Pass) → KeptBy st → KeptBy (needInfo s type e st)
+    unfolding needInfo
+    need-info-keeps type e st v = picked KeptBy (eqb type 4) (λ q. need-keeps (e - 4) st v) (λ q. v)
+
+    need-infos-keeps : (n types p : ℕ) (st : Pass) → KeptBy st → KeptBy (needInfos s n types p st)
+    unfolding needInfos
+    need-infos-keeps zero types p st v = v
+    need-infos-keeps (suc n) types p st v =
+        let type = getD s types 0 in
+        let e = afterInfo s type p in
+        need-infos-keeps n (types + 1) e (needInfo s type e st) (need-info-keeps type e st v)
+
+    need-class-keeps : (r : Row) (st : Pass) → KeptBy st → KeptBy (needClass s r st)
+    unfolding needClass
+    need-class-keeps r st v =
+        let st′ = needInfos s (r .count) (r .slot) (infosPlace r) st in
+        let v′ = need-infos-keeps (r .count) (r .slot) (infosPlace r) st v in
+        picked KeptBy (eqb (r .kind) 5) (λ q. need-keeps (r .end - 4) st′ v′) (λ q. v′)
+
+    need-array-keeps : (r : Row) (st : Pass) → KeptBy st → KeptBy (needArray s r st)
+    unfolding needArray
+    need-array-keeps r st v =
+        let p = itemType s r in
+        let type = getD s p 0 in
+        need-info-keeps type (afterInfo s type (p + 1)) st v
+
+    needs-keep : (i : ℕ) (st : Pass) → KeptBy st → KeptBy (needOne s i st)
+    unfolding needOne
+    needs-keep i st v =
+        let r = getD (st .rows) i blank in
+        picked KeptBy (isFirst i r) (λ q. need-class-keeps r st v) (λ q. picked KeptBy (eqb (r .kind) 7) (λ q. need-array-keeps r st v) (λ q. v))
+
+-- ---- sweeps
+
+kept-swept : {S : Type 0} (K : S → Type 0) (f : ℕ → S → S) → ((i : ℕ) (st : S) → K st → K (f i st))
+    → (k i : ℕ) (st : S) → K st → K (sweep f k i st)
+kept-swept K f step k i st v = swept (λ i st. K st) f (i + k) (λ i st l v. step i st v) k i st refl v
+
+kept-marked : (s : List ℕ) (rows : List Row) → Kept rows (marked s rows)
+unfolding marked numbered placed firsts needed
+kept-marked s rows =
+    let ns = numbered rows in
+    let ps = placed s ns in
+    let fs = firsts s ps in
+    let n = kept-swept (KeptBy rows) numberOne (number-keeps rows) (length rows) 0 (pass 0 rows) (record { size = refl; members = refl }) in
+    let p = kept-swept (Kept rows) (placeOne s) (place-keeps rows s) (length ns) 0 ns n in
+    let f = kept-swept (Kept rows) (firstOne s) (first-keeps rows s) (length ps) 0 ps p in
+    kept-swept (KeptBy rows) (needOne s) (needs-keep rows s) (length fs) 0 (pass 0 fs) f
+
+pub marked-size : (s : List ℕ) (rows : List Row) → length (marked s rows) ≡ length rows
+marked-size s rows = kept-marked s rows .size
+
+pub marked-members : (s : List ℕ) (rows : List Row) → membersIn (marked s rows) ≡ membersIn rows
+marked-members s rows = kept-marked s rows .members
+
+-- ---- the bound
+
+pub copy-small : (s : List ℕ) (rows : List Row) → length s ≤ 16777216 → length rows ≤ 16777216 → membersIn rows ≤ length s
+    → length (copyOf s (marked s rows)) ≤ 18446744073709551615
+copy-small s rows short few h =
+    let a = copy-long s (marked s rows) short in
+    let b = marked-size s rows in
+    let c = marked-members s rows in
+    omega arith

@@ -1,0 +1,138 @@
+-- Numbers, names and codes at a place (01, Field rules): what is written is read, and what is read is written so, with contents that are
+-- functions of the stream and the place.
+use Prim.Native.Nat.{ℕ, _+_, _-_, _<_}
+use mathlib.Core.Path.{_≡_, refl, sym, ap, _∙_}
+use mathlib.Core.Bool.{Bool, true, false, not, _&&_}
+use mathlib.Core.List.{List, [], _∷_}
+use native.Mathlib.Omega.{arith}
+use lib.ListN.{length, getD, drop}
+use lib.Dec.{eqb}
+use borrow.Author.Tests.{leb-false, lt-leb}
+use Rattle.format.specs.declared.Refusal.the-variants as R
+use Rattle.format.specs.declared.PrimitiveCode.{PrimitiveCode}
+use Rattle.format.specs.declared.Coded.the-variants as D
+use Rattle.format.specs.declared.Number32.the-variants as N32
+use Rattle.format.specs.declared.Text.the-variants as T
+use Rattle.format.specs.declared.Field.the-variants as F
+use Rattle.format.specs.Bytes.{part}
+use Rattle.format.specs.Numbers.{leBytes, negative, u32At}
+use Rattle.format.specs.Prefix.{prefixBytes}
+use Rattle.format.specs.Text.{wellFormed, stringAt, stringBytes}
+use Rattle.format.specs.Types.{codeNumber, primitiveOf, codeAt, nameAt, positive}
+use Rattle.format.specs.Says.{textFrom, afterText, numberFrom, codeFrom}
+use Rattle.format.specs.Grammar.{Name}
+use Rattle.fields.specs.Judged.{judged-taken}
+use Rattle.fields.specs.Parts.{length-part}
+use Rattle.num.specs.Le.{Bytes, bytes-part, length-leBytes, leBytes-le}
+use Rattle.num.specs.Read.{u32-says, u32-written, says-below}
+use Rattle.prefix.specs.Laws.{bound}
+use Rattle.strings.specs.Laws.{string-told, string-moves, string-well, string-round, string-converse}
+use Rattle.types.specs.Codes.{primitive-number, number-primitive}
+use Rattle.types.specs.Ends.{code-end, name-end}
+use Rattle.types.specs.Keeps.{code-told, name-told}
+use Rattle.places.specs.Stand.{Stand, stand-size, stand-same, stand-part, stand-byte, stand-split, stand-inside, stand-here}
+
+-- ---- numbers
+
+pub number-size : (s : List ℕ) (n p e : ℕ) → Stand s (leBytes 4 n) p e → e ≡ p + 4
+number-size s n p e w = stand-size w ∙ ap (λ (k : ℕ). p + k) (length-leBytes 4 n)
+
+pub number-there : (s : List ℕ) (n p e : ℕ) → n < 4294967296 → Stand s (leBytes 4 n) p e → u32At s p ≡ N32.Value n e
+number-there s n p e h w =
+    let z : e ≡ p + 4 = number-size s n p e w in
+    rw z (u32-written s (drop e s) p n h (w .bytes))
+
+-- what is read at p and ends at e
+pub record Number (s : List ℕ) (p v e : ℕ) : Type 0 where
+  pub stands : Stand s (leBytes 4 v) p e
+  pub bits : v < 4294967296
+  pub from : numberFrom s p ≡ v
+  pub next : e ≡ p + 4
+
+pub number-back : (s : List ℕ) (p v e : ℕ) → Bytes s → u32At s p ≡ N32.Value v e → Number s p v e
+number-back s p v e b q =
+    let w = u32-says s p v e q in
+    let l = length-part s p 4 (w .within) in
+    let z : e - p ≡ 4 = omega arith in
+    let f : leBytes 4 v ≡ part s p (e - p) = rw (z, w .value) (rw l at (leBytes-le (part s p 4) (bytes-part s p 4 b))) in
+    record {
+      stands = rw f (stand-part (omega arith) (omega arith));
+      bits = says-below s p 4 v e b w;
+      from = sym (w .value);
+      next = w .next;
+    }
+
+-- the number that stands there is the one that is written
+pub number-from : (s : List ℕ) (n p e : ℕ) → n < 4294967296 → Stand s (leBytes 4 n) p e → numberFrom s p ≡ n
+number-from s n p e h w = sym (u32-says s p n e (number-there s n p e h w) .value)
+
+-- ---- signs
+
+pub not-negative : (n : ℕ) → n < 2147483648 → negative n ≡ false
+not-negative n h = lt-leb 2147483648 n h
+
+pub below-negative : (n : ℕ) → negative n ≡ false → n < 2147483648
+below-negative n e = leb-false 2147483648 n e
+
+pub positive-bits : (n : ℕ) → positive n ≡ true → n < 4294967296
+positive-bits n e = go (eqb n 0) (negative n) refl e
+  where
+    go : (a b : Bool) → negative n ≡ b → (not a && not b) ≡ true → n < 4294967296
+    go a false h e = let z = below-negative n h in omega arith
+    go true true h e = absurd (let z : _≡_ {A = ℕ} 0 1 = cc in omega arith)
+    go false true h e = absurd (let z : _≡_ {A = ℕ} 0 1 = cc in omega arith)
+
+-- ---- names
+
+module _ (s t : List ℕ) (p e : ℕ) (n : Name t) (w : Stand s (stringBytes t) p e) where
+  string-there : stringAt s p ≡ T.Part (p + length (prefixBytes (length t))) e
+  string-there =
+      let k = stand-size w in
+      rw (← k) at (string-round s t (drop e s) p (w .bytes) (n .good) (n .short))
+
+  pub name-there : nameAt s p ≡ F.End e
+  name-there = name-end s p (p + length (prefixBytes (length t))) e string-there
+
+  pub name-text : textFrom s p ≡ t
+  name-text =
+      let x = stand-split (prefixBytes (length t)) t w in
+      let k = stand-size (x .1) in
+      rw (string-there, ← k) (stand-same (x .2))
+
+  pub name-after : afterText s p ≡ e
+  name-after = rw name-there
+
+pub name-back : (s : List ℕ) (p e : ℕ) → Bytes s → nameAt s p ≡ F.End e
+    → Name (textFrom s p) × Stand s (stringBytes (textFrom s p)) p e × (afterText s p ≡ e)
+name-back s p e b q =
+    let w = name-told s p e q in
+    let a = w .0 in
+    let m = string-moves s p a e (w .1) in
+    let c = string-told s p a e (w .1) in
+    let i = bound s p (c .0) a (c .1 .says) in
+    let j = judged-taken wellFormed R.BadText s a (c .0) e (c .1 .ends) in
+    let l = length-part s a (e - a) (omega arith) in (
+      record { good = rw (w .1) (string-well s p a e (w .1)); short = rw (w .1, l) (omega (arith, j .ends)) },
+      rw (w .1) (record { bytes = string-converse s b p a e (w .1); onward = omega arith; room = m .2 }),
+      rw q,
+    )
+
+-- ---- codes
+
+module _ (s : List ℕ) (c : PrimitiveCode) (p e : ℕ) (w : Stand s (codeNumber c ∷ []) p e) where
+  code-is : primitiveOf (getD s p 0) ≡ D.Code c
+  code-is = rw (stand-here w) (primitive-number c)
+
+  pub code-there : codeAt s p ≡ F.End e
+  code-there =
+      let k = stand-size w in
+      rw k (code-end s p (stand-inside w) c code-is)
+
+  pub code-from : codeFrom s p ≡ c
+  code-from = rw code-is
+
+pub code-back : (s : List ℕ) (p e : ℕ) → codeAt s p ≡ F.End e → Stand s (codeNumber (codeFrom s p) ∷ []) p e
+code-back s p e q =
+    let w = code-told s p e q in
+    let f : codeNumber (codeFrom s p) ≡ getD s p 0 = rw (w .1) (number-primitive (getD s p 0) (w .0) (w .1)) in
+    rw (f, w .3) (stand-byte (w .2))

@@ -1,0 +1,4 @@
+-- What the writers put out, and their laws.
+pub mod Out
+pub mod Put
+pub mod Pieces

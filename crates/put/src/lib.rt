@@ -1,0 +1,168 @@
+// Writers into the unwritten rest of the output. Each answers the length that its bytes need, whether they fit or not; where they fit
+// they are written.
+use format::ObjectNo;
+use format::Prefix;
+ghost use mathlib.Core.Path.{_≡_};
+ghost use mathlib.Core.List.{[], _∷_, _++_};
+ghost use Prim.Native.Nat.{_+_};
+ghost use Rattle.format.specs.Numbers.{leBytes};
+ghost use Rattle.put.specs.Out.{between, textOut, headOut, byIdOut, headerOut, runOut};
+ghost use Rattle.put.specs.Put.{capped, Filled, Least};
+
+// ---- totals
+
+// The lesser of two.
+pub fn least(a: usize, b: usize) -> usize
+    ensures { λ r. ⌜ Least a b r ⌝ }
+{
+    if b < a {
+        return b;
+    }
+    a
+}
+
+// The sum, or the greatest usize where that is more.
+pub fn add_up(a: usize, b: usize) -> usize
+    ensures { λ r. ⌜ r ≡ capped (a + b) ⌝ }
+{
+    if 18446744073709551615 - a < b {
+        return 18446744073709551615;
+    }
+    a + b
+}
+
+// ---- bytes and numbers
+
+pub fn put_byte(out: &mut [u8], b: u8) -> usize
+    ensures { λ r. ⌜ Filled (b ∷ []) (now (out .entry)) (now (out .exit)) r ⌝ }
+{
+    if out.len() < 1 {
+        return 1;
+    }
+    out[0] = b;
+    1
+}
+
+pub fn put_two(out: &mut [u8], a: u8, b: u8) -> usize
+    ensures { λ r. ⌜ Filled (a ∷ b ∷ []) (now (out .entry)) (now (out .exit)) r ⌝ }
+{
+    if out.len() < 2 {
+        return 2;
+    }
+    out[0] = a;
+    out[1] = b;
+    2
+}
+
+pub fn put_number(out: &mut [u8], n: u32) -> usize
+    ensures { λ r. ⌜ Filled (leBytes 4 n) (now (out .entry)) (now (out .exit)) r ⌝ }
+{
+    if out.len() < 4 {
+        return 4;
+    }
+    out[0] = (n % 256) as u8;
+    out[1] = (n / 256 % 256) as u8;
+    out[2] = (n / 256 / 256 % 256) as u8;
+    out[3] = (n / 256 / 256 / 256 % 256) as u8;
+    4
+}
+
+fn put_numbers(out: &mut [u8], n: u32, m: u32) -> usize
+    ensures { λ r. ⌜ Filled (leBytes 4 n ++ leBytes 4 m) (now (out .entry)) (now (out .exit)) r ⌝ }
+{
+    let a = put_number(out, n);
+    let from = least(a, out.len());
+    let b = put_number(&mut out[from..], m);
+    add_up(a, b)
+}
+
+// A kind byte and a number.
+pub fn put_head(out: &mut [u8], kind: u8, n: u32) -> usize
+    ensures { λ r. ⌜ Filled (headOut kind n) (now (out .entry)) (now (out .exit)) r ⌝ }
+{
+    let a = put_byte(out, kind);
+    let from = least(a, out.len());
+    let b = put_number(&mut out[from..], n);
+    add_up(a, b)
+}
+
+// A kind byte and two numbers.
+fn put_heads(out: &mut [u8], kind: u8, n: u32, m: u32) -> usize
+    ensures { λ r. ⌜ Filled (headOut kind n ++ leBytes 4 m) (now (out .entry)) (now (out .exit)) r ⌝ }
+{
+    let a = put_head(out, kind, n);
+    let from = least(a, out.len());
+    let b = put_number(&mut out[from..], m);
+    add_up(a, b)
+}
+
+// ---- parts of the stream
+
+// The bytes of s from a to b, as far as there are any.
+pub fn put_part(out: &mut [u8], s: &[u8], a: usize, b: usize) -> usize
+    ensures { λ r. ⌜ Filled (between (now (s .entry)) a b) (now (out .entry)) (now (out .exit)) r ⌝ }
+{
+    let end = least(b, s.len());
+    if end <= a {
+        return 0;
+    }
+    let n = end - a;
+    if out.len() < n {
+        return n;
+    }
+    bytes::copy(&s[a..end], out)
+}
+
+// The string at p, whose text ends at e.
+pub fn put_text(out: &mut [u8], s: &[u8], p: usize, e: usize) -> usize
+    ensures { λ r. ⌜ Filled (textOut (now (s .entry)) p e) (now (out .entry)) (now (out .exit)) r ⌝ }
+{
+    let length = prefix::prefix_at(s, p);
+    match length {
+        Prefix::Length(n, next) => {
+            let a = prefix::put_prefix(out, n);
+            let from = least(a, out.len());
+            let b = put_part(&mut out[from..], s, next, e);
+            add_up(a, b)
+        }
+        Prefix::Fault(_) => put_part(out, s, p, e),
+    }
+}
+
+// ---- records
+
+// An object by the first of its class.
+pub fn put_by_id(out: &mut [u8], id: ObjectNo, first: ObjectNo) -> usize
+    ensures { λ r. ⌜ Filled (byIdOut (id .0) (first .0)) (now (out .entry)) (now (out .exit)) r ⌝ }
+{
+    let n = id.0;
+    let m = first.0;
+    put_heads(out, 1, n, m)
+}
+
+// RootId and HeaderId alike, then the version.
+pub fn put_header(out: &mut [u8], root: ObjectNo) -> usize
+    ensures { λ r. ⌜ Filled (headerOut (root .0)) (now (out .entry)) (now (out .exit)) r ⌝ }
+{
+    let n = root.0;
+    let a = put_heads(out, 0, n, n);
+    let from = least(a, out.len());
+    let b = put_numbers(&mut out[from..], 1, 0);
+    add_up(a, b)
+}
+
+// A null run: kind 10 for one, 13 for 2 to 255, 14 from 256.
+pub fn put_run(out: &mut [u8], n: usize) -> usize
+    ensures { λ r. ⌜ Filled (runOut n) (now (out .entry)) (now (out .exit)) r ⌝ }
+{
+    if n == 0 {
+        return 0;
+    }
+    if n == 1 {
+        return put_byte(out, 10);
+    }
+    if n <= 255 {
+        return put_two(out, 13, n as u8);
+    }
+    put_head(out, 14, (n % 4294967296) as u32)
+}

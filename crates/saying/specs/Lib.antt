@@ -1,0 +1,8 @@
+-- What a record says, what may be said, that what an accepted list says is good, and that what is written says what it was written from.
+pub mod Order
+pub mod Said
+pub mod Good
+pub mod There
+pub mod Ids
+pub mod Known
+pub mod SaidGood

@@ -1,0 +1,145 @@
+-- The rows of a stream that is taken are rows that stand, with their links: every reference and the header name an object.
+use Prim.Native.Nat.{ℕ, zero, suc, _+_, _-_, _≤_, _<_}
+use mathlib.Core.Path.{_≡_, refl, sym, ap, subst, _∙_}
+use mathlib.Core.Bool.{true}
+use mathlib.Core.List.{List, [], _∷_, _++_}
+use native.Mathlib.Omega.{arith}
+use lib.ListN.{length, getD, take}
+use lib.Seq.{length-take-le, take-suc, getD-take, getD-append-seam}
+use lib.Dec.{ltb, eqb}
+use borrow.Author.Tests.{ltb-false, eqb-true, eqb-false}
+use Rattle.format.specs.declared.Where.the-variants as W
+use Rattle.format.specs.declared.Row.{Row}
+use Rattle.format.specs.Rows.{blank, isObject, objectRow, findFrom, isLost, linked}
+use Rattle.format.specs.Records.{allowed}
+use Rattle.format.specs.Machine.{State, Next, go, ended, refuse, Outcome, accepted, refused, step, recordStep, targets, finish, onward, run, start, begin, readOf}
+use Rattle.fields.specs.Judged.{picked}
+use Rattle.table.specs.Find.{find-none}
+use Rattle.table.specs.Links.{length-linked, lost-if}
+use Rattle.reader.specs.Fine.{Fine, NextFine, record-fine, step-fine}
+use Rattle.standing.specs.Standing.{stood-moves, Owned, apart, within, Standing}
+use Rattle.standing.specs.Steps.{endOf, Placed, Gathered, Whole, NextGathered, each-more, length-more, end-more, record-gathered, step-gathered}
+
+-- ---- the rows with the end record
+
+module _ (s : List ℕ) (front : List Row) (last : Row) where
+  abbrev all : List Row
+  all = front ++ (last ∷ [])
+
+  owned-all : (i o : ℕ) → i ≤ length all → Owned (take i all) (length (take i all)) o → Owned all i o
+  owned-all i o h (apart e) = apart e
+  owned-all i o h (within a b k) =
+      let l = length-take-le i all h in
+      let c : o - 1 < i = omega arith in
+      within a c (subst (λ (r : Row). isObject (r .kind) ≡ true) (getD-take i all (o - 1) blank c) k)
+
+  end-before : (i : ℕ) → i < length all → endOf (take (suc i) all) ≡ getD all i blank .end
+  end-before i h = ap endOf (take-suc all i blank h) ∙ end-more (take i all) (getD all i blank)
+
+  last-at : getD all (length all - 1) blank ≡ last
+  last-at =
+      let n = length-more front last in
+      let e : length all - 1 ≡ length front = omega arith in
+      ap (λ (i : ℕ). getD all i blank) e ∙ getD-append-seam front last [] blank
+
+whole-stands : (s : List ℕ) (rows : List Row) (at : ℕ) → Whole s rows at → length s ≤ at → length rows ≤ length s → length s ≤ 16777216
+    → Standing s rows
+unfolding endOf
+whole-stands s rows at w h c f =
+    let front = w .front in
+    let last = w .last in
+    let n = length-more front last in
+    let placed = each-more front last (Placed s) (λ i l. w .each i l .0) (w .placed) in
+    let final = each-more front last (λ before r. r .kind ≡ 11 → length before ≡ length front) (λ i l e. absurd (w .each i l .1 e)) (λ e. refl) in
+    let m = stood-moves (w .placed .said) in
+    let e = w .end in
+    let k = ap length (w .parts) in
+    subst (λ (rows : List Row). Standing s rows) (sym (w .parts)) (record {
+      each = λ i l. placed i l .said;
+      kinds = λ i l. placed i l .known;
+      headed = placed 0 (omega arith) .headed refl;
+      header-first = λ i l z. sym (length-take-le i (all s front last) (omega arith)) ∙ placed i l .header-first z;
+      closed = ap (λ (r : Row). r .kind) (last-at s front last) ∙ w .kind;
+      end-last = λ i l z.
+          let a = length-take-le i (all s front last) (omega arith) in
+          let b = final i l z in
+          omega arith;
+      begins = placed 0 (omega arith) .begins;
+      next = λ i l. placed (suc i) l .begins ∙ end-before s front last i (omega arith);
+      ends = ap (λ (r : Row). r .end) (last-at s front last) ∙ omega arith;
+      owners = λ i l. owned-all s front last i _ (omega arith) (placed i l .owned);
+      libraries = λ i l. placed i l .library-apart;
+      some = omega arith;
+      counted = omega arith;
+      fits = f;
+    })
+
+-- ---- the whole stream
+
+-- what the rows of a stream that is taken say, with room for so many
+pub record Taken (s : List ℕ) (room : ℕ) (rows : List Row) : Type 0 where
+  pub raw : List Row
+  pub same : rows ≡ linked raw
+  pub stands : Standing s raw
+  pub root : objectRow (getD raw 0 blank .id) raw ≡ 0 → ⊥
+  pub targets : (i : ℕ) → i < length raw → getD raw i blank .kind ≡ 9 → objectRow (getD raw i blank .id) raw ≡ 0 → ⊥
+  pub roomy : length rows ≤ room
+
+abbrev TakenOf : List ℕ → ℕ → Outcome → Type 0
+TakenOf s room (accepted rows) = Taken s room rows
+TakenOf s room (refused r place) = Unit {0}
+
+module _ (s : List ℕ) (room : ℕ) (fits : length s ≤ 16777216) where
+  finish-taken : (rows : List Row) (at : ℕ) → Whole s rows at → (length rows ≤ room) × (length rows ≤ length s) → TakenOf s room (finish s rows at)
+  unfolding finish
+  finish-taken rows at w c =
+      picked (TakenOf s room) (ltb at (length s)) (λ t. tt)
+      (λ t. picked (TakenOf s room) (eqb (objectRow (getD rows 0 blank .id) rows) 0) (λ u. tt)
+      (λ u. picked (TakenOf s room) (eqb (findFrom (isLost rows) 0 rows) 0)
+      (λ v.
+      let l = length-linked rows in
+      let a = c .0 in
+      record {
+        raw = rows;
+        same = refl;
+        stands = whole-stands s rows at w (ltb-false at (length s) t) (c .1) fits;
+        root = eqb-false (objectRow (getD rows 0 blank .id) rows) 0 u;
+        targets = λ i h k.
+            let r = getD rows i blank in
+            let o = objectRow (r .id) rows in
+            eqb-false o 0 (lost-if rows r r refl o k refl ∙ find-none (isLost rows) 0 rows (eqb-true (findFrom (isLost rows) 0 rows) 0 v) i h);
+        roomy = omega arith;
+      })
+      (λ v. tt)))
+
+  -- after a step, where what follows says it
+  next-taken : (f : State → Outcome) → ((st : State) → Gathered s st → 0 < length (st .rows) → Fine s room st → TakenOf s room (f st))
+      → (at : ℕ) (x : Next) → NextGathered s x → NextFine s room at x → TakenOf s room (onward s f x)
+  next-taken f g at (go st) w v = g st (w .0) (w .1) (v .0)
+  next-taken f g at (ended rows end) w v = finish-taken rows end w v
+  next-taken f g at (refuse r place) w v = tt
+
+  run-taken : (k : ℕ) (st : State) → Gathered s st → 0 < length (st .rows) → Fine s room st → TakenOf s room (run k s room st)
+  unfolding run
+  run-taken zero st w n f = tt
+  run-taken (suc k) st w n f = next-taken (run k s room) (run-taken k) (st .at) (step s room st) (step-gathered s room st w n) (step-fine s room st f)
+
+  begin-onward : (x : Next) → onward s (run (length s) s room) x ≡ begin s room x
+  begin-onward (go st) = refl
+  begin-onward (ended rows at) = refl
+  begin-onward (refuse r place) = refl
+
+  header-taken : TakenOf s room (begin s room (recordStep s room start W.Start))
+  unfolding endOf allowed
+  header-taken =
+      subst (λ (x : Outcome). TakenOf s room x) (begin-onward (recordStep s room start W.Start))
+      (next-taken (run (length s) s room) (run-taken (length s)) 0 (recordStep s room start W.Start)
+      (record-gathered s room start (record { each = λ i h. absurd (omega arith); place = refl; owners = (apart refl, tt) }) W.Start
+      (λ k t. (λ e. refl, λ e. eqb-true k 0 t)))
+      (record-fine s room start (record { inside = omega arith; counted = omega arith; roomy = omega arith; shallow = omega arith }) W.Start))
+
+pub accepted-stands : (s : List ℕ) (room : ℕ) (rows : List Row) → readOf s room ≡ accepted rows → Taken s room rows
+unfolding readOf
+accepted-stands s room rows e =
+    subst (λ (x : Outcome). TakenOf s room x) e
+    (picked (TakenOf s room) (ltb 16777216 (length s)) (λ t. tt) (λ t. header-taken s room (ltb-false 16777216 (length s) t)))

@@ -1,0 +1,208 @@
+-- What good fields of array records say, field by field: kinds 7, 15, 16 and 17.
+use Prim.Native.Nat.{ℕ, zero, suc, _+_, _*_, _≤_}
+use mathlib.Core.Path.{_≡_, refl, sym, ap, subst, _∙_}
+use mathlib.Core.List.{List}
+use native.Mathlib.Omega.{arith}
+use lib.ListN.{length, getD}
+use lib.Dec.{ltb, leb}
+use Rattle.format.specs.declared.SlotType.{SlotType}
+use Rattle.format.specs.declared.SlotType.the-variants as S
+use Rattle.format.specs.declared.Number32.{Number32}
+use Rattle.format.specs.declared.Number32.the-variants as N32
+use Rattle.format.specs.declared.Field.the-variants as F
+use Rattle.format.specs.declared.Slots.{Slots}
+use Rattle.format.specs.declared.Slots.the-variants as L
+use Rattle.format.specs.declared.Head.{Head}
+use Rattle.format.specs.declared.Heading.{Heading}
+use Rattle.format.specs.declared.Heading.the-variants as H
+use Rattle.format.specs.declared.Row.{Row}
+use Rattle.format.specs.Numbers.{u32At, negative}
+use Rattle.format.specs.Values.{itemsAt}
+use Rattle.format.specs.Types.{primitiveOf, coded, codeAt, typeByteAt, typedAt}
+use Rattle.format.specs.Records.{onSlots, goodId, infoKnown, slotArrayAt, withItems, primitiveArrayAt, goodRank, onLength, lengthsAt, itemsOf, itemTypeAt, rankAt, binaryArrayAt, headingAt}
+use Rattle.fields.specs.Judged.{picked}
+use Rattle.types.specs.Keeps.{code-told, type-told}
+use Rattle.values.specs.Keeps.{items-kept}
+use Rattle.classes.specs.Ends.{number-moves}
+use Rattle.classes.specs.Moves.{info-known-moves}
+use Rattle.records.specs.Headings.{array-heading, primitives-heading, objects-heading}
+use Rattle.standing.specs.Standing.{Recorded}
+use Rattle.standing.specs.Fields.{Of, of-number, of-field, row-said}
+
+-- ---- kinds 15, 16 and 17: a length after the ObjectId
+
+-- 16 and 17: slots, which records fill
+pub record Slotted (s : List ℕ) (at count end : ℕ) : Type 0 where
+  pub count-at : u32At s (at + 5) ≡ N32.Value count (at + 9)
+  pub ends : end ≡ at + 9
+
+-- 15: a code, and the items
+pub record Primitives (s : List ℕ) (at count end : ℕ) : Type 0 where
+  pub count-at : u32At s (at + 5) ≡ N32.Value count (at + 9)
+  pub code-at : codeAt s (at + 9) ≡ F.End (at + 10)
+  pub items : at + 10 ≤ end
+
+module _ (s : List ℕ) (at : ℕ) where
+  -- the length, by the place of the record
+  count-there : (id p n q : ℕ) → u32At s (at + 1) ≡ N32.Value id p → u32At s p ≡ N32.Value n q → (u32At s (at + 5) ≡ N32.Value n (at + 9)) × (q ≡ at + 9)
+  count-there id p n q a b =
+      let c = number-moves s (at + 1) id p a in
+      let d = number-moves s p n q b in
+      let e : p ≡ at + 5 = omega arith in
+      let f : q ≡ at + 9 = omega arith in
+      (subst (λ (p : ℕ). u32At s p ≡ N32.Value n (at + 9)) e (b ∙ ap (N32.Value n) f), f)
+
+  module _ (rows : List Row) where
+    of-slots : (slot : SlotType) → Of (λ h. Slotted s at (h .count) (h .end)) (slotArrayAt s rows slot at)
+    unfolding slotArrayAt
+    of-slots slot =
+        let P : Head → Type 0 = λ h. Slotted s at (h .count) (h .end) in
+        of-number P _ (u32At s (at + 1)) (λ id p a.
+        picked (Of P) (goodId rows id) (λ b.
+        of-number P _ (u32At s p) (λ n end c.
+        let e = count-there id p n end a c in
+        picked (Of P) (negative n) (λ d. tt) (λ d. record { count-at = e .0; ends = e .1 })))
+        (λ b. tt))
+
+    of-primitives : Of (λ h. Primitives s at (h .count) (h .end)) (primitiveArrayAt s rows at)
+    unfolding primitiveArrayAt
+    of-primitives =
+        let P : Head → Type 0 = λ h. Primitives s at (h .count) (h .end) in
+        of-number P _ (u32At s (at + 1)) (λ id p a.
+        picked (Of P) (goodId rows id) (λ b.
+        of-number P _ (u32At s p) (λ n q c.
+        picked (Of P) (negative n) (λ d. tt) (λ d.
+        of-field P (withItems s (coded (primitiveOf (getD s q 0))) id n) (codeAt s q) (λ x f.
+        let code = coded (primitiveOf (getD s q 0)) in
+        of-field P _ (itemsAt s code n x) (λ end g.
+        let e = count-there id p n q a c in
+        let u = code-told s q x f in
+        let v = items-kept code n .moves s x end (omega arith) g in
+        let k : q ≡ at + 9 = e .1 in
+        let l : x ≡ at + 10 = omega arith in
+        record {
+          count-at = e .0;
+          code-at = subst (λ (q : ℕ). codeAt s q ≡ F.End (at + 10)) k (f ∙ ap F.End l);
+          items = omega arith;
+        })))))
+        (λ b. tt))
+
+-- ---- kind 7: array type, rank, lengths, the type byte and the detail of the items
+
+pub record Array (s : List ℕ) (rows : List Row) (at end : ℕ) : Type 0 where
+  pub rank : ℕ
+  pub info-end : ℕ
+  pub rank-at : u32At s (at + 6) ≡ N32.Value rank (at + 10)
+  pub type-at : typeByteAt s (at + 10 + 4 * rank) ≡ F.End (at + 10 + 4 * rank + 1)
+  pub info-at : infoKnown s rows (getD s (at + 10 + 4 * rank) 0) (at + 10 + 4 * rank + 1) ≡ F.End info-end
+  pub items : info-end ≤ end
+
+-- lengths that are taken end at this place
+abbrev EndAt : ℕ → Slots → Type 0
+EndAt e (L.Product n end) = end ≡ e
+EndAt e (L.Fault f) = Unit {0}
+
+module _ (s : List ℕ) where
+  -- four bytes a length
+  lengths-end : (k product at e : ℕ) → at + 4 * k ≡ e → EndAt e (lengthsAt s k product at)
+  unfolding lengthsAt
+  lengths-end zero product at e h = picked (EndAt e) (leb product 2147483647) (λ t. omega arith) (λ t. tt)
+  lengths-end (suc k) product at e h = go (u32At s at) refl (λ n next i. lengths-end k (product * n) next e i)
+    where
+      go : (r : Number32) → u32At s at ≡ r → ((n next : ℕ) → next + 4 * k ≡ e → EndAt e (lengthsAt s k (product * n) next))
+          → EndAt e (onLength (λ n next. lengthsAt s k (product * n) next) r)
+      go (N32.Value n next) q more =
+          let m = number-moves s at n next q in
+          picked (EndAt e) (negative n) (λ t. tt) (λ t. more n next (omega arith))
+      go N32.Short q more = tt
+
+  of-lengths : (P : Head → Type 0) (k : ℕ → ℕ → Heading) (r : Slots) (e : ℕ) → EndAt e r → ((n : ℕ) → Of P (k n e)) → Of P (onSlots k r)
+  of-lengths P k (L.Product n end) e q f = subst (λ (e : ℕ). Of P (k n e)) (sym q) (f n)
+  of-lengths P k (L.Fault x) e q f = tt
+
+  -- items end where their type's detail does, or after it
+  items-after : (slot : SlotType) (id n infos at : ℕ) → at ≤ length s → Of (λ h. at ≤ h .end) (itemsOf s id n infos at slot)
+  items-after (S.Primitive c) id n infos at h =
+      of-field (λ h. at ≤ h .end) _ (itemsAt s c n at) (λ end a. let m = items-kept c n .moves s at end h a in omega arith)
+  items-after S.Text id n infos at h = omega arith
+  items-after S.Object id n infos at h = omega arith
+  items-after S.SystemClass id n infos at h = omega arith
+  items-after S.Class id n infos at h = omega arith
+  items-after S.ObjectArray id n infos at h = omega arith
+  items-after S.StringArray id n infos at h = omega arith
+  items-after (S.PrimitiveArray c) id n infos at h = omega arith
+
+  module _ (rows : List Row) (at : ℕ) where
+    abbrev ArrayOf : Head → Type 0
+    ArrayOf h = Array s rows at (h .end)
+
+    -- after the lengths
+    of-items : (rank id n : ℕ) → u32At s (at + 6) ≡ N32.Value rank (at + 10) → Of ArrayOf (itemTypeAt s rows id n (at + 10 + 4 * rank))
+    unfolding itemTypeAt
+    of-items rank id n r =
+        let types : ℕ = at + 10 + 4 * rank in
+        of-field ArrayOf _ (typeByteAt s types) (λ infos a.
+        of-field ArrayOf _ (infoKnown s rows (getD s types 0) infos) (λ end b.
+        let u = type-told s types infos a in
+        let e : infos ≡ types + 1 = u .2 in
+        let v = info-known-moves s rows (getD s types 0) infos end (omega arith) b in
+        let slot = typedAt s types infos .slot in
+        of-more (itemsOf s id n infos end slot) (λ h l. record {
+          rank = rank;
+          info-end = end;
+          rank-at = r;
+          type-at = a ∙ ap F.End e;
+          info-at = subst (λ (p : ℕ). infoKnown s rows (getD s types 0) p ≡ F.End end) e b;
+          items = l;
+        }) (items-after slot id n infos end (v .1))))
+      where
+        of-more : {e : ℕ} (x : Heading) → ((h : Head) → e ≤ h .end → ArrayOf h) → Of (λ (h : Head). e ≤ h .end) x → Of ArrayOf x
+        of-more (H.Fields h) f q = f h q
+        of-more (H.Bad x) f q = tt
+
+    of-rank : (id type p : ℕ) → p ≡ at + 6 → Of ArrayOf (rankAt s rows id type p)
+    unfolding rankAt
+    of-rank id type p e =
+        of-number ArrayOf _ (u32At s p) (λ rank q a.
+        picked (Of ArrayOf) (goodRank type rank) (λ b.
+        let m = number-moves s p rank q a in
+        let f : q ≡ at + 10 = omega arith in
+        let r : u32At s (at + 6) ≡ N32.Value rank (at + 10) = subst (λ (p : ℕ). u32At s p ≡ N32.Value rank (at + 10)) e (a ∙ ap (N32.Value rank) f) in
+        let l : q + 4 * rank ≡ at + 10 + 4 * rank = omega arith in
+        of-lengths ArrayOf (itemTypeAt s rows id) (lengthsAt s rank 1 q) (at + 10 + 4 * rank) (lengths-end rank 1 q _ l) (λ n. of-items rank id n r))
+        (λ b. tt))
+
+    of-array : Of ArrayOf (binaryArrayAt s rows at)
+    unfolding binaryArrayAt
+    of-array =
+        of-number ArrayOf _ (u32At s (at + 1)) (λ id p a.
+        let m = number-moves s (at + 1) id p a in
+        picked (Of ArrayOf) (goodId rows id) (λ b.
+        picked (Of ArrayOf) (ltb p (length s)) (λ c.
+        picked (Of ArrayOf) (leb (getD s p 0) 2) (λ d. of-rank id (getD s p 0) (p + 1) (omega arith))
+        (λ d. picked (Of ArrayOf) (leb (getD s p 0) 5) (λ f. tt) (λ f. tt)))
+        (λ c. tt))
+        (λ b. tt))
+
+-- ---- rows
+
+texts-heading : (s : List ℕ) (rows : List Row) (k at : ℕ) → k ≡ 17 → headingAt s rows k at ≡ slotArrayAt s rows S.Text at
+unfolding headingAt
+texts-heading s rows k at h = rw h
+
+module _ {s : List ℕ} {before : List Row} {r : Row} (w : Recorded s before r) where
+  pub array-row : r .kind ≡ 7 → Array s before (r .offset) (r .end)
+  array-row k =
+      row-said w (λ n end. Array s before (r .offset) end) _ (array-heading s before (r .kind) (r .offset) k) (of-array s before (r .offset))
+
+  pub primitives-row : r .kind ≡ 15 → Primitives s (r .offset) (r .count) (r .end)
+  primitives-row k =
+      row-said w (Primitives s (r .offset)) _ (primitives-heading s before (r .kind) (r .offset) k) (of-primitives s (r .offset) before)
+
+  pub objects-row : r .kind ≡ 16 → Slotted s (r .offset) (r .count) (r .end)
+  objects-row k =
+      row-said w (Slotted s (r .offset)) _ (objects-heading s before (r .kind) (r .offset) k) (of-slots s (r .offset) before S.Object)
+
+  pub strings-row : r .kind ≡ 17 → Slotted s (r .offset) (r .count) (r .end)
+  strings-row k =
+      row-said w (Slotted s (r .offset)) _ (texts-heading s before (r .kind) (r .offset) k) (of-slots s (r .offset) before S.Text)

@@ -1,0 +1,2 @@
+-- The tidy job from its parts.
+pub mod Top

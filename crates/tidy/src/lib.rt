@@ -1,0 +1,41 @@
+// The tidy copy of a parts list. The lent table is the only scratch memory: after the reading its words hold marks, and at the end the stream is
+// read again, which leaves the reading in it whatever stood there.
+use format::ReadAnswer;
+use format::TidyAnswer;
+ghost use mathlib.Core.Path.{_≡_};
+ghost use lib.ListN.{length};
+ghost use Rattle.format.specs.Rows.{roomOf};
+ghost use Rattle.format.specs.Machine.{readOf};
+ghost use Rattle.format.specs.Tidy.{tidyAnswer, tidyOutput, tidyTable};
+ghost use Rattle.tidy.specs.Top.{restored};
+
+// The table after the copy: the reading where one was written, all zeros where none was.
+fn restore(s: &[u8], table: &mut [u32], q: TidyAnswer)
+    ensures { λ _. ⌜ now (table .exit) ≡ restored (now (s .entry)) (now (table .entry)) q ⌝ }
+{
+    match q {
+        TidyAnswer::Written(_) => {
+            reader::read(s, table);
+        }
+        TidyAnswer::Refused(_, _) => table::clear(table),
+        TidyAnswer::OutFull(_) => table::clear(table),
+    }
+}
+
+// Writes the tidy copy of the list in `s` to the front of `out`, if all of it fits.
+pub fn tidy(s: &[u8], table: &mut [u32], out: &mut [u8]) -> TidyAnswer
+    ensures { λ q. ⌜ (q ≡ tidyAnswer (now (s .entry)) (now (out .entry)) (readOf (now (s .entry)) (roomOf (now (table .entry)))))
+        × ((now (table .exit) ≡ tidyTable (length (now (table .entry))) (now (s .entry)) (now (out .entry)) (readOf (now (s .entry)) (roomOf (now (table .entry)))))
+        × (now (out .exit) ≡ tidyOutput (now (s .entry)) (now (out .entry)) (readOf (now (s .entry)) (roomOf (now (table .entry)))))) ⌝ }
+{
+    let a = reader::read(s, table);
+    match a {
+        ReadAnswer::Accepted(n) => {
+            marks::mark_all(s, table, n);
+            let q = writing::copied(out, s, table, n);
+            restore(s, table, q);
+            q
+        }
+        ReadAnswer::Refused(r, place) => TidyAnswer::Refused(r, place),
+    }
+}
