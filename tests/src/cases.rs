@@ -22,6 +22,8 @@ pub struct Known {
     pub answer: String,
     /// Hash of the rows, see [`corpus::rows_hash`].
     pub rows: Option<String>,
+    /// Of the tidy copy, see [`corpus::copy_note`].
+    pub copy: Option<String>,
 }
 
 /// Every stream that was written by hand.
@@ -35,7 +37,8 @@ fn hand_written(case: by_hand::Case) -> Case {
         Outcome::Refused(number, place) => format!("refused {number} at {place}"),
     };
     let what = format!("by hand: {}", case.what);
-    let known = Some(Known { answer, rows: None });
+    let copy = case.copy.and_then(Result::ok).map(|copy| corpus::copy_note(&copy));
+    let known = Some(Known { answer, rows: None, copy });
     Case { what, stream: case.stream, words: case.words, known }
 }
 
@@ -51,16 +54,16 @@ fn list(folder: &Path, name: &str, outcome: &str) -> Result<Case, String> {
     Ok(Case { what: format!("list {name}"), stream, words: corpus::ROWS * ROW_WORDS, known })
 }
 
-/// The part of an outcome of expected.tsv that is about reading.
+/// What an outcome of expected.tsv says of the reading and the copy.
 fn known(outcome: &str) -> Option<Known> {
-    let words: Vec<&str> = outcome.split(' ').collect();
+    let (reading, tidying) = outcome.split_once(" tidy ")?;
+    let copy = (!tidying.starts_with("refused")).then(|| tidying.to_string());
+    let words: Vec<&str> = reading.split(' ').collect();
     match words[..] {
-        ["accepted", rows, hash, "tidy", ..] => {
-            Some(Known { answer: format!("accepted {rows}"), rows: Some(hash.to_string()) })
+        ["accepted", rows, hash] => {
+            Some(Known { answer: format!("accepted {rows}"), rows: Some(hash.to_string()), copy })
         }
-        ["refused", number, "at", place, "tidy", ..] => {
-            Some(Known { answer: format!("refused {number} at {place}"), rows: None })
-        }
+        ["refused", _, "at", _] => Some(Known { answer: reading.to_string(), rows: None, copy }),
         _ => None,
     }
 }

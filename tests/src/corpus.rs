@@ -38,7 +38,12 @@ pub fn rows_hash(table: &[u32], rows: usize) -> String {
     format!("{:016x}", fnv_1a(words.flat_map(|word| word.to_le_bytes())))
 }
 
-pub fn fnv_1a(bytes: impl Iterator<Item = u8>) -> u64 {
+/// Length and hash of a tidy copy.
+pub fn copy_note(copy: &[u8]) -> String {
+    format!("{} {:016x}", copy.len(), fnv_1a(copy.iter().copied()))
+}
+
+fn fnv_1a(bytes: impl Iterator<Item = u8>) -> u64 {
     let mut hash = 0xcbf2_9ce4_8422_2325_u64;
     for byte in bytes {
         hash = (hash ^ u64::from(byte)).wrapping_mul(0x0100_0000_01b3);

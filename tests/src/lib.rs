@@ -2,6 +2,7 @@
 //! that the proved one can be compared with something that shares no thought
 //! with it.
 
+pub mod asked;
 pub mod by_hand;
 pub mod cases;
 pub mod corpus;
@@ -11,6 +12,7 @@ pub mod same;
 pub mod show;
 pub mod stream;
 pub mod tidy;
+pub mod tidying;
 
 pub use reader::{read, row_answer, row_text, Refusal};
 pub use same::same;

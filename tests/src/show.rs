@@ -1,75 +1,136 @@
-//! What goes to the proved comparing program for one stream, and the line that
-//! a right reader sends back.
+//! What goes to the proved comparing programs for one stream, and the line that
+//! a right reader or tidier sends back.
 
 use crate::corpus::refused;
-use crate::reader::read;
+use crate::reader::{read, Refusal, Reply};
+use crate::tidy::tidy;
 
-/// What the comparing program has space for.
+/// What the comparing programs have space for.
 pub const MOST_BYTES: usize = 600_000;
 pub const MOST_WORDS: usize = 8_192;
+pub const MOST_ROOM: usize = 1_000_000;
 pub const MOST_STREAMS: usize = 1_000_000;
 
-/// Something else than a reader leaves stands in the table before, so that a
-/// word that nobody wrote is seen.
-const LITTER: u32 = 0xA5A5_A5A5;
+/// Something else than a reader or a tidier leaves stands in the table and the
+/// output before, so that what nobody wrote is seen.
+const LITTER_WORD: u32 = 0xA5A5_A5A5;
+const LITTER_BYTE: u8 = 0xA5;
 
 /// Two lanes, so that one collision does not hide a difference.
 const LANES: [u64; 2] = [65_599, 131_071];
 const MODULUS: u64 = 4_294_967_291;
 
-/// Length, words of the table, bytes.
-pub fn send(stream: &[u8], words: usize, out: &mut Vec<u8>) {
-    out.extend_from_slice(&(stream.len() as u32).to_le_bytes());
-    out.extend_from_slice(&(words as u32).to_le_bytes());
-    out.extend_from_slice(stream);
+/// Length of the stream, the other sizes, bytes. For reading the other sizes
+/// are the words of the table, for tidying also the bytes of the output.
+pub fn send(stream: &[u8], others: &[usize], sent: &mut Vec<u8>) {
+    for &size in [stream.len()].iter().chain(others) {
+        sent.extend_from_slice(&(size as u32).to_le_bytes());
+    }
+    sent.extend_from_slice(stream);
 }
 
-/// What this reader makes of a stream: its answer in words, the number of rows
-/// where it is accepted or the number of the refusal, and the table.
+/// What this reader or tidier makes of a stream: its answer in words, the
+/// number of rows or the length of the copy, or the number of the refusal, and
+/// what is left of the table and the output.
 pub struct Found {
     pub answer: String,
     pub outcome: Result<usize, u32>,
     pub table: Vec<u32>,
+    pub out: Option<Vec<u8>>,
 }
 
 pub fn found(stream: &[u8], words: usize) -> Found {
-    let mut table = vec![LITTER; words];
+    let mut table = vec![LITTER_WORD; words];
     let outcome = read(stream, &mut table);
     let answer = match &outcome {
         Ok(rows) => format!("accepted {rows}"),
         Err(refusal) => refused(refusal),
     };
-    Found { answer, outcome: outcome.map_err(|refusal| refusal.number), table }
+    Found { answer, outcome: outcome.map_err(|refusal| refusal.number), table, out: None }
+}
+
+pub fn found_tidying(stream: &[u8], words: usize, room: usize) -> Found {
+    let mut table = vec![LITTER_WORD; words];
+    let mut out = vec![LITTER_BYTE; room];
+    let outcome = tidy(stream, &mut table, &mut out);
+    let answer = match &outcome {
+        Ok(length) => written(*length),
+        Err(refusal) if is_full(refusal) => format!("full {}", refusal.needed),
+        Err(refusal) => refused(refusal),
+    };
+    Found { answer, outcome: outcome.map_err(|refusal| refusal.number), table, out: Some(out) }
+}
+
+pub fn written(length: usize) -> String {
+    format!("written {length}")
+}
+
+fn is_full(refusal: &Refusal) -> bool {
+    refusal.number == Reply::OutFull as u32
 }
 
 impl Found {
     pub fn line(&self) -> String {
-        let [first, second] = LANES.map(|by| hash(&self.table, by));
-        format!("{} {first} {second}", self.answer)
+        let mut line = format!("{} {}", self.answer, trace(&self.table));
+        if let Some(out) = &self.out {
+            line += &format!(" {}", byte_trace(out));
+        }
+        line
     }
 }
 
+/// The hash of an output's bytes, each taken as a word.
+pub fn byte_trace(out: &[u8]) -> String {
+    let words: Vec<u32> = out.iter().map(|&byte| u32::from(byte)).collect();
+    trace(&words)
+}
+
+fn trace(words: &[u32]) -> String {
+    let [first, second] = LANES.map(|by| hash(words, by));
+    format!("{first} {second}")
+}
+
 /// Every word counts, and its place.
-fn hash(table: &[u32], by: u64) -> u64 {
-    table.iter().fold(0, |hash, &word| (hash * by + u64::from(word) + 1) % MODULUS)
+fn hash(words: &[u32], by: u64) -> u64 {
+    words.iter().fold(0, |hash, &word| (hash * by + u64::from(word) + 1) % MODULUS)
 }
 
 #[cfg(test)]
 mod tests {
     use super::*;
+    use crate::stream::Stream;
 
-    /// The comparing program's own sample says the same of the form of both
+    /// The comparing programs' own samples say the same of the form of both
     /// sides.
     #[test]
-    fn the_sample_of_the_comparing_program() {
+    fn the_sample_of_the_reading_program() {
         let mut sent = Vec::new();
         let mut lines = String::new();
-        let array = crate::stream::Stream::new().objects(1, 3).nulls(3).end().0;
+        let array = Stream::new().objects(1, 3).nulls(3).end().0;
         for (stream, words) in [(&[][..], 16), (&array[..], 35)] {
-            send(stream, words, &mut sent);
+            send(stream, &[words], &mut sent);
             lines += &(found(stream, words).line() + "\n");
         }
         assert_eq!(sent, include_bytes!("../../crates/compare/stdin"));
         assert_eq!(lines, include_str!("../../crates/compare/stdout"));
+    }
+
+    #[test]
+    fn the_sample_of_the_tidying_program() {
+        let mut sent = Vec::new();
+        let mut lines = String::new();
+        let array = Stream::rooted(7).objects(7, 3).null().nulls(2).end().0;
+        for (stream, words, room) in [
+            (&[][..], 16, 4),
+            (&array, 48, 40),
+            (&array, 43, 29),
+            (&array, 40, 28),
+            (&array, 39, 40),
+        ] {
+            send(stream, &[words, room], &mut sent);
+            lines += &(found_tidying(stream, words, room).line() + "\n");
+        }
+        assert_eq!(sent, include_bytes!("../../crates/compare_tidy/stdin"));
+        assert_eq!(lines, include_str!("../../crates/compare_tidy/stdout"));
     }
 }

@@ -1,6 +1,6 @@
 -- What the exported forms answer: the number, the place and the value of the reply that the job has, and where the text of a row stands.
 use Prim.Native.Nat.{ℕ, _+_, _-_, _≤_}
-use mathlib.Core.Path.{_≡_, refl, sym, ap, _∙_}
+use mathlib.Core.Path.{_≡_, refl, sym, ap, subst, _∙_}
 use mathlib.Core.List.{List}
 use native.Mathlib.Omega.{arith}
 use lib.ListN.{length}
@@ -10,27 +10,56 @@ use Rattle.format.specs.declared.ReadAnswer.{ReadAnswer}
 use Rattle.format.specs.declared.ReadAnswer.the-variants as A
 use Rattle.format.specs.declared.RowAnswer.{RowAnswer}
 use Rattle.format.specs.declared.RowAnswer.the-variants as Q
+use Rattle.format.specs.declared.TidyAnswer.{TidyAnswer}
+use Rattle.format.specs.declared.TidyAnswer.the-variants as C
 use Rattle.format.specs.declared.Text.{Text}
 use Rattle.format.specs.declared.Text.the-variants as T
 use Rattle.format.specs.Bytes.{part}
-use Rattle.format.specs.Replies.{numberOf, readReply, rowReply}
+use Rattle.format.specs.Replies.{numberOf, Reply, reply, readReply, rowReply, tidyReply}
+use Rattle.format.specs.Rows.{roomOf}
+use Rattle.format.specs.Machine.{readOf}
+use Rattle.format.specs.Tidy.{tidyAnswer, tidyTable, tidyOutput}
 use Rattle.format.specs.View.{rowText, rowQuestion, textView}
 use Rattle.view.specs.Laws.{question-part, question-fault, view-part, view-fault, row-inside}
 
-pub record Answered (a : ReadAnswer) (number place value : ℕ) : Type 0 where
-  pub number-is : number ≡ readReply a .number
-  pub place-is : place ≡ readReply a .place
-  pub value-is : value ≡ readReply a .value
+pub record Answered (r : Reply) (number place value : ℕ) : Type 0 where
+  pub number-is : number ≡ r .number
+  pub place-is : place ≡ r .place
+  pub value-is : value ≡ r .value
 
-pub accepted : (a b : ReadAnswer) (n : ℕ) → a ≡ b → a ≡ A.Accepted n → Answered b 0 0 n
-accepted a b n e q =
-    let x : b ≡ A.Accepted n = sym e ∙ q in
-    record { number-is = rw x; place-is = rw x; value-is = rw x }
+-- the number, the place and the value of a reply that is another, as soon as its number is known
+pub answered : (r : Reply) (n k p v : ℕ) → reply n p v ≡ r → k ≡ n → Answered r k p v
+answered r n k p v e w =
+    record { number-is = w ∙ ap (λ (x : Reply). x .number) e; place-is = ap (λ (x : Reply). x .place) e; value-is = ap (λ (x : Reply). x .value) e }
 
-pub refused : (a b : ReadAnswer) (r : Refusal) (p k : ℕ) → a ≡ b → a ≡ A.Refused r p → k ≡ numberOf r → Answered b k p 0
-refused a b r p k e q w =
-    let x : b ≡ A.Refused r p = sym e ∙ q in
-    record { number-is = rw x w; place-is = rw x; value-is = rw x }
+-- ---- reading
+
+module _ (a b : ReadAnswer) (e : a ≡ b) where
+  pub accepted : (n : ℕ) → a ≡ A.Accepted n → Answered (readReply b) 0 0 n
+  accepted n q = answered _ _ _ _ _ (ap readReply (sym q ∙ e)) refl
+
+  pub refused : (r : Refusal) (p k : ℕ) → a ≡ A.Refused r p → k ≡ numberOf r → Answered (readReply b) k p 0
+  refused r p k q w = answered _ _ _ _ _ (ap readReply (sym q ∙ e)) w
+
+-- ---- tidying
+
+pub not-read : (a : TidyAnswer) (r : Refusal) (p k : ℕ) → a ≡ C.Refused r p → k ≡ numberOf r → Answered (tidyReply a) k p 0
+not-read a r p k q w = answered _ _ _ _ _ (ap tidyReply (sym q)) w
+
+-- what a tidying leaves in the table and the output, beside its reply
+pub record Tidied (s t out t' out' : List ℕ) (number place value : ℕ) : Type 0 where
+  pub answer-is : Answered (tidyReply (tidyAnswer s out (readOf s (roomOf t)))) number place value
+  pub table-is : t' ≡ tidyTable (length t) s out (readOf s (roomOf t))
+  pub out-is : out' ≡ tidyOutput s out (readOf s (roomOf t))
+
+pub tidied : (s t out t' out' : List ℕ) (number place value : ℕ) (a : TidyAnswer)
+    → a ≡ tidyAnswer s out (readOf s (roomOf t))
+    → t' ≡ tidyTable (length t) s out (readOf s (roomOf t))
+    → out' ≡ tidyOutput s out (readOf s (roomOf t))
+    → Answered (tidyReply a) number place value
+    → Tidied s t out t' out' number place value
+tidied s t out t' out' number place value a e et eo h =
+    record { answer-is = subst (λ (x : TidyAnswer). Answered (tidyReply x) number place value) e h; table-is = et; out-is = eo }
 
 -- ---- the row question
 

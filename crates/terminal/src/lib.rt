@@ -3,13 +3,14 @@ use format::ReadAnswer;
 use format::Refusal;
 use format::RowAnswer;
 use format::Text;
+use format::TidyAnswer;
 ghost use mathlib.Core.Path.{_≡_};
 ghost use lib.ListN.{length};
 ghost use Rattle.format.specs.Rows.{roomOf};
 ghost use Rattle.format.specs.Machine.{readOf, readAnswer, tableWords};
 ghost use Rattle.format.specs.View.{rowQuestion};
-ghost use Rattle.format.specs.Replies.{rowReply};
-ghost use Rattle.terminal.specs.Terminal.{Answered, Shown};
+ghost use Rattle.format.specs.Replies.{readReply, rowReply, tidyReply};
+ghost use Rattle.terminal.specs.Terminal.{Answered, Shown, Tidied};
 
 // Reads a stream into a table of rows. Answers 0, or the number of the refusal; `place` is then its place, and `rows` is how many rows there
 // are where there is none.
@@ -20,7 +21,7 @@ pub extern "C" fn strelinga_read(
     place: &mut u64,
     rows: &mut u64,
 ) -> u32
-    ensures { λ n. ⌜ Answered (readAnswer (readOf (now (stream .entry)) (roomOf (now (table .entry))))) n (now (place .exit)) (now (rows .exit))
+    ensures { λ n. ⌜ Answered (readReply (readAnswer (readOf (now (stream .entry)) (roomOf (now (table .entry)))))) n (now (place .exit)) (now (rows .exit))
         × (now (table .exit) ≡ tableWords (length (now (table .entry))) (readOf (now (stream .entry)) (roomOf (now (table .entry))))) ⌝ }
 {
     let a = reader::read(stream, table);
@@ -73,4 +74,52 @@ pub extern "C" fn strelinga_text_view(
             format::number_of(Refusal::NoSuchRow)
         }
     }
+}
+
+// What a tidying answers: 0 or the refusal's number, its place, and how long the copy is or would be.
+pub struct Reply {
+    pub number: u32,
+    pub place: u64,
+    pub value: u64,
+}
+
+fn tidy_reply(a: TidyAnswer) -> Reply
+    ensures { λ r. ⌜ Answered (tidyReply a) (r .number) (r .place) (r .value) ⌝ }
+{
+    match a {
+        TidyAnswer::Written(n) => Reply {
+            number: 0,
+            place: 0,
+            value: n as u64,
+        },
+        TidyAnswer::Refused(r, at) => Reply {
+            number: format::number_of(r),
+            place: at as u64,
+            value: 0,
+        },
+        TidyAnswer::OutFull(n) => Reply {
+            number: format::number_of(Refusal::OutFull),
+            place: 0,
+            value: n as u64,
+        },
+    }
+}
+
+// Writes the tidy copy of a stream to the front of the output. Answers 0, or the number of the refusal; `place` is then its place, and `length`
+// is how long the copy is or, with 20, would be.
+#[no_mangle]
+pub extern "C" fn strelinga_tidy(
+    stream: &[u8],
+    table: &mut [u32],
+    out: &mut [u8],
+    place: &mut u64,
+    length: &mut u64,
+) -> u32
+    ensures { λ n. ⌜ Tidied (now (stream .entry)) (now (table .entry)) (now (out .entry)) (now (table .exit)) (now (out .exit)) n (now (place .exit)) (now (length .exit)) ⌝ }
+{
+    let a = tidy::tidy(stream, table, out);
+    let r = tidy_reply(a);
+    *place = r.place;
+    *length = r.value;
+    r.number
 }

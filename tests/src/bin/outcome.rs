@@ -2,7 +2,7 @@
 //! named; with `--tidy` also the tidy copy in hex; with `--corpus DIR` holds a
 //! folder of lists against its expected.tsv.
 
-use independent_reader::corpus::{self, fnv_1a, refused};
+use independent_reader::corpus::{self, copy_note, refused};
 use independent_reader::{read, tidy};
 use std::io::Read;
 use std::path::Path;
@@ -110,7 +110,7 @@ fn corpus_tidy(stream: &[u8]) -> String {
     let mut table = vec![0; TIDY_ROWS * 8];
     let mut out = vec![0; TIDY_BYTES];
     match tidy(stream, &mut table, &mut out) {
-        Ok(length) => format!("tidy {length} {:016x}", fnv_1a(out[..length].iter().copied())),
+        Ok(length) => format!("tidy {}", copy_note(&out[..length])),
         Err(refusal) => format!("tidy {}", refused(&refusal)),
     }
 }

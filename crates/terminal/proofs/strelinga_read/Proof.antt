@@ -15,8 +15,8 @@ strelinga-read-spec =
     (λ c. search needs)
     (λ c.
     let r = c .before .before .before .before .before .read in
-    (accepted (r .result) _ _ (r .ensures .0) (c .before .a .given .1), r .ensures .1))
+    (accepted (r .result) _ (r .ensures .0) _ (c .before .a .given .1), r .ensures .1))
     (λ c. search needs)
     (λ c.
     let r = c .before .before .before .before .before .before .read in
-    (refused (r .result) _ _ _ _ (r .ensures .0) (c .before .before .a2 .given .1) (c .number-of .ensures), r .ensures .1)))
+    (refused (r .result) _ (r .ensures .0) _ _ _ (c .before .before .a2 .given .1) (c .number-of .ensures), r .ensures .1)))

@@ -1,20 +1,20 @@
--- The table keeps its length; the measure is what is left of it.
+-- Both lanes stay below the modulus.
 use Prim.Native.Nat.{_≤_, _<_, _-_}
 use mathlib.Core.Path.{_≡_}
 use borrow.Author.Needs.{needs}
 use native.Mathlib.Omega.{arith}
 use lib.ListN.{length, length-set}
-use Rattle.compare.proofs.litter.Statement.{statement}
-use Rattle.compare.proofs.litter.Tie as tie
+use Rattle.traces.proofs.words.Statement.{statement}
+use Rattle.traces.proofs.words.Tie as tie
 
 abbrev Inv-loop : tie.InvT-loop
-Inv-loop table₀ i₀ table i = length table ≡ length table₀
+Inv-loop table l₀ i₀ l i = (i ≤ length table) × (l .a < 4294967291) × (l .b < 4294967291)
 
 abbrev μ-loop : tie.MeasureT-loop
-μ-loop table₀ i₀ table i = length table - i
+μ-loop table l₀ i₀ l i = length table - i
 
-pub litter-spec : {M : Type 1} → statement M
-litter-spec =
+pub words-spec : {M : Type 1} → statement M
+words-spec =
     tie.close
     (tie.spec
     Inv-loop
@@ -22,8 +22,8 @@ litter-spec =
     (λ c. search needs)
     (λ c. search needs)
     (λ c. search needs)
+    (λ c κs. search needs)
     (λ c. search needs)
-    (λ c. simp length-set (omega arith))
     (λ c. search needs)
     (λ c. search needs)
     (λ c. search needs))

@@ -1,20 +1,20 @@
--- Both lanes stay below the modulus.
+-- The output keeps its length; the measure is what is left of it.
 use Prim.Native.Nat.{_≤_, _<_, _-_}
 use mathlib.Core.Path.{_≡_}
 use borrow.Author.Needs.{needs}
 use native.Mathlib.Omega.{arith}
 use lib.ListN.{length, length-set}
-use Rattle.compare.proofs.hash.Statement.{statement}
-use Rattle.compare.proofs.hash.Tie as tie
+use Rattle.traces.proofs.litter_bytes.Statement.{statement}
+use Rattle.traces.proofs.litter_bytes.Tie as tie
 
 abbrev Inv-loop : tie.InvT-loop
-Inv-loop table l₀ i₀ l i = (i ≤ length table) × (l .a < 4294967291) × (l .b < 4294967291)
+Inv-loop out₀ i₀ out i = length out ≡ length out₀
 
 abbrev μ-loop : tie.MeasureT-loop
-μ-loop table l₀ i₀ l i = length table - i
+μ-loop out₀ i₀ out i = length out - i
 
-pub hash-spec : {M : Type 1} → statement M
-hash-spec =
+pub litter-bytes-spec : {M : Type 1} → statement M
+litter-bytes-spec =
     tie.close
     (tie.spec
     Inv-loop
@@ -22,8 +22,7 @@ hash-spec =
     (λ c. search needs)
     (λ c. search needs)
     (λ c. search needs)
-    (λ c κs. search needs)
-    (λ c. search needs)
+    (λ c. simp length-set (omega arith))
     (λ c. search needs)
     (λ c. search needs)
     (λ c. search needs))

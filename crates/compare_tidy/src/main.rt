@@ -1,0 +1,109 @@
+// Tidies many streams, one behind another, each with its length, the size of its table in words and the size of its output in bytes before it
+// (four bytes each, the low byte first), and prints the answer to each, a hash of the words that are left and one of all bytes of the output.
+// For comparing with the independent tidier.
+use format::TidyAnswer;
+use libc::STDIN_FILENO;
+use libc::STDOUT_FILENO;
+ghost use mathlib.Core.Path.{_≡_};
+ghost use lib.ListN.{length};
+
+fn answer(a: TidyAnswer) {
+    match a {
+        TidyAnswer::Written(n) => {
+            io::write_all(STDOUT_FILENO, b"written ");
+            traces::number(n as u64);
+        }
+        TidyAnswer::Refused(r, place) => traces::refused(format::number_of(r), place),
+        TidyAnswer::OutFull(needed) => {
+            io::write_all(STDOUT_FILENO, b"full ");
+            traces::number(needed as u64);
+        }
+    }
+}
+
+// One stream, the words that its table has and the bytes that its output has.
+fn show(s: &[u8], table: &mut [u32], out: &mut [u8]) {
+    traces::litter_words(table);
+    traces::litter_bytes(out);
+    let a = tidy::tidy(s, table, out);
+    answer(a);
+    traces::print_lanes(traces::words(table));
+    traces::print_lanes(traces::bytes(out));
+    io::write_all(STDOUT_FILENO, b"\n");
+}
+
+// What stands before a stream.
+pub struct Sizes {
+    pub bytes: usize,
+    pub words: usize,
+    pub room: usize,
+}
+
+// The stream that comes next, with the sizes of it, its table and its output. False where the input ends before.
+fn one(space: &mut [u8], table: &mut [u32], out: &mut [u8], sizes: Sizes) -> bool {
+    let bytes = sizes.bytes;
+    let words = sizes.words;
+    let room = sizes.room;
+    if space.len() < bytes {
+        return false;
+    }
+    if table.len() < words {
+        return false;
+    }
+    if out.len() < room {
+        return false;
+    }
+    let got = io::read_full(STDIN_FILENO, &mut space[..bytes]);
+    if got != bytes {
+        return false;
+    }
+    show(&space[..bytes], &mut table[..words], &mut out[..room]);
+    true
+}
+
+// The next stream. False where there is none, or it is larger than the space for it.
+fn next(space: &mut [u8], table: &mut [u32], out: &mut [u8]) -> bool {
+    let mut head = [0u8; 12];
+    let n = io::read_full(STDIN_FILENO, &mut head);
+    if n != 12 {
+        return false;
+    }
+    let sizes = Sizes {
+        bytes: traces::size_at(&head, 0),
+        words: traces::size_at(&head, 4),
+        room: traces::size_at(&head, 8),
+    };
+    one(space, table, out, sizes)
+}
+
+// All streams, of which there are at most a million.
+fn all(space: &mut [u8], table: &mut [u32], out: &mut [u8]) {
+    let mut i: u32 = 0;
+    while i < 1000000 {
+        if !next(space, table, out) {
+            return;
+        }
+        i += 1;
+    }
+}
+
+// Room for one stream.
+fn stream_room() -> [u8; 600000]
+    ensures { λ r. ⌜ 600000 ≡ length r ⌝ }
+{
+    [0; 600000]
+}
+
+// Room for one copy.
+fn copy_room() -> [u8; 1000000]
+    ensures { λ r. ⌜ 1000000 ≡ length r ⌝ }
+{
+    [0; 1000000]
+}
+
+fn main() {
+    let mut space = stream_room();
+    let mut table = [0u32; 8192];
+    let mut out = copy_room();
+    all(&mut space, &mut table, &mut out);
+}

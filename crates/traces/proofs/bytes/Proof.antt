@@ -1,0 +1,29 @@
+-- Both lanes stay below the modulus.
+use Prim.Native.Nat.{_≤_, _<_, _-_}
+use mathlib.Core.Path.{_≡_}
+use borrow.Author.Needs.{needs}
+use native.Mathlib.Omega.{arith}
+use lib.ListN.{length, length-set}
+use Rattle.traces.proofs.bytes.Statement.{statement}
+use Rattle.traces.proofs.bytes.Tie as tie
+
+abbrev Inv-loop : tie.InvT-loop
+Inv-loop out l₀ i₀ l i = (i ≤ length out) × (l .a < 4294967291) × (l .b < 4294967291)
+
+abbrev μ-loop : tie.MeasureT-loop
+μ-loop out l₀ i₀ l i = length out - i
+
+pub bytes-spec : {M : Type 1} → statement M
+bytes-spec =
+    tie.close
+    (tie.spec
+    Inv-loop
+    μ-loop
+    (λ c. search needs)
+    (λ c. search needs)
+    (λ c. search needs)
+    (λ c κs. search needs)
+    (λ c. search needs)
+    (λ c. search needs)
+    (λ c. search needs)
+    (λ c. search needs))

@@ -1,0 +1,94 @@
+// What a job leaves in the lent table and output, as hashes that programs print, and what stands there before it. For comparing with the
+// independent reader and tidier; what is written cannot be promised.
+use format::Number32;
+use libc::STDOUT_FILENO;
+ghost use Prim.Native.Nat.{_<_};
+
+// The table holds something else before each stream.
+pub fn litter_words(table: &mut [u32]) {
+    let mut i: usize = 0;
+    while i < table.len() {
+        table[i] = 2779096485;
+        i += 1;
+    }
+}
+
+// So does the output.
+pub fn litter_bytes(out: &mut [u8]) {
+    let mut i: usize = 0;
+    while i < out.len() {
+        out[i] = 165;
+        i += 1;
+    }
+}
+
+// Two lanes of a hash in which every word counts, and its place.
+pub struct Lanes {
+    pub a: u64,
+    pub b: u64,
+}
+
+fn stir(l: Lanes, w: u32) -> Lanes
+    requires { ⌜ (l .a < 4294967291) × (l .b < 4294967291) ⌝ }
+    ensures { λ r. ⌜ (r .a < 4294967291) × (r .b < 4294967291) ⌝ }
+{
+    Lanes {
+        a: (l.a * 65599 + (w as u64) + 1) % 4294967291,
+        b: (l.b * 131071 + (w as u64) + 1) % 4294967291,
+    }
+}
+
+// The hash of the words of a table.
+pub fn words(table: &[u32]) -> Lanes {
+    let mut l = Lanes { a: 0, b: 0 };
+    let mut i: usize = 0;
+    while i < table.len() {
+        l = stir(l, table[i]);
+        i += 1;
+    }
+    l
+}
+
+fn wide(b: u8) -> u32 {
+    b as u32
+}
+
+// The hash of the bytes of an output, each taken as a word.
+pub fn bytes(out: &[u8]) -> Lanes {
+    let mut l = Lanes { a: 0, b: 0 };
+    let mut i: usize = 0;
+    while i < out.len() {
+        l = stir(l, wide(out[i]));
+        i += 1;
+    }
+    l
+}
+
+pub fn number(n: u64) {
+    io::print_decimal(STDOUT_FILENO, n);
+}
+
+// A blank before each lane.
+pub fn print_lanes(l: Lanes) {
+    io::write_all(STDOUT_FILENO, b" ");
+    number(l.a);
+    io::write_all(STDOUT_FILENO, b" ");
+    number(l.b);
+}
+
+// `refused` number `at` place.
+pub fn refused(number_of: u32, place: usize) {
+    io::write_all(STDOUT_FILENO, b"refused ");
+    number(number_of as u64);
+    io::write_all(STDOUT_FILENO, b" at ");
+    number(place as u64);
+}
+
+// The number of four bytes at a place of what stands before a stream, or 0.
+pub fn size_at(head: &[u8], at: usize) -> usize {
+    let v = num::u32_at(head, at);
+    match v {
+        Number32::Value(n, _) => n as usize,
+        Number32::Short => 0,
+    }
+}

@@ -1,0 +1,108 @@
+//! The streams and outputs on which the proved tidier is compared with this
+//! one, and the lists whose copies must be equal.
+
+use crate::cases::Case;
+use crate::generate::{self, Random};
+use crate::reader::{read_records, ROW_WORDS};
+use crate::show::{byte_trace, written, MOST_WORDS};
+use crate::tidy::copy_of;
+
+/// One stream with the sizes of its table and its output.
+pub struct Tidying {
+    pub what: String,
+    pub stream: Vec<u8>,
+    pub words: usize,
+    pub room: usize,
+    pub demand: Demand,
+}
+
+/// What must hold of the program's line besides that this tidier agrees.
+#[derive(Clone, PartialEq)]
+pub enum Demand {
+    None,
+    /// What was noted of the copy, which fills the output.
+    Noted(String),
+    /// The stream is a tidy copy, so its copy is the stream itself.
+    Unchanged,
+    /// The stream says what all streams of the group say, so the copies are
+    /// equal.
+    OneCopy(usize),
+}
+
+/// Packings of one list.
+const PACKINGS: usize = 4;
+
+/// The copy, where the stream is accepted with such a table.
+fn copy_in(stream: &[u8], words: usize) -> Option<Vec<u8>> {
+    read_records(stream, words / ROW_WORDS).ok().map(|reading| copy_of(&reading))
+}
+
+/// An accepted stream with outputs that are larger than the copy, as large, one
+/// byte too small and empty, and its copy as a stream, for the same table; a
+/// refused one with one output.
+pub fn of_case(case: &Case) -> Vec<Tidying> {
+    let tidying = |what: &str, stream: &[u8], room, demand| Tidying {
+        what: format!("{}, {what}", case.what),
+        stream: stream.to_vec(),
+        words: case.words,
+        room,
+        demand,
+    };
+    let Some(copy) = copy_in(&case.stream, case.words) else {
+        let room = case.stream.len() % 64;
+        return vec![tidying("refused", &case.stream, room, Demand::None)];
+    };
+    let length = copy.len();
+    let known = case.known.as_ref().and_then(|known| known.copy.clone());
+    let noted = known.map_or(Demand::None, Demand::Noted);
+    vec![
+        tidying("output larger", &case.stream, length + 1 + length % 40, Demand::None),
+        tidying("output as large", &case.stream, length, noted),
+        tidying("output one byte too small", &case.stream, length - 1, Demand::None),
+        tidying("output empty", &case.stream, 0, Demand::None),
+        tidying("its copy", &copy, length, Demand::Unchanged),
+    ]
+}
+
+/// Lists made from a seed, each packed in many ways: other ids, null runs split
+/// and empty ones put in, libraries doubled and not needed, whole classes in
+/// place of kind 1, other HeaderIds. The copy of each list is among its group.
+pub fn repacked(seed: u64, lists: usize) -> Vec<Tidying> {
+    let mut random = Random::new(seed);
+    let mut all = Vec::new();
+    for group in 0..lists {
+        let list = generate::list(&mut random);
+        let mut streams: Vec<Vec<u8>> =
+            (0..PACKINGS).map(|_| generate::pack(&list, &mut random)).collect();
+        let Some(copy) = copy_in(&streams[0], MOST_WORDS) else {
+            continue;
+        };
+        let room = copy.len();
+        streams.push(copy);
+        all.extend(streams.into_iter().map(|stream| Tidying {
+            what: format!("repacked list {group}"),
+            stream,
+            words: MOST_WORDS,
+            room,
+            demand: Demand::OneCopy(group),
+        }));
+    }
+    all
+}
+
+/// What a line says of a copy that fills the output: its length and the hash
+/// of its bytes.
+pub fn copy_part(line: &str) -> Option<(String, String)> {
+    let words: Vec<&str> = line.split(' ').collect();
+    match words[..] {
+        ["written", length, _, _, first, second] => {
+            Some((format!("written {length}"), format!("{first} {second}")))
+        }
+        _ => None,
+    }
+}
+
+/// What the line says where the copy is these bytes.
+pub fn part_of(copy: &[u8]) -> (String, String) {
+    (written(copy.len()), byte_trace(copy))
+}
