@@ -15,6 +15,8 @@ pub struct Case {
     /// Words of the table.
     pub words: usize,
     pub known: Option<Known>,
+    /// Not made here.
+    pub is_list: bool,
 }
 
 /// What is known of the outcome besides what this reader finds.
@@ -39,7 +41,7 @@ fn hand_written(case: by_hand::Case) -> Case {
     let what = format!("by hand: {}", case.what);
     let copy = case.copy.and_then(Result::ok).map(|copy| corpus::copy_note(&copy));
     let known = Some(Known { answer, rows: None, copy });
-    Case { what, stream: case.stream, words: case.words, known }
+    Case { what, stream: case.stream, words: case.words, known, is_list: false }
 }
 
 /// Every list of a folder, with what its expected.tsv says.
@@ -51,7 +53,8 @@ pub fn lists(folder: &Path) -> Result<Vec<Case>, String> {
 fn list(folder: &Path, name: &str, outcome: &str) -> Result<Case, String> {
     let stream = std::fs::read(folder.join(name)).map_err(|error| format!("{name}: {error}"))?;
     let known = Some(known(outcome).ok_or(format!("{name}: what is {outcome:?}?"))?);
-    Ok(Case { what: format!("list {name}"), stream, words: corpus::ROWS * ROW_WORDS, known })
+    let words = corpus::ROWS * ROW_WORDS;
+    Ok(Case { what: format!("list {name}"), stream, words, known, is_list: true })
 }
 
 /// What an outcome of expected.tsv says of the reading and the copy.
@@ -102,7 +105,13 @@ impl Maker<'_> {
     /// `rows` are those that the stream needs, or about so many.
     fn push(&mut self, what: &str, stream: Vec<u8>, rows: usize) {
         let words = table_words(rows, &mut self.random);
-        self.cases.push(Case { what: what.to_string(), stream, words, known: None });
+        self.cases.push(Case {
+            what: what.to_string(),
+            stream,
+            words,
+            known: None,
+            is_list: false,
+        });
     }
 
     fn valid(&mut self) {

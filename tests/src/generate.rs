@@ -44,56 +44,56 @@ const CHARS: [&str; 6] = ["A", "\0", "\u{7f}", "\u{e9}", "\u{20ac}", "\u{1f600}"
 const DECIMALS: [&str; 7] = ["0", "-0", "1.5", "-12.25", "007", "0.000", "12"];
 
 #[derive(Clone, PartialEq, Debug)]
-pub enum Type {
+pub enum Type<'a> {
     Primitive(u8),
     String,
     Object,
-    SystemClass(&'static str),
-    Class(&'static str, &'static str),
+    SystemClass(&'a str),
+    Class(&'a str, &'a str),
     ObjectArray,
     StringArray,
     PrimitiveArray(u8),
 }
 
 #[derive(Clone, PartialEq, Debug)]
-pub struct Class {
-    pub name: &'static str,
-    pub library: Option<&'static str>,
-    pub members: Vec<(&'static str, Type)>,
+pub struct Class<'a> {
+    pub name: &'a str,
+    pub library: Option<&'a str>,
+    pub members: Vec<(&'a str, Type<'a>)>,
 }
 
 /// What fills one slot. A reference counts its target by object order, taken
 /// modulo the number of objects.
 #[derive(Clone, PartialEq, Debug)]
-pub enum Filling {
+pub enum Filling<'a> {
     Value(Vec<u8>),
     Null,
     Typed(u8, Vec<u8>),
     Reference(usize),
-    Object(Object),
+    Object(Object<'a>),
 }
 
 #[derive(Clone, PartialEq, Debug)]
-pub enum Object {
-    OfClass(Class, Vec<Filling>),
-    String(&'static str),
-    Array(Array),
+pub enum Object<'a> {
+    OfClass(Class<'a>, Vec<Filling<'a>>),
+    String(&'a str),
+    Array(Array<'a>),
 }
 
 /// Kind 7, 15, 16 or 17.
 #[derive(Clone, PartialEq, Debug)]
-pub struct Array {
+pub struct Array<'a> {
     pub kind: u8,
     pub array_type: u8,
     pub lengths: Vec<i32>,
-    pub item: Type,
-    pub fillings: Vec<Filling>,
+    pub item: Type<'a>,
+    pub fillings: Vec<Filling<'a>>,
 }
 
 /// What a list says, whatever its packing.
 #[derive(Clone, PartialEq, Debug)]
-pub struct List {
-    pub objects: Vec<Object>,
+pub struct List<'a> {
+    pub objects: Vec<Object<'a>>,
     pub root: usize,
 }
 
@@ -101,12 +101,12 @@ const DEEPEST: usize = 4;
 
 struct Maker<'r> {
     random: &'r mut Random,
-    classes: Vec<Class>,
+    classes: Vec<Class<'static>>,
     objects_left: usize,
 }
 
 /// A list of a few objects.
-pub fn list(random: &mut Random) -> List {
+pub fn list(random: &mut Random) -> List<'static> {
     let mut maker = Maker { random, classes: Vec::new(), objects_left: 0 };
     for _ in 0..1 + maker.random.below(3) {
         let class = maker.class();
@@ -123,7 +123,7 @@ pub fn list(random: &mut Random) -> List {
 }
 
 impl Maker<'_> {
-    fn class(&mut self) -> Class {
+    fn class(&mut self) -> Class<'static> {
         if !self.classes.is_empty() && self.random.chance(30) {
             return self.near_twin();
         }
@@ -134,7 +134,7 @@ impl Maker<'_> {
     }
 
     /// A class that differs from another in one thing.
-    fn near_twin(&mut self) -> Class {
+    fn near_twin(&mut self) -> Class<'static> {
         let mut twin = self.random.pick(&self.classes.clone());
         match self.random.below(3) {
             0 => twin.name = self.random.pick(&NAMES),
@@ -148,11 +148,11 @@ impl Maker<'_> {
         twin
     }
 
-    fn member(&mut self) -> (&'static str, Type) {
+    fn member(&mut self) -> (&'static str, Type<'static>) {
         (self.random.pick(&NAMES), self.slot_type())
     }
 
-    fn slot_type(&mut self) -> Type {
+    fn slot_type(&mut self) -> Type<'static> {
         match self.random.below(11) {
             0..=2 => Type::Primitive(self.random.pick(&CODES)),
             3 => Type::String,
@@ -165,7 +165,7 @@ impl Maker<'_> {
         }
     }
 
-    fn top_level_object(&mut self) -> Object {
+    fn top_level_object(&mut self) -> Object<'static> {
         self.objects_left -= 1;
         match self.random.below(10) {
             0 => Object::String(self.random.pick(&TEXTS)),
@@ -177,15 +177,15 @@ impl Maker<'_> {
         }
     }
 
-    fn object_of_class(&mut self, depth: usize) -> Object {
+    fn object_of_class(&mut self, depth: usize) -> Object<'static> {
         let class = self.random.pick(&self.classes.clone());
         let types = class.members.iter().map(|(_, slot_type)| slot_type.clone());
-        let types: Vec<Type> = types.collect();
+        let types: Vec<Type<'static>> = types.collect();
         let fillings = types.iter().map(|slot_type| self.filling(slot_type, depth)).collect();
         Object::OfClass(class, fillings)
     }
 
-    fn binary_array(&mut self) -> Object {
+    fn binary_array(&mut self) -> Object<'static> {
         let array_type = self.random.below(3) as u8;
         let rank = if array_type == 2 { 2 + self.random.below(2) } else { 1 };
         let longest = if rank == 1 { 6 } else { 3 };
@@ -195,14 +195,14 @@ impl Maker<'_> {
         Object::Array(Array { kind: 7, array_type, lengths, item, fillings })
     }
 
-    fn primitive_array(&mut self) -> Object {
+    fn primitive_array(&mut self) -> Object<'static> {
         let length = self.random.below(5) as i32;
         let item = Type::Primitive(self.random.pick(&CODES));
         let fillings = self.fillings(&item, length);
         Object::Array(Array { kind: 15, array_type: 0, lengths: vec![length], item, fillings })
     }
 
-    fn slot_array(&mut self, kind: u8, item: Type) -> Object {
+    fn slot_array(&mut self, kind: u8, item: Type<'static>) -> Object<'static> {
         let long = self.random.chance(8);
         let length = if long { 254 + self.random.below(5) } else { self.random.below(7) } as i32;
         let mut fillings = if long { Vec::new() } else { self.fillings(&item, length) };
@@ -214,11 +214,11 @@ impl Maker<'_> {
         Object::Array(Array { kind, array_type: 0, lengths: vec![length], item, fillings })
     }
 
-    fn fillings(&mut self, item: &Type, count: i32) -> Vec<Filling> {
+    fn fillings(&mut self, item: &Type<'static>, count: i32) -> Vec<Filling<'static>> {
         (0..count).map(|_| self.filling(item, 1)).collect()
     }
 
-    fn filling(&mut self, slot_type: &Type, depth: usize) -> Filling {
+    fn filling(&mut self, slot_type: &Type<'static>, depth: usize) -> Filling<'static> {
         let choice = self.random.below(100);
         match slot_type {
             Type::Primitive(code) => Filling::Value(self.value(*code)),
@@ -242,11 +242,11 @@ impl Maker<'_> {
         }
     }
 
-    fn reference(&mut self) -> Filling {
+    fn reference(&mut self) -> Filling<'static> {
         Filling::Reference(self.random.below(1000))
     }
 
-    fn nested_string(&mut self) -> Filling {
+    fn nested_string(&mut self) -> Filling<'static> {
         self.objects_left -= 1;
         Filling::Object(Object::String(self.random.pick(&TEXTS)))
     }
@@ -269,15 +269,18 @@ impl Maker<'_> {
     }
 }
 
-struct Packer<'r> {
+/// LibraryIds are small where there are few.
+const FEW_LIBRARIES: usize = 60;
+
+struct Packer<'r, 'a> {
     random: &'r mut Random,
     stream: Stream,
     /// ObjectIds by object order.
     ids: Vec<i32>,
     packed: usize,
     /// Classes that stand in a record of kind 4 or 5, with its ObjectId.
-    classes: Vec<(Class, i32)>,
-    libraries: Vec<(i32, &'static str)>,
+    classes: Vec<(Class<'a>, i32)>,
+    libraries: Vec<(i32, &'a str)>,
     /// Chance in a hundred of an unneeded record before a kind byte.
     litter: usize,
 }
@@ -361,7 +364,7 @@ fn object_ids(list: &List, random: &mut Random) -> Vec<i32> {
     ids
 }
 
-impl Packer<'_> {
+impl<'a> Packer<'_, 'a> {
     fn put(&mut self, write: impl FnOnce(Stream) -> Stream) {
         self.stream = write(std::mem::take(&mut self.stream));
     }
@@ -374,9 +377,10 @@ impl Packer<'_> {
         }
     }
 
-    fn library(&mut self, name: &'static str) {
+    fn library(&mut self, name: &'a str) {
+        let choice = FEW_LIBRARIES.max(2 * self.libraries.len());
         let id = loop {
-            let id = 1 + self.random.below(60) as i32;
+            let id = 1 + self.random.below(choice) as i32;
             if self.libraries.iter().all(|(known, _)| *known != id) {
                 break id;
             }
@@ -401,14 +405,14 @@ impl Packer<'_> {
     }
 
     /// Before a record: every library it names stands somewhere.
-    fn need(&mut self, name: &'static str) {
+    fn need(&mut self, name: &'a str) {
         let missing = self.libraries.iter().all(|(_, known)| *known != name);
         if missing || self.random.chance(self.litter) {
             self.library(name);
         }
     }
 
-    fn library_id(&mut self, name: &'static str) -> i32 {
+    fn library_id(&mut self, name: &'a str) -> i32 {
         let named = self.libraries.iter().filter(|(_, known)| *known == name);
         let ids: Vec<i32> = named.map(|(id, _)| *id).collect();
         self.random.pick(&ids)
@@ -419,7 +423,7 @@ impl Packer<'_> {
         self.ids[self.packed - 1]
     }
 
-    fn object(&mut self, object: &Object) {
+    fn object(&mut self, object: &Object<'a>) {
         match object {
             Object::String(text) => {
                 let id = self.next_id();
@@ -436,7 +440,7 @@ impl Packer<'_> {
         }
     }
 
-    fn object_of_class(&mut self, class: &Class) {
+    fn object_of_class(&mut self, class: &Class<'a>) {
         let records = self.classes.iter().filter(|(known, _)| known == class);
         let records: Vec<i32> = records.map(|(_, id)| *id).collect();
         if records.is_empty() || self.random.chance(30) {
@@ -447,7 +451,7 @@ impl Packer<'_> {
         self.put(|stream| stream.by_id(id, metadata_id));
     }
 
-    fn whole_class(&mut self, class: &Class) {
+    fn whole_class(&mut self, class: &Class<'a>) {
         class.members.iter().for_each(|(_, slot_type)| self.need_of(slot_type));
         class.library.into_iter().for_each(|library| self.need(library));
         let id = self.next_id();
@@ -465,14 +469,14 @@ impl Packer<'_> {
         }
     }
 
-    fn need_of(&mut self, slot_type: &Type) {
+    fn need_of(&mut self, slot_type: &Type<'a>) {
         if let Type::Class(_, library) = slot_type {
             self.need(library);
         }
     }
 
     /// Type byte and info.
-    fn type_parts(&mut self, slot_type: &Type) -> (u8, Vec<u8>) {
+    fn type_parts(&mut self, slot_type: &Type<'a>) -> (u8, Vec<u8>) {
         match slot_type {
             Type::Primitive(code) => (0, vec![*code]),
             Type::String => (1, vec![]),
@@ -488,7 +492,7 @@ impl Packer<'_> {
         }
     }
 
-    fn array(&mut self, array: &Array) {
+    fn array(&mut self, array: &Array<'a>) {
         self.need_of(&array.item);
         let id = self.next_id();
         let (type_byte, info) = self.type_parts(&array.item);
@@ -503,7 +507,7 @@ impl Packer<'_> {
         });
     }
 
-    fn fillings(&mut self, fillings: &[Filling]) {
+    fn fillings(&mut self, fillings: &[Filling<'a>]) {
         let mut rest = fillings;
         while let Some(filling) = rest.first() {
             let nulls = rest.iter().take_while(|filling| **filling == Filling::Null).count();
@@ -512,7 +516,7 @@ impl Packer<'_> {
         }
     }
 
-    fn filling(&mut self, filling: &Filling) -> usize {
+    fn filling(&mut self, filling: &Filling<'a>) -> usize {
         if !matches!(filling, Filling::Value(_)) {
             self.litter_slot();
         }

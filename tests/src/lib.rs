@@ -8,6 +8,7 @@ pub mod cases;
 pub mod corpus;
 pub mod generate;
 pub mod reader;
+pub mod said;
 pub mod same;
 pub mod show;
 pub mod stream;

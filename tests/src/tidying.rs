@@ -2,8 +2,9 @@
 //! one, and the lists whose copies must be equal.
 
 use crate::cases::Case;
-use crate::generate::{self, Random};
+use crate::generate::{self, List, Random};
 use crate::reader::{read_records, ROW_WORDS};
+use crate::said;
 use crate::show::{byte_trace, written, MOST_WORDS};
 use crate::tidy::copy_of;
 
@@ -64,30 +65,51 @@ pub fn of_case(case: &Case) -> Vec<Tidying> {
     ]
 }
 
-/// Lists made from a seed, each packed in many ways: other ids, null runs split
-/// and empty ones put in, libraries doubled and not needed, whole classes in
-/// place of kind 1, other HeaderIds. The copy of each list is among its group.
-pub fn repacked(seed: u64, lists: usize) -> Vec<Tidying> {
+/// Lists made from a seed and those among the cases, each packed in many ways:
+/// other ids, null runs split and empty ones put in, libraries doubled and not
+/// needed, whole classes in place of kind 1, other HeaderIds. The copy of each
+/// list is among its group.
+pub fn repacked(seed: u64, lists: usize, cases: &[Case]) -> Vec<Tidying> {
     let mut random = Random::new(seed);
     let mut all = Vec::new();
     for group in 0..lists {
         let list = generate::list(&mut random);
-        let mut streams: Vec<Vec<u8>> =
-            (0..PACKINGS).map(|_| generate::pack(&list, &mut random)).collect();
-        let Some(copy) = copy_in(&streams[0], MOST_WORDS) else {
+        let what = format!("repacked list {group}");
+        all.extend(group_of(group, &what, packings(&list, &mut random)));
+    }
+    for (at, case) in cases.iter().filter(|case| case.is_list).enumerate() {
+        let Ok(reading) = read_records(&case.stream, MOST_ROWS) else {
             continue;
         };
-        let room = copy.len();
-        streams.push(copy);
-        all.extend(streams.into_iter().map(|stream| Tidying {
-            what: format!("repacked list {group}"),
-            stream,
-            words: MOST_WORDS,
-            room,
-            demand: Demand::OneCopy(group),
-        }));
+        let mut streams = packings(&said::list(&reading), &mut random);
+        streams.push(case.stream.clone());
+        all.extend(group_of(lists + at, &format!("repacked {}", case.what), streams));
     }
     all
+}
+
+const MOST_ROWS: usize = MOST_WORDS / ROW_WORDS;
+
+fn packings(list: &List, random: &mut Random) -> Vec<Vec<u8>> {
+    (0..PACKINGS).map(|_| generate::pack(list, random)).collect()
+}
+
+/// Streams with more rows than the largest table has are left out.
+fn group_of(group: usize, what: &str, mut streams: Vec<Vec<u8>>) -> Vec<Tidying> {
+    streams.retain(|stream| copy_in(stream, MOST_WORDS).is_some());
+    let Some(copy) = streams.first().and_then(|stream| copy_in(stream, MOST_WORDS)) else {
+        return Vec::new();
+    };
+    let room = copy.len();
+    streams.push(copy);
+    let tidying = |stream| Tidying {
+        what: what.to_string(),
+        stream,
+        words: MOST_WORDS,
+        room,
+        demand: Demand::OneCopy(group),
+    };
+    streams.into_iter().map(tidying).collect()
 }
 
 /// What a line says of a copy that fills the output: its length and the hash

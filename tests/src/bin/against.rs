@@ -107,7 +107,7 @@ impl Wishes {
 
     fn tidyings(&self, cases: &[Case]) -> Result<Vec<Tidying>, String> {
         let mut all: Vec<Tidying> = cases.iter().flat_map(tidying::of_case).collect();
-        all.extend(tidying::repacked(self.seed, self.count / STREAMS_A_REPACKING));
+        all.extend(tidying::repacked(self.seed, self.count / STREAMS_A_REPACKING, cases));
         held_to_limits(all.iter().map(|one| (&*one.what, &*one.stream, one.words, one.room)))?;
         Ok(all)
     }
@@ -171,7 +171,7 @@ fn compare_tidying(program: &[String], tidyings: &[Tidying]) -> Result<usize, St
     }
     report.last_lines("streams and outputs tidied");
     println!(
-        "{} known copies, {} tidy copies tidied again, {} packings of {} lists",
+        "{} known copies, {} tidy copies tidied again, {} packings of {} lists with one copy each",
         copies.noted,
         copies.unchanged,
         copies.packings,
