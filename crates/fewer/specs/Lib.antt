@@ -1,0 +1,3 @@
+-- The tidy copy has no more records than the list has rows.
+pub mod Libraries
+pub mod Fewer
