@@ -1,0 +1,3 @@
+-- A good model, written, is read and says the same.
+pub mod Rows
+pub mod Nested
