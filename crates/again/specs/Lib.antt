@@ -1,3 +1,4 @@
 -- A good model, written, is read and says the same.
 pub mod Rows
 pub mod Nested
+pub mod Own
