@@ -2,3 +2,4 @@
 pub mod Rows
 pub mod Nested
 pub mod Own
+pub mod Read
