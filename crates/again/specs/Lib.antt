@@ -3,3 +3,4 @@ pub mod Rows
 pub mod Nested
 pub mod Own
 pub mod Read
+pub mod Orders
