@@ -4,3 +4,6 @@ pub mod Nested
 pub mod Own
 pub mod Read
 pub mod Orders
+pub mod Names
+pub mod Said
+pub mod Again
