@@ -1,25 +1,23 @@
 -- A good model, written as its tidy copy, is read and says the same (01, The tidy copy).
-use Prim.Native.Nat.{ℕ, suc, _+_, _≤_, _<_}
-use mathlib.Core.Path.{_≡_, refl, sym, ap, _∙_}
+use Prim.Native.Nat.{ℕ, _+_, _≤_, _<_}
+use mathlib.Core.Path.{_≡_, refl, ap, _∙_}
 use mathlib.Core.List.{List, [], _∷_, _++_, map}
 use native.Mathlib.Omega.{arith}
-use lib.ListN.{length, getD, take, drop, length-append}
+use lib.ListN.{length, getD, drop, length-append}
 use Rattle.format.specs.declared.Row.{Row}
 use Rattle.format.specs.Rows.{blank, findFrom, objectRow, linkOf, linked}
 use Rattle.format.specs.Contents.{header, end, enc, encs}
-use Rattle.format.specs.Grammar.{rowOf}
 use Rattle.format.specs.Says.{Node, Model, objectsIn, orderOf, nodesOf, nodesFrom, says}
 use Rattle.format.specs.Tidy.{nothing, tidyOf}
 use Rattle.format.specs.Machine.{accepted, readOf}
 use Rattle.num.specs.Le.{length-leBytes}
 use Rattle.readings.specs.Accept.{accepts}
 use Rattle.saying.specs.Good.{Good}
-use Rattle.saying.specs.Numbers.{nameIn, classIn}
 use Rattle.saying.specs.There.{rest-there}
-use Rattle.saying.specs.Shown.{recsOf, saidAll, packed, noWait, squeezed}
+use Rattle.saying.specs.Shown.{recsOf, packed, noWait, squeezed}
 use Rattle.saying.specs.Round.{round}
 use Rattle.again.specs.Rows.{rowsFrom}
-use Rattle.again.specs.Orders.{withOwn, ofNumber, orders}
+use Rattle.again.specs.Orders.{withOwn, orders}
 use Rattle.again.specs.Names.{Knows}
 use Rattle.again.specs.Said.{records-said}
 use Rattle.again.specs.Read.{shownOf, writtenOf, whichIn, rawOf, tableOf, length-table, placed-all, tidy-bytes, all-kept, written-legal, reading}

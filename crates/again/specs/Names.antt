@@ -11,9 +11,9 @@ use Rattle.format.specs.declared.SlotType.{SlotType}
 use Rattle.format.specs.declared.Row.{Row}
 use Rattle.format.specs.Bytes.{pick}
 use Rattle.format.specs.Rows.{blank, findFrom}
-use Rattle.format.specs.Contents.{Detail, primitive, text, object, system, class, objects, texts, primitives, Member, Rec, systemClass, libraryClass, library, enc}
-use Rattle.format.specs.Grammar.{Entry, aClass, another, aLibrary, known, classed, classOf, GoodDetail, Members, no-more, member, Array, of-objects, of-strings, of-primitives, of-any, of-values}
-use Rattle.format.specs.Says.{theSystem, theLibrary, From, Class, What, anArray, anObject, Node, node, textFrom, libraryName, classFrom}
+use Rattle.format.specs.Contents.{Detail, primitive, text, object, system, class, objects, texts, primitives, Member, Rec, systemClass, libraryClass, enc}
+use Rattle.format.specs.Grammar.{Entry, aClass, another, aLibrary, known, classed, classOf, GoodDetail, Members, no-more, member, of-objects, of-strings, of-primitives, of-any, of-values}
+use Rattle.format.specs.Says.{theSystem, theLibrary, From, Class, anArray, anObject, node, textFrom, libraryName, classFrom}
 use Rattle.format.specs.Tidy.{Progress}
 use Rattle.saying.specs.Said.{named, namedAll, classOfAll}
 use Rattle.saying.specs.Numbers.{nameIn, classIn}

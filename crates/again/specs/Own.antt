@@ -2,7 +2,7 @@
 -- number of the first object of a class to the class.
 use Prim.Native.Nat.{ℕ, zero, suc, _+_, _≤_, _<_}
 use mathlib.Core.Path.{_≡_, refl, sym, ap, subst, _∙_}
-use mathlib.Core.Bool.{Bool, true, false}
+use mathlib.Core.Bool.{Bool, true}
 use mathlib.Core.List.{List, [], _∷_, _++_, map}
 use native.Mathlib.Omega.{arith}
 use lib.ListN.{length, length-append}
@@ -19,7 +19,7 @@ use Rattle.fields.specs.Judged.{picked}
 use Rattle.same.specs.Laws.{same-eq, same-refl}
 use Rattle.saying.specs.Said.{classOfAll, saidBy}
 use Rattle.saying.specs.Good.{Place, Allowed, in-value, countOf, openAfter, Fits, a-node}
-use Rattle.saying.specs.Numbers.{Listed, number-new, number-back, entered-new, entered-old, entered-listed, all-more, all-have, each-so, afterNodes, Numbered, numbered-what, Later, later-nodes, nameIn, classIn, name-back, class-back}
+use Rattle.saying.specs.Numbers.{Listed, number-new, number-back, entered-new, entered-listed, all-more, all-have, each-so, afterNodes, Numbered, numbered-what, Later, later-nodes, nameIn, classIn, name-back, class-back}
 use Rattle.saying.specs.Shown.{Shown, shown, allShown, packed, Wait, noWait, runShown, oneMore, squeezed, recsOf, Sort, a-null, plain, sort-of, squeezed-null, squeezed-records}
 use Rattle.saying.specs.Round.{class-said}
 

@@ -8,7 +8,7 @@ use Rattle.format.specs.declared.Row.{Row}
 use Rattle.format.specs.Rows.{linked}
 use Rattle.format.specs.Contents.{Rec, header, end, enc, encs}
 use Rattle.format.specs.Grammar.{rowOf, Reading}
-use Rattle.format.specs.Says.{Node, Model}
+use Rattle.format.specs.Says.{Model}
 use Rattle.format.specs.Tidy.{Progress, nothing, tidyRecords, tidyOf}
 use Rattle.table.specs.Links.{length-linked}
 use Rattle.saying.specs.Good.{Good}

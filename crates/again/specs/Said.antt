@@ -1,29 +1,28 @@
 -- The rows of the tidy copy say what its records were written from, record by record.
-use Prim.Native.Nat.{ℕ, zero, suc, _+_, _-_, _≤_, _<_}
+use Prim.Native.Nat.{ℕ, suc, _+_, _-_, _≤_, _<_}
 use mathlib.Core.Path.{_≡_, refl, sym, ap, subst, _∙_}
 use mathlib.Core.Bool.{Bool, true, false}
 use mathlib.Core.List.{List, [], _∷_, _++_, map}
 use native.Mathlib.Omega.{arith}
-use lib.ListN.{length, getD, take, drop}
-use borrow.Author.Tests.{eqb-true}
+use lib.ListN.{getD, take, drop}
 use Rattle.format.specs.declared.SlotType.{SlotType}
 use Rattle.format.specs.declared.Row.{Row}
 use Rattle.format.specs.Bytes.{pick}
-use Rattle.format.specs.Types.{positive}
-use Rattle.format.specs.Rows.{blank, isObject, objectRow, withLink, linkOf}
+use Rattle.format.specs.Rows.{blank, isObject, objectRow, linkOf}
 use Rattle.format.specs.Contents.{Rec, header, classById, systemClass, libraryClass, string, array, typedPrimitive, reference, null, nulls, manyNulls, end, library, primitiveArray, objectArray, stringArray, value, enc, encs}
-use Rattle.format.specs.Grammar.{Entry, Classed, classed, classOf, size, rowOf, Array, of-objects, of-strings, of-primitives, of-any, of-values}
-use Rattle.format.specs.Says.{Class, Node, libraryName, classFrom, objectsIn, orderOf, nodesOf, nodesFrom}
+use Rattle.format.specs.Grammar.{Entry, Classed, size, of-objects, of-strings, of-primitives, of-any, of-values}
+use Rattle.format.specs.Says.{Node, libraryName, classFrom, objectsIn, orderOf, nodesOf, nodesFrom}
 use Rattle.format.specs.Tidy.{Progress}
 use Rattle.saying.specs.Numbers.{nameIn, classIn}
 use Rattle.saying.specs.Good.{Place, place, shutBy, shut, ownerOf, filledOne, openedIn}
 use Rattle.saying.specs.There.{rest-there, kindOf, CountIs, RowOf, row-of, row-linked, LinkIs}
-use Rattle.saying.specs.Order.{item-there, items-after, nodes-more}
-use Rattle.saying.specs.Shown.{Shown, shown, recsOf, saidAt, saidNodes, saidAll}
+use Rattle.saying.specs.Order.{items-after, nodes-more}
+use Rattle.saying.specs.Shown.{Shown, recsOf, saidAt, saidNodes, saidAll}
 use Rattle.saying.specs.Counts.{madeKnown}
 use Rattle.saying.specs.Legal.{Takes, class-by-id, system-class, library-class, a-string, an-array, a-primitive, a-reference, a-null, some-nulls, many-nulls, a-library, a-value, fills, filledBy, isApart, openBy, Legal, all-shown, a-record}
+use Rattle.saying.specs.Enough.{not-zero}
 use Rattle.saying.specs.Row.{own-contents, row-said}
-use Rattle.again.specs.Rows.{numberOf, classRowOf, linkFor, countFor, rowShown, rowsFrom, Placed, placed-here, placed-next}
+use Rattle.again.specs.Rows.{numberOf, classRowOf, linkFor, countFor, rowShown, rowsFrom, Placed, placed-next}
 use Rattle.again.specs.Own.{All, Kept}
 use Rattle.again.specs.Orders.{legal-le, withOwn}
 use Rattle.again.specs.Names.{said-same, AllRight, name-right, class-right, Knows, knows-more}
@@ -46,10 +45,6 @@ count-is es (primitiveArray i n c vs) = refl
 count-is es (objectArray i n) = refl
 count-is es (stringArray i n) = refl
 count-is es (value v) = tt
-
-not-zero : (i : ℕ) → positive i ≡ true → 0 < i
-not-zero zero e = absurd (let z : _≡_ {A = ℕ} 0 1 = cc in omega arith)
-not-zero (suc i) e = omega arith
 
 module _ (s : List ℕ) (raw table : List Row) (v : Progress) (which : ℕ → ℕ) (none : which 0 ≡ 0) (total : ℕ)
     (order : (k : ℕ) → 0 < k → k ≤ total → orderOf table (which k) ≡ k) (finds : (k : ℕ) → 0 < k → k ≤ total → objectRow k raw ≡ which k) where
