@@ -166,7 +166,7 @@ array-refs (of-primitives a b) = refl
 array-refs (of-any a b c d e) = refl
 array-refs (of-values a b c) = refl
 
-not-zero : (i : ℕ) → positive i ≡ true → 0 < i
+pub not-zero : (i : ℕ) → positive i ≡ true → 0 < i
 not-zero zero e = absurd (let z : _≡_ {A = ℕ} 0 1 = cc in omega arith)
 not-zero (suc i) e = omega arith
 

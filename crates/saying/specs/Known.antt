@@ -109,7 +109,7 @@ module _ (s : List ℕ) (rows : List Row) where
 
   -- ---- the rows of libraries
 
-  abbrev ofLibrary : ℕ → Row → Bool
+  abbrev pub ofLibrary : ℕ → Row → Bool
   ofLibrary i r = eqb (r .kind) 12 && eqb (r .id) i
 
   -- what is known after so many rows: a library that is not known is in none of them
@@ -129,7 +129,7 @@ module _ (s : List ℕ) (rows : List Row) where
       go false e h = h e ∙ ap (λ (n : ℕ). findFrom p n ys) (omega arith)
 
   module _ (is : List Row) (w : Row) (row : ℕ) (e : drop row rows ≡ w ∷ is) where
-    fresh-more : (i : ℕ) → ofLibrary i w ≡ false → findFrom (ofLibrary i) 0 (take row rows) ≡ 0 → findFrom (ofLibrary i) 0 (take (suc row) rows) ≡ 0
+    pub fresh-more : (i : ℕ) → ofLibrary i w ≡ false → findFrom (ofLibrary i) 0 (take row rows) ≡ 0 → findFrom (ofLibrary i) 0 (take (suc row) rows) ≡ 0
     unfolding findFrom
     fresh-more i n h = rw (taken-more rows is w row e, find-more (ofLibrary i) 0 (take row rows) (w ∷ []) h, n)
 
@@ -155,27 +155,27 @@ module _ (s : List ℕ) (rows : List Row) where
     knows-class j r ts n q = knows-entry (aClass j r ts) q (λ i h. rw n)
 
     -- a library's row is the first of its number
-    module _ {es : List Entry} (j : ℕ) (k : w .kind ≡ 12) (q : w .id ≡ j) (n : known j es ≡ false) (g : Knows row es) where
-      library-row : libraryRow j rows ≡ suc row
-      unfolding libraryRow findFrom
-      library-row =
-          let p = ofLibrary j in
-          let l : length (take row rows) ≡ row = length-take-le row rows (omega (arith, place-inside rows is w row e)) in
-          let a = find-more p 0 (take row rows) (drop row rows) (g .fresh j n) in
-          let h : p w ≡ true = rw (k, q) (eq-eqb j j refl) in
-          let b : findFrom p (0 + length (take row rows)) (drop row rows) ≡ suc row = rw (e, h) (omega arith) in
-          ap (findFrom p 0) (sym (take-append-drop row rows)) ∙ (a ∙ b)
+    pub library-row : (j : ℕ) → w .kind ≡ 12 → w .id ≡ j → findFrom (ofLibrary j) 0 (take row rows) ≡ 0 → libraryRow j rows ≡ suc row
+    unfolding libraryRow findFrom
+    library-row j k q n =
+        let p = ofLibrary j in
+        let l : length (take row rows) ≡ row = length-take-le row rows (omega (arith, place-inside rows is w row e)) in
+        let a = find-more p 0 (take row rows) (drop row rows) n in
+        let h : p w ≡ true = rw (k, q) (eq-eqb j j refl) in
+        let b : findFrom p (0 + length (take row rows)) (drop row rows) ≡ suc row = rw (e, h) (omega arith) in
+        ap (findFrom p 0) (sym (take-append-drop row rows)) ∙ (a ∙ b)
 
+    -- the row of one library is no other's
+    pub other-library : (i j : ℕ) → w .kind ≡ 12 → w .id ≡ j → known i (aLibrary j ∷ []) ≡ false → ofLibrary i w ≡ false
+    other-library i j k q f = rw (k, q) (go (eqb j i) f)
+      where
+        go : (t : Bool) → pick t true false ≡ false → t ≡ false
+        go true e = absurd (let z : _≡_ {A = ℕ} 0 1 = cc in omega arith)
+        go false e = refl
+
+    module _ {es : List Entry} (j : ℕ) (k : w .kind ≡ 12) (q : w .id ≡ j) (n : known j es ≡ false) (g : Knows row es) where
       pub knows-library : Name (textFrom s (w .offset + 5)) → Knows (suc row) (es ++ (aLibrary j ∷ []))
       unfolding libraryName
-      knows-library h = knows-entry (aLibrary j) (rw (library-row, z, item-there rows is w row e blank) h) other g
-        where
-          z : suc row - 1 ≡ row
-          z = omega arith
-
-          other : (i : ℕ) → known i (aLibrary j ∷ []) ≡ false → ofLibrary i w ≡ false
-          other i f = rw (k, q) (go (eqb j i) f)
-            where
-              go : (t : Bool) → pick t true false ≡ false → t ≡ false
-              go true e = absurd (let z : _≡_ {A = ℕ} 0 1 = cc in omega arith)
-              go false e = refl
+      knows-library h =
+          let z : suc row - 1 ≡ row = omega arith in
+          knows-entry (aLibrary j) (rw (library-row j k q (g .fresh j n), z, item-there rows is w row e blank) h) (λ i f. other-library i j k q f) g
