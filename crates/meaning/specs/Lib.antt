@@ -17,7 +17,6 @@ pub mod Needs
 pub mod Stamps
 pub mod LibrariesOut
 pub mod Small
-pub mod OutBytes
 pub mod Orders
 pub mod Runs
 pub mod Traversal
