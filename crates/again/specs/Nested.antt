@@ -79,11 +79,15 @@ deep-top (t ∷ ts) = let z : 0 < 64 = omega arith in one-more {fs = []} z
 
 -- ---- open objects, each with the slots that are left
 
+-- how many more objects may be open where so many are
+abbrev roomIn : ℕ → ℕ
+roomIn open-ones = 64 - open-ones
+
 module _ (which : ℕ → ℕ) (none : which 0 ≡ 0) where
   -- at the cursor the slots of the open objects stand, innermost first, and then objects at the top level
   abbrev pub Nests : List Place → Cur → Type 0
   Nests [] c = Objects c
-  Nests (f ∷ fs) c = (c₁ : Cur) × Slots (64 - suc (length fs)) (which (f .owner)) (f .slot) (f .types) c c₁ × Nests fs c₁
+  Nests (f ∷ fs) c = (c₁ : Cur) × Slots (roomIn (suc (length fs))) (which (f .owner)) (f .slot) (f .types) c c₁ × Nests fs c₁
 
   nests-shut : (fs : List Place) (c : Cur) → Nests (shut fs) c → Nests fs c
   unfolding shut
@@ -91,19 +95,19 @@ module _ (which : ℕ → ℕ) (none : which 0 ≡ 0) where
   nests-shut (f ∷ fs) c h = go (f .types) (nests-shut fs c) h
     where
       go : (ts : List SlotType) → (Nests (shut fs) c → Nests fs c) → Nests (shutBy ts (f .owner) (f .slot) fs (shut fs)) c
-          → (c₁ : Cur) × Slots (64 - suc (length fs)) (which (f .owner)) (f .slot) ts c c₁ × Nests fs c₁
+          → Nests (place (f .owner) (f .slot) ts ∷ fs) c
       go [] again h = (c, full, again h)
       go (t ∷ ts) again h = h
 
   nests-open : (count row : ℕ) (ts : List SlotType) (fs : List Place) (c : Cur) → which (suc count) ≡ suc row → Deep ts fs → Nests (openedIn (suc count) ts fs) c
-      → (c₁ : Cur) × Body (64 - length fs) (suc row) ts c c₁ × Nests (filledOne fs) c₁
+      → (c₁ : Cur) × Body (roomIn (length fs)) (suc row) ts c c₁ × Nests (filledOne fs) c₁
   unfolding shut
   nests-open count row ts fs c e never-open h = (c, hollow, nests-shut (filledOne fs) c h)
   nests-open count row ts fs c e (one-more {t = t} {ts = us} d) h =
       let l : length (filledOne fs) ≡ length fs = length-filled fs in
-      let m : 64 - length fs ≡ suc (64 - suc (length (filledOne fs))) = omega arith in
-      let b : Slots (64 - suc (length (filledOne fs))) (suc row) 0 (t ∷ us) c (h .0) =
-      subst (λ (o : ℕ). Slots (64 - suc (length (filledOne fs))) o 0 (t ∷ us) c (h .0)) e (h .1) in
+      let m : roomIn (length fs) ≡ suc (roomIn (suc (length (filledOne fs)))) = omega arith in
+      let b : Slots (roomIn (suc (length (filledOne fs)))) (suc row) 0 (t ∷ us) c (h .0) =
+      subst (λ (o : ℕ). Slots (roomIn (suc (length (filledOne fs)))) o 0 (t ∷ us) c (h .0)) e (h .1) in
       (h .0, subst (λ (n : ℕ). Body n (suc row) (t ∷ us) c (h .0)) (sym m) (filled b), h .2)
 
   -- an object of a class
@@ -116,7 +120,7 @@ module _ (which : ℕ → ℕ) (none : which 0 ≡ 0) where
   class-nests {ts = ts} count row c after (in-slot {o = o} {n = n} {t = t} {us = us} {fs = fs} q d) e f h =
       let x = nests-open count row ts (place o n (t ∷ us) ∷ fs) after e d h in
       let y = x .2 in
-      (y .0, G.an-object q (f (64 - suc (length fs)) (x .0) (x .1)) (y .1), y .2)
+      (y .0, G.an-object q (f (roomIn (suc (length fs))) (x .0) (x .1)) (y .1), y .2)
 
   -- an array
   array-nests : {fs : List Place} {ts : List SlotType} {es : List Entry} {k i n : ℕ} {r : Rec} (it : Row) (rs : List Rec) (is : List Row) (count at row : ℕ)
