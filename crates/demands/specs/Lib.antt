@@ -2,3 +2,4 @@
 pub mod CounterExamples
 pub mod Readings
 pub mod Copies
+pub mod Settled
