@@ -3,3 +3,4 @@ pub mod CounterExamples
 pub mod Readings
 pub mod Copies
 pub mod Settled
+pub mod Calls
