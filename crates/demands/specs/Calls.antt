@@ -1,6 +1,6 @@
 -- What a caller learns of a list from the promises of the public jobs alone: what an answer of reading says about the list's readings, that tidy
 -- copies tell whether two lists say the same, and that a copy is read and tidied again.
-use Prim.Native.Nat.{ℕ, zero, suc, _-_, _*_, _≤_}
+use Prim.Native.Nat.{ℕ, _-_, _*_, _/_, _≤_}
 use mathlib.Core.Path.{_≡_, refl, sym, ap, subst, _∙_}
 use mathlib.Core.Logic.{_↔_}
 use mathlib.Core.Bool.{true}
@@ -16,7 +16,7 @@ use Rattle.format.specs.declared.ReadAnswer.the-variants as A
 use Rattle.format.specs.declared.TidyAnswer.{TidyAnswer}
 use Rattle.format.specs.declared.TidyAnswer.the-variants as Q
 use Rattle.format.specs.declared.Row.{Row}
-use Rattle.format.specs.Bytes.{pick, laid}
+use Rattle.format.specs.Bytes.{laid}
 use Rattle.format.specs.Rows.{roomOf, words}
 use Rattle.format.specs.Grammar.{Reading}
 use Rattle.format.specs.Machine.{Outcome, accepted, refused, readOf, readAnswer, tableWords}
@@ -139,3 +139,89 @@ tidy-writes s t d byte n u e p =
       small = leb-true (length c) 16777216 (b .1);
       copy-is = ap (take n) z ∙ (ap (λ (k : ℕ). take k (laid c d)) (sym (x .size)) ∙ take-laid c d);
     }
+
+-- a reading whose rows fit the table, and whose copy fits the output and the stream limit, is written
+pub tidy-written : (s t d : List ℕ) (rows : List Row) → Reading s rows → length rows ≤ roomOf t → length (tidyOf (says s rows)) ≤ length d
+    → length (tidyOf (says s rows)) ≤ 16777216 → (q : TidyAnswer) (u e : List ℕ) → TidyPromise s t d q u e
+    → (q ≡ Q.Written (length (tidyOf (says s rows)))) × ((u ≡ tabled (length t) rows) × (e ≡ laid (tidyOf (says s rows)) d))
+unfolding tidyAnswer tidyTable tidyOutput tableWords
+tidy-written s t d rows w l within small q u e p =
+    let c : List ℕ = tidyOf (says s rows) in
+    let r = accepts w (roomOf t) l in
+    let i = le-leb (length c) (length d) within in
+    let j = le-leb (length c) 16777216 small in (
+      p .0 ∙ (ap (tidyAnswer s d) r ∙ rw (i, j)),
+      (p .1 .0 ∙ (ap (tidyTable (length t) s d) r ∙ rw (i, j)), p .1 .1 ∙ (ap (tidyOutput s d) r ∙ rw (i, j))),
+    )
+
+-- the copy of a list by any reading of it
+copy-of : (s t d : List ℕ) (n : ℕ) (u e : List ℕ) → Tidied s t d n u e → (rows : List Row) → Reading s rows
+    → (take n e ≡ tidyOf (says s rows)) × (length (tidyOf (says s rows)) ≤ 16777216)
+copy-of s t d n u e x rows w =
+    subst (λ (r : List Row). (take n e ≡ tidyOf (says s r)) × (length (tidyOf (says s r)) ≤ 16777216))
+    (reading-unique s (x .rows) rows (x .reads) w) (x .copy-is, x .small)
+
+-- two calls that both answer Written leave equal copies exactly when the lists say the same
+pub two-tidied : (s t d : List ℕ) → Bytes s → (n : ℕ) (u e : List ℕ) → TidyPromise s t d (Q.Written n) u e
+    → (s′ t′ d′ : List ℕ) → Bytes s′ → (m : ℕ) (u′ e′ : List ℕ) → TidyPromise s′ t′ d′ (Q.Written m) u′ e′
+    → (rows others : List Row) → Reading s rows → Reading s′ others → SayTheSame s rows s′ others ↔ (take n e ≡ take m e′)
+two-tidied s t d byte n u e p s′ t′ d′ byte′ m u′ e′ p′ rows others w w′ =
+    let a = copy-of s t d n u e (tidy-writes s t d byte n u e p) rows w in
+    let b = copy-of s′ t′ d′ m u′ e′ (tidy-writes s′ t′ d′ byte′ m u′ e′ p′) others w′ in
+    let x = same-exactly s rows w (a .1) s′ others w′ (b .1) in
+    (λ h. a .0 ∙ (x .0 h ∙ sym (b .0)), λ h. x .1 (sym (a .0) ∙ (h ∙ b .0)))
+
+-- after a call that answers Written n, with a table as long as the one that was lent
+module _ (s t d : List ℕ) (byte : Bytes s) (n : ℕ) (u e : List ℕ) (p : TidyPromise s t d (Q.Written n) u e) (l : List ℕ) (as-long : length l ≡ length t) where
+  abbrev rows : List Row
+  rows = tidy-writes s t d byte n u e p .rows
+
+  -- a reading of the copy whose rows fit the table
+  record Again : Type 0 where
+    copies : List Row
+    reads : Reading (take n e) copies
+    no-more : length copies ≤ length rows
+    fit : length copies ≤ roomOf l
+
+  again : Again
+  again =
+      let x = tidy-writes s t d byte n u e p in
+      let y = tidy-accepted s byte rows (x .reads) (x .small) in
+      let k : length (y .copies) ≤ length rows = y .no-more in
+      let f : length rows ≤ roomOf t = x .fit in
+      record {
+        copies = y .copies;
+        reads = subst (λ (c : List ℕ). Reading c (y .copies)) (sym (x .copy-is)) (y .reads);
+        no-more = k;
+        fit = subst (λ (j : ℕ). length (y .copies) ≤ j / 8) (sym as-long) (omega arith);
+      }
+
+  -- reading the copy answers Accepted, with no more rows than the list has
+  pub tidied-read : (a : ReadAnswer) (v : List ℕ) → ReadPromise (take n e) l a v
+      → (k : ℕ) × (a ≡ A.Accepted k) × ((list : List Row) → Reading s list → k ≤ length list)
+  tidied-read a v q =
+      let x = again in
+      let r = tidy-writes s t d byte n u e p .reads in (
+        length (x .copies),
+        read-accepted (take n e) l (x .copies) (x .reads) (x .fit) a v q .0,
+        λ list w. subst (λ (z : List Row). length (x .copies) ≤ length z) (reading-unique s rows list r w) (x .no-more),
+      )
+
+  -- tidying the copy writes the copy, into any output that holds it
+  pub tidied-again : (f : List ℕ) → n ≤ length f → (q : TidyAnswer) (v g : List ℕ) → TidyPromise (take n e) l f q v g
+      → (q ≡ Q.Written n) × ((g ≡ laid (take n e) f) × (take n g ≡ take n e))
+  tidied-again f room q v g z =
+      let x = tidy-writes s t d byte n u e p in
+      let y = again in
+      let same : tidyOf (says (take n e) (y .copies)) ≡ take n e =
+      subst (λ (c : List ℕ). Reading c (y .copies) → tidyOf (says c (y .copies)) ≡ c) (sym (x .copy-is))
+      (tidy-again s rows (x .reads) (x .small) (y .copies)) (y .reads)
+      in
+      let size : length (take n e) ≡ n = ap length (x .copy-is) ∙ x .size in
+      let k = ap length same ∙ size in
+      let few : n ≤ 16777216 = subst (λ (j : ℕ). j ≤ 16777216) (x .size) (x .small) in
+      let o = tidy-written (take n e) l f (y .copies) (y .reads) (y .fit) (omega arith) (omega arith) q v g z in
+      let wrote : g ≡ laid (take n e) f = o .1 .1 ∙ ap (λ (c : List ℕ). laid c f) same in (
+        o .0 ∙ ap Q.Written k,
+        (wrote, ap (take n) wrote ∙ (ap (λ (j : ℕ). take j (laid (take n e) f)) (sym size) ∙ take-laid (take n e) f)),
+      )
