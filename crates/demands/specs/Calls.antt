@@ -26,7 +26,7 @@ use Rattle.fields.specs.Judged.{told}
 use Rattle.num.specs.Le.{Bytes}
 use Rattle.readings.specs.Accept.{accepts}
 use Rattle.meaning.specs.Tests.{both-of}
-use Rattle.demands.specs.Readings.{accepted-exactly, reading-unique}
+use Rattle.demands.specs.Readings.{accepted-exactly, reading-unique, not-both}
 use Rattle.demands.specs.Copies.{tidy-accepted, tidy-again, same-exactly}
 use Rattle.demands.specs.Settled.{ReadPromise, TidyPromise}
 
@@ -74,9 +74,6 @@ refused-of : (o : Outcome) (r : Refusal) (p : ℕ) → A.Refused r p ≡ readAns
 unfolding readAnswer
 refused-of (accepted rows) r p e = absurd (let z : _≡_ {A = ℕ} 0 1 = cc in omega arith)
 refused-of (refused x y) r p e = cc
-
-not-both : (rows : List Row) (r : Refusal) (p : ℕ) → accepted rows ≡ refused r p → ⊥
-not-both rows r p e = let z : _≡_ {A = ℕ} 0 1 = cc in omega arith
 
 -- after a refusal the table is all zeros, and no reading fits it
 pub read-refuses : (s t : List ℕ) (r : Refusal) (place : ℕ) (u : List ℕ) → ReadPromise s t (A.Refused r place) u

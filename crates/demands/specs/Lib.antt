@@ -4,3 +4,4 @@ pub mod Readings
 pub mod Copies
 pub mod Settled
 pub mod Calls
+pub mod Examples

@@ -6,9 +6,10 @@ use mathlib.Core.Logic.{_↔_}
 use mathlib.Core.List.{List}
 use native.Mathlib.Omega.{arith}
 use lib.ListN.{length}
+use Rattle.format.specs.declared.Refusal.{Refusal}
 use Rattle.format.specs.declared.Row.{Row}
 use Rattle.format.specs.Grammar.{Reading}
-use Rattle.format.specs.Machine.{accepted, readOf}
+use Rattle.format.specs.Machine.{accepted, refused, readOf}
 use Rattle.num.specs.Le.{Bytes}
 use Rattle.table.specs.Links.{length-linked}
 use Rattle.standing.specs.Accepted.{accepted-stands}
@@ -35,3 +36,10 @@ reading-short s rows w =
     let l : length rows ≡ length (x .raw) = ap length (x .same) ∙ length-linked (x .raw) in
     let c = x .stands .counted in
     omega arith
+
+pub not-both : (rows : List Row) (r : Refusal) (place : ℕ) → accepted rows ≡ refused r place → ⊥
+not-both rows r place e = let z : _≡_ {A = ℕ} 0 1 = cc in omega arith
+
+-- a stream that is refused with a row for each byte has no reading
+pub no-reading : (s : List ℕ) (r : Refusal) (place : ℕ) → readOf s (length s) ≡ refused r place → (rows : List Row) → Reading s rows → ⊥
+no-reading s r place e rows w = not-both rows r place (sym (accepts w (length s) (reading-short s rows w)) ∙ e)
