@@ -37,7 +37,7 @@ tabled n rows = words rows ++ replicate (n - 8 * length rows) 0
 -- ---- reading
 
 -- s has a reading of n rows, which fit the table that held t and now holds u: the rows, then zeros
-pub record Rows (s t : List ℕ) (n : ℕ) (u : List ℕ) : Type 0 where
+pub record HasRows (s t : List ℕ) (n : ℕ) (u : List ℕ) : Type 0 where
   pub rows : List Row
   pub reads : Reading s rows
   pub count : length rows ≡ n
@@ -49,7 +49,7 @@ unfolding readAnswer
 accepted-of (accepted rows) n e = (rows, refl, cc)
 accepted-of (refused r p) n e = absurd (let z : _≡_ {A = ℕ} 0 1 = cc in omega arith)
 
-pub read-accepts : (s t : List ℕ) → Bytes s → (n : ℕ) (u : List ℕ) → ReadPromise s t (A.Accepted n) u → Rows s t n u
+pub read-accepts : (s t : List ℕ) → Bytes s → (n : ℕ) (u : List ℕ) → ReadPromise s t (A.Accepted n) u → HasRows s t n u
 unfolding tableWords
 read-accepts s t byte n u p =
     let x = accepted-of (readOf s (roomOf t)) n (p .0) in
@@ -101,13 +101,13 @@ unfolding laid
 take-laid b d = take-append-seam b (drop (length b) d)
 
 -- a Written answer: an accepted reading whose copy fits
-record Wrote (s d : List ℕ) (o : Outcome) (n : ℕ) : Type 0 where
+record CopyFits (s d : List ℕ) (o : Outcome) (n : ℕ) : Type 0 where
   rows : List Row
   taken : o ≡ accepted rows
   size : length (tidyOf (says s rows)) ≡ n
   room : fits (tidyOf (says s rows)) d ≡ true
 
-wrote : (s d : List ℕ) (o : Outcome) (n : ℕ) → Q.Written n ≡ tidyAnswer s d o → Wrote s d o n
+wrote : (s d : List ℕ) (o : Outcome) (n : ℕ) → Q.Written n ≡ tidyAnswer s d o → CopyFits s d o n
 unfolding tidyAnswer
 wrote s d (accepted rows) n e =
     let c : List ℕ = tidyOf (says s rows) in
@@ -174,13 +174,13 @@ module _ (s t d : List ℕ) (byte : Bytes s) (n : ℕ) (u e : List ℕ) (p : Tid
   rows = tidy-writes s t d byte n u e p .rows
 
   -- a reading of the copy whose rows fit the table
-  record Again : Type 0 where
+  record CopyReads : Type 0 where
     copies : List Row
     reads : Reading (take n e) copies
     no-more : length copies ≤ length rows
     fit : length copies ≤ roomOf l
 
-  again : Again
+  again : CopyReads
   again =
       let x = tidy-writes s t d byte n u e p in
       let y = tidy-accepted s byte rows (x .reads) (x .small) in

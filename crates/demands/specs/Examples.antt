@@ -40,8 +40,8 @@ bytes-are (b ∷ s) e (suc i) = bytes-are s (both-of (ltb b 256) (bytes s) e .1)
 abbrev Takes : List ℕ → List Row → Type 0
 Takes s rows = (bytes s ≡ true) × (readOf s (length s) ≡ accepted rows)
 
-reading : (s : List ℕ) (rows : List Row) → Takes s rows → Reading s rows
-reading s rows w = accepted-exactly s (bytes-are s (w .0)) (length s) rows .0 (w .1) .0
+accepted-reads : (s : List ℕ) (rows : List Row) → Takes s rows → Reading s rows
+accepted-reads s rows w = accepted-exactly s (bytes-are s (w .0)) (length s) rows .0 (w .1) .0
 
 abbrev pub run7 : List ℕ
 run7 = runList 3 (11 ∷ [])
@@ -60,13 +60,13 @@ computed = (((refl, refl), ((refl, refl), (refl, refl))), (refl, (refl, refl)))
 -- ---- readings
 
 pub reads-2 : Reading case2 (rowsOf 3 (stringRows 1))
-reads-2 = reading case2 (rowsOf 3 (stringRows 1)) (computed .0 .0)
+reads-2 = accepted-reads case2 (rowsOf 3 (stringRows 1)) (computed .0 .0)
 
 pub reads-sevens : Reading sevens (rowsOf 3 (stringRows 7))
-reads-sevens = reading sevens (rowsOf 3 (stringRows 7)) (computed .0 .1 .0)
+reads-sevens = accepted-reads sevens (rowsOf 3 (stringRows 7)) (computed .0 .1 .0)
 
 pub reads-7 : Reading run7 (rowsOf 4 case7)
-reads-7 = reading run7 (rowsOf 4 case7) (computed .0 .1 .1)
+reads-7 = accepted-reads run7 (rowsOf 4 case7) (computed .0 .1 .1)
 
 pub none-empty : (rows : List Row) → Reading [] rows → ⊥
 none-empty = no-reading [] R.CutShort 0 (computed .1 .0)
