@@ -38,6 +38,14 @@ A n = 16 ∷ (leBytes 4 1 ++ leBytes 4 n)
 abbrev pub case2 : List ℕ
 case2 = H ++ (Str ++ (11 ∷ []))
 
+-- the same with 7 for both ids
+abbrev pub sevens : List ℕ
+sevens = headerOf 7 1 ++ (stringOf 7 ++ (11 ∷ []))
+
+-- an array of three slots after the header, with a null run of n over them, and what follows it
+abbrev pub runList : ℕ → List ℕ → List ℕ
+runList n rest = H ++ (A 3 ++ (13 ∷ n ∷ rest))
+
 -- the rows of a string after a header with this RootId
 abbrev pub stringRows : ℕ → List ℕ
 stringRows id =
@@ -69,14 +77,14 @@ table =
     entry [] 64 64 (refuses 2 0) as-read
     ∷ entry case2 64 64 (accepts (stringRows 1) text) (writes case2)
     ∷ entry (headerOf 1 4294967295 ++ (Str ++ (11 ∷ []))) 64 64 (accepts (stringRows 1) text) (writes case2)
-    ∷ entry (headerOf 7 1 ++ (stringOf 7 ++ (11 ∷ []))) 64 64 (accepts (stringRows 7) text) (writes case2)
+    ∷ entry sevens 64 64 (accepts (stringRows 7) text) (writes case2)
     ∷ entry (H ++ Str) 64 64 (refuses 2 27) as-read
     ∷ entry (case2 ++ (0 ∷ [])) 64 64 (refuses 17 28) as-read
     ∷ entry (headerOf 2 1 ++ (Str ++ (11 ∷ []))) 64 64 (refuses 18 0) as-read
     ∷ entry (H ++ (6 ∷ (leBytes 4 1 ++ (0x84 ∷ 0x00 ∷ hex 5 0x313245350B)))) 64 64 (refuses 7 17) as-read
-    ∷ entry (H ++ (A 3 ++ (13 ∷ 3 ∷ 11 ∷ []))) 64 64 (accepts case7 []) (writes (H ++ (A 3 ++ (13 ∷ 3 ∷ 11 ∷ []))))
-    ∷ entry (H ++ (A 3 ++ (13 ∷ 4 ∷ []))) 64 64 (refuses 9 26) as-read
-    ∷ entry (H ++ (A 3 ++ (13 ∷ 0 ∷ 11 ∷ []))) 64 64 (refuses 5 28) as-read
+    ∷ entry (runList 3 (11 ∷ [])) 64 64 (accepts case7 []) (writes (runList 3 (11 ∷ [])))
+    ∷ entry (runList 4 []) 64 64 (refuses 9 26) as-read
+    ∷ entry (runList 0 (11 ∷ [])) 64 64 (refuses 5 28) as-read
     ∷ entry (H ++ (A 1 ++ (9 ∷ (leBytes 4 5 ++ (11 ∷ []))))) 64 64 (refuses 19 26) as-read
     ∷ entry (H ++ (A 1 ++ (8 ∷ 5 ∷ hex 5 0x0431324535))) 64 64 (refuses 11 26) as-read
     ∷ entry (H ++ (A 256 ++ (13 ∷ 255 ∷ 10 ∷ 11 ∷ []))) 64 64 (accepts case12 []) (writes (H ++ (A 256 ++ (14 ∷ (leBytes 4 256 ++ (11 ∷ []))))))

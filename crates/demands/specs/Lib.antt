@@ -2,3 +2,6 @@
 pub mod CounterExamples
 pub mod Readings
 pub mod Copies
+pub mod Settled
+pub mod Calls
+pub mod Examples

@@ -1,15 +1,18 @@
 -- Demand 2: a list is accepted exactly when the published format, as document 01 settles it, has a reading of it that fits the lent table; and no
 -- list has two readings.
 use Prim.Native.Nat.{ℕ, _+_, _≤_}
-use mathlib.Core.Path.{_≡_, sym, _∙_}
+use mathlib.Core.Path.{_≡_, sym, ap, _∙_}
 use mathlib.Core.Logic.{_↔_}
 use mathlib.Core.List.{List}
 use native.Mathlib.Omega.{arith}
 use lib.ListN.{length}
+use Rattle.format.specs.declared.Refusal.{Refusal}
 use Rattle.format.specs.declared.Row.{Row}
 use Rattle.format.specs.Grammar.{Reading}
-use Rattle.format.specs.Machine.{accepted, readOf}
+use Rattle.format.specs.Machine.{accepted, refused, readOf}
 use Rattle.num.specs.Le.{Bytes}
+use Rattle.table.specs.Links.{length-linked}
+use Rattle.standing.specs.Accepted.{accepted-stands}
 use Rattle.readings.specs.Accept.{accepts}
 use Rattle.readings.specs.Derive.{accepted-reading}
 
@@ -25,3 +28,18 @@ pub reading-unique : (s : List ℕ) (rows others : List Row) → Reading s rows 
 reading-unique s rows others a b =
     let room : ℕ = length rows + length others in
     same-rows (sym (accepts a room (omega arith)) ∙ accepts b room (omega arith))
+
+-- every row of a reading has a byte or more, so a table with a row for each byte has room for it
+pub reading-short : (s : List ℕ) (rows : List Row) → Reading s rows → length rows ≤ length s
+reading-short s rows w =
+    let x = accepted-stands s (length rows) rows (accepts w (length rows) (omega arith)) in
+    let l : length rows ≡ length (x .raw) = ap length (x .same) ∙ length-linked (x .raw) in
+    let c = x .stands .counted in
+    omega arith
+
+pub not-both : (rows : List Row) (r : Refusal) (place : ℕ) → accepted rows ≡ refused r place → ⊥
+not-both rows r place e = let z : _≡_ {A = ℕ} 0 1 = cc in omega arith
+
+-- a stream that is refused with a row for each byte has no reading
+pub no-reading : (s : List ℕ) (r : Refusal) (place : ℕ) → readOf s (length s) ≡ refused r place → (rows : List Row) → Reading s rows → ⊥
+no-reading s r place e rows w = not-both rows r place (sym (accepts w (length s) (reading-short s rows w)) ∙ e)

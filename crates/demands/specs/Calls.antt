@@ -1,0 +1,224 @@
+-- What a caller learns of a list from the promises of the public jobs alone: what an answer of reading says about the list's readings, that tidy
+-- copies tell whether two lists say the same, and that a copy is read and tidied again.
+use Prim.Native.Nat.{ℕ, _-_, _*_, _/_, _≤_}
+use mathlib.Core.Path.{_≡_, refl, sym, ap, subst, _∙_}
+use mathlib.Core.Logic.{_↔_}
+use mathlib.Core.Bool.{true}
+use mathlib.Core.List.{List, _++_}
+use native.Mathlib.Omega.{arith}
+use lib.ListN.{length, take, drop, replicate}
+use lib.Dec.{leb}
+use lib.Seq.{take-append-seam}
+use borrow.Author.Tests.{leb-true, le-leb}
+use Rattle.format.specs.declared.Refusal.{Refusal}
+use Rattle.format.specs.declared.ReadAnswer.{ReadAnswer}
+use Rattle.format.specs.declared.ReadAnswer.the-variants as A
+use Rattle.format.specs.declared.TidyAnswer.{TidyAnswer}
+use Rattle.format.specs.declared.TidyAnswer.the-variants as Q
+use Rattle.format.specs.declared.Row.{Row}
+use Rattle.format.specs.Bytes.{laid}
+use Rattle.format.specs.Rows.{roomOf, words}
+use Rattle.format.specs.Grammar.{Reading}
+use Rattle.format.specs.Machine.{Outcome, accepted, refused, readOf, readAnswer, tableWords}
+use Rattle.format.specs.Says.{says, SayTheSame}
+use Rattle.format.specs.Tidy.{fits, tidyOf, tidyAnswer, tidyOutput, tidyTable}
+use Rattle.fields.specs.Judged.{told}
+use Rattle.num.specs.Le.{Bytes}
+use Rattle.readings.specs.Accept.{accepts}
+use Rattle.meaning.specs.Tests.{both-of}
+use Rattle.demands.specs.Readings.{accepted-exactly, reading-unique, not-both}
+use Rattle.demands.specs.Copies.{tidy-accepted, tidy-again, same-exactly}
+use Rattle.demands.specs.Settled.{ReadPromise, TidyPromise}
+
+-- the rows of a reading in a table of n words
+abbrev pub tabled : ℕ → List Row → List ℕ
+tabled n rows = words rows ++ replicate (n - 8 * length rows) 0
+
+-- ---- reading
+
+-- s has a reading of n rows, which fit the table that held t and now holds u: the rows, then zeros
+pub record HasRows (s t : List ℕ) (n : ℕ) (u : List ℕ) : Type 0 where
+  pub rows : List Row
+  pub reads : Reading s rows
+  pub count : length rows ≡ n
+  pub fit : n ≤ roomOf t
+  pub table-is : u ≡ tabled (length t) rows
+
+accepted-of : (o : Outcome) (n : ℕ) → A.Accepted n ≡ readAnswer o → (rows : List Row) × (o ≡ accepted rows) × (length rows ≡ n)
+unfolding readAnswer
+accepted-of (accepted rows) n e = (rows, refl, cc)
+accepted-of (refused r p) n e = absurd (let z : _≡_ {A = ℕ} 0 1 = cc in omega arith)
+
+pub read-accepts : (s t : List ℕ) → Bytes s → (n : ℕ) (u : List ℕ) → ReadPromise s t (A.Accepted n) u → HasRows s t n u
+unfolding tableWords
+read-accepts s t byte n u p =
+    let x = accepted-of (readOf s (roomOf t)) n (p .0) in
+    let w = accepted-exactly s byte (roomOf t) (x .0) .0 (x .1) in
+    record {
+      rows = x .0;
+      reads = w .0;
+      count = x .2;
+      fit = subst (λ (k : ℕ). k ≤ roomOf t) (x .2) (w .1);
+      table-is = p .1 ∙ ap (tableWords (length t)) (x .1);
+    }
+
+-- a reading whose rows fit the table is accepted
+pub read-accepted : (s t : List ℕ) (rows : List Row) → Reading s rows → length rows ≤ roomOf t → (a : ReadAnswer) (u : List ℕ) → ReadPromise s t a u
+    → (a ≡ A.Accepted (length rows)) × (u ≡ tabled (length t) rows)
+unfolding readAnswer tableWords
+read-accepted s t rows w l a u p =
+    let e = accepts w (roomOf t) l in
+    (p .0 ∙ ap readAnswer e, p .1 ∙ ap (tableWords (length t)) e)
+
+refused-of : (o : Outcome) (r : Refusal) (p : ℕ) → A.Refused r p ≡ readAnswer o → o ≡ refused r p
+unfolding readAnswer
+refused-of (accepted rows) r p e = absurd (let z : _≡_ {A = ℕ} 0 1 = cc in omega arith)
+refused-of (refused x y) r p e = cc
+
+-- after a refusal the table is all zeros, and no reading fits it
+pub read-refuses : (s t : List ℕ) (r : Refusal) (place : ℕ) (u : List ℕ) → ReadPromise s t (A.Refused r place) u
+    → (u ≡ replicate (length t) 0) × ((rows : List Row) → Reading s rows → length rows ≤ roomOf t → ⊥)
+unfolding tableWords
+read-refuses s t r place u p =
+    let e = refused-of (readOf s (roomOf t)) r place (p .0) in
+    (p .1 ∙ ap (tableWords (length t)) e, λ rows w l. not-both rows r place (sym (accepts w (roomOf t) l) ∙ e))
+
+-- ---- tidying
+
+-- the reading of s fits the table that held t and now holds u, and its tidy copy is the first n bytes of the output that now holds e
+pub record Tidied (s t d : List ℕ) (n : ℕ) (u e : List ℕ) : Type 0 where
+  pub rows : List Row
+  pub reads : Reading s rows
+  pub fit : length rows ≤ roomOf t
+  pub table-is : u ≡ tabled (length t) rows
+  pub size : length (tidyOf (says s rows)) ≡ n
+  pub within : n ≤ length d
+  pub small : length (tidyOf (says s rows)) ≤ 16777216
+  pub copy-is : take n e ≡ tidyOf (says s rows)
+
+take-laid : (b d : List ℕ) → take (length b) (laid b d) ≡ b
+unfolding laid
+take-laid b d = take-append-seam b (drop (length b) d)
+
+-- a Written answer: an accepted reading whose copy fits
+record CopyFits (s d : List ℕ) (o : Outcome) (n : ℕ) : Type 0 where
+  rows : List Row
+  taken : o ≡ accepted rows
+  size : length (tidyOf (says s rows)) ≡ n
+  room : fits (tidyOf (says s rows)) d ≡ true
+
+wrote : (s d : List ℕ) (o : Outcome) (n : ℕ) → Q.Written n ≡ tidyAnswer s d o → CopyFits s d o n
+unfolding tidyAnswer
+wrote s d (accepted rows) n e =
+    let c : List ℕ = tidyOf (says s rows) in
+    let x = told (fits c d) (Q.Written (length c)) (Q.OutFull (length c)) (Q.Written n) (sym e) (λ h. let z : _≡_ {A = ℕ} 0 1 = cc in omega arith) in
+    record { rows = rows; taken = refl; size = (let y = x .1 in cc); room = x .0 }
+wrote s d (refused r p) n e = absurd (let z : _≡_ {A = ℕ} 0 1 = cc in omega arith)
+
+pub tidy-writes : (s t d : List ℕ) → Bytes s → (n : ℕ) (u e : List ℕ) → TidyPromise s t d (Q.Written n) u e → Tidied s t d n u e
+unfolding tidyTable tidyOutput tableWords
+tidy-writes s t d byte n u e p =
+    let o = readOf s (roomOf t) in
+    let x = wrote s d o n (p .0) in
+    let rows = x .rows in
+    let c : List ℕ = tidyOf (says s rows) in
+    let w = accepted-exactly s byte (roomOf t) rows .0 (x .taken) in
+    let b = both-of (leb (length c) (length d)) (leb (length c) 16777216) (x .room) in
+    let l : length c ≤ length d = leb-true (length c) (length d) (b .0) in
+    let z : e ≡ laid c d = p .1 .1 ∙ (ap (tidyOutput s d) (x .taken) ∙ rw (x .room)) in
+    record {
+      rows = rows;
+      reads = w .0;
+      fit = w .1;
+      table-is = p .1 .0 ∙ (ap (tidyTable (length t) s d) (x .taken) ∙ rw (x .room));
+      size = x .size;
+      within = subst (λ (k : ℕ). k ≤ length d) (x .size) l;
+      small = leb-true (length c) 16777216 (b .1);
+      copy-is = ap (take n) z ∙ (ap (λ (k : ℕ). take k (laid c d)) (sym (x .size)) ∙ take-laid c d);
+    }
+
+-- a reading whose rows fit the table, and whose copy fits the output and the stream limit, is written
+pub tidy-written : (s t d : List ℕ) (rows : List Row) → Reading s rows → length rows ≤ roomOf t → length (tidyOf (says s rows)) ≤ length d
+    → length (tidyOf (says s rows)) ≤ 16777216 → (q : TidyAnswer) (u e : List ℕ) → TidyPromise s t d q u e
+    → (q ≡ Q.Written (length (tidyOf (says s rows)))) × ((u ≡ tabled (length t) rows) × (e ≡ laid (tidyOf (says s rows)) d))
+unfolding tidyAnswer tidyTable tidyOutput tableWords
+tidy-written s t d rows w l within small q u e p =
+    let c : List ℕ = tidyOf (says s rows) in
+    let r = accepts w (roomOf t) l in
+    let i = le-leb (length c) (length d) within in
+    let j = le-leb (length c) 16777216 small in (
+      p .0 ∙ (ap (tidyAnswer s d) r ∙ rw (i, j)),
+      (p .1 .0 ∙ (ap (tidyTable (length t) s d) r ∙ rw (i, j)), p .1 .1 ∙ (ap (tidyOutput s d) r ∙ rw (i, j))),
+    )
+
+-- the copy of a list by any reading of it
+copy-of : (s t d : List ℕ) (n : ℕ) (u e : List ℕ) → Tidied s t d n u e → (rows : List Row) → Reading s rows
+    → (take n e ≡ tidyOf (says s rows)) × (length (tidyOf (says s rows)) ≤ 16777216)
+copy-of s t d n u e x rows w =
+    subst (λ (r : List Row). (take n e ≡ tidyOf (says s r)) × (length (tidyOf (says s r)) ≤ 16777216))
+    (reading-unique s (x .rows) rows (x .reads) w) (x .copy-is, x .small)
+
+-- two calls that both answer Written leave equal copies exactly when the lists say the same
+pub two-tidied : (s t d : List ℕ) → Bytes s → (n : ℕ) (u e : List ℕ) → TidyPromise s t d (Q.Written n) u e
+    → (s′ t′ d′ : List ℕ) → Bytes s′ → (m : ℕ) (u′ e′ : List ℕ) → TidyPromise s′ t′ d′ (Q.Written m) u′ e′
+    → (rows others : List Row) → Reading s rows → Reading s′ others → SayTheSame s rows s′ others ↔ (take n e ≡ take m e′)
+two-tidied s t d byte n u e p s′ t′ d′ byte′ m u′ e′ p′ rows others w w′ =
+    let a = copy-of s t d n u e (tidy-writes s t d byte n u e p) rows w in
+    let b = copy-of s′ t′ d′ m u′ e′ (tidy-writes s′ t′ d′ byte′ m u′ e′ p′) others w′ in
+    let x = same-exactly s rows w (a .1) s′ others w′ (b .1) in
+    (λ h. a .0 ∙ (x .0 h ∙ sym (b .0)), λ h. x .1 (sym (a .0) ∙ (h ∙ b .0)))
+
+-- after a call that answers Written n, with a table as long as the one that was lent
+module _ (s t d : List ℕ) (byte : Bytes s) (n : ℕ) (u e : List ℕ) (p : TidyPromise s t d (Q.Written n) u e) (l : List ℕ) (as-long : length l ≡ length t) where
+  abbrev rows : List Row
+  rows = tidy-writes s t d byte n u e p .rows
+
+  -- a reading of the copy whose rows fit the table
+  record CopyReads : Type 0 where
+    copies : List Row
+    reads : Reading (take n e) copies
+    no-more : length copies ≤ length rows
+    fit : length copies ≤ roomOf l
+
+  again : CopyReads
+  again =
+      let x = tidy-writes s t d byte n u e p in
+      let y = tidy-accepted s byte rows (x .reads) (x .small) in
+      let k : length (y .copies) ≤ length rows = y .no-more in
+      let f : length rows ≤ roomOf t = x .fit in
+      record {
+        copies = y .copies;
+        reads = subst (λ (c : List ℕ). Reading c (y .copies)) (sym (x .copy-is)) (y .reads);
+        no-more = k;
+        fit = subst (λ (j : ℕ). length (y .copies) ≤ j / 8) (sym as-long) (omega arith);
+      }
+
+  -- reading the copy answers Accepted, with no more rows than the list has
+  pub tidied-read : (a : ReadAnswer) (v : List ℕ) → ReadPromise (take n e) l a v
+      → (k : ℕ) × (a ≡ A.Accepted k) × ((list : List Row) → Reading s list → k ≤ length list)
+  tidied-read a v q =
+      let x = again in
+      let r = tidy-writes s t d byte n u e p .reads in (
+        length (x .copies),
+        read-accepted (take n e) l (x .copies) (x .reads) (x .fit) a v q .0,
+        λ list w. subst (λ (z : List Row). length (x .copies) ≤ length z) (reading-unique s rows list r w) (x .no-more),
+      )
+
+  -- tidying the copy writes the copy, into any output that holds it
+  pub tidied-again : (f : List ℕ) → n ≤ length f → (q : TidyAnswer) (v g : List ℕ) → TidyPromise (take n e) l f q v g
+      → (q ≡ Q.Written n) × ((g ≡ laid (take n e) f) × (take n g ≡ take n e))
+  tidied-again f room q v g z =
+      let x = tidy-writes s t d byte n u e p in
+      let y = again in
+      let same : tidyOf (says (take n e) (y .copies)) ≡ take n e =
+      subst (λ (c : List ℕ). Reading c (y .copies) → tidyOf (says c (y .copies)) ≡ c) (sym (x .copy-is))
+      (tidy-again s rows (x .reads) (x .small) (y .copies)) (y .reads)
+      in
+      let size : length (take n e) ≡ n = ap length (x .copy-is) ∙ x .size in
+      let k = ap length same ∙ size in
+      let few : n ≤ 16777216 = subst (λ (j : ℕ). j ≤ 16777216) (x .size) (x .small) in
+      let o = tidy-written (take n e) l f (y .copies) (y .reads) (y .fit) (omega arith) (omega arith) q v g z in
+      let wrote : g ≡ laid (take n e) f = o .1 .1 ∙ ap (λ (c : List ℕ). laid c f) same in (
+        o .0 ∙ ap Q.Written k,
+        (wrote, ap (take n) wrote ∙ (ap (λ (j : ℕ). take j (laid (take n e) f)) (sym size) ∙ take-laid (take n e) f)),
+      )
