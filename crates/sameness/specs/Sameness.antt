@@ -1,0 +1,65 @@
+-- Do two lists say the same: the answer and what is left, from the two readings; and that the answer is right about what the lists say.
+use Prim.Native.Nat.{ℕ}
+use mathlib.Core.Path.{_≡_}
+use mathlib.Core.Logic.{_↔_}
+use mathlib.Core.Bool.{Bool, true, false}
+use mathlib.Core.List.{List, []}
+use lib.ListN.{length}
+use Rattle.format.specs.declared.TidyAnswer.{TidyAnswer}
+use Rattle.format.specs.declared.TidyAnswer.the-variants as Q
+use Rattle.format.specs.declared.Row.{Row}
+use Rattle.format.specs.Bytes.{pick, sameBytes}
+use Rattle.format.specs.Rows.{roomOf}
+use Rattle.format.specs.Machine.{Outcome, accepted, refused, readOf}
+use Rattle.format.specs.Says.{says, SayTheSame}
+use Rattle.format.specs.Tidy.{tidyOf, tidyAnswer, tidyOutput, tidyTable}
+use Rattle.sameness.specs.declared.Sameness.{Sameness}
+use Rattle.sameness.specs.declared.Sameness.the-variants as S
+
+-- the tidy copy of a stream with this outcome; a refused one has none
+abbrev pub copied : List ℕ → Outcome → List ℕ
+copied s (accepted rows) = tidyOf (says s rows)
+copied s (refused r p) = []
+
+-- the answer from both tidyings and whether the copies are the same; the first list's trouble goes before the second's
+abbrev pub answerOf : TidyAnswer → TidyAnswer → Bool → Sameness
+answerOf (Q.Written m) (Q.Written n) same = pick same S.Same S.Different
+answerOf (Q.Written m) (Q.Refused r p) same = S.SecondRefused r p
+answerOf (Q.Written m) (Q.OutFull n) same = S.SecondFull n
+answerOf (Q.Refused r p) q same = S.FirstRefused r p
+answerOf (Q.OutFull m) q same = S.FirstFull m
+
+abbrev pub isWritten : TidyAnswer → Bool
+isWritten (Q.Written n) = true
+isWritten (Q.Refused r p) = false
+isWritten (Q.OutFull n) = false
+
+-- whether the lists were compared
+abbrev pub isCompared : Sameness → Bool
+isCompared S.Same = true
+isCompared S.Different = true
+isCompared (S.FirstRefused r p) = false
+isCompared (S.SecondRefused r p) = false
+isCompared (S.FirstFull n) = false
+isCompared (S.SecondFull n) = false
+
+-- both lists are read with this room, and the answer is Same exactly when they say the same
+pub record Exact (a b : List ℕ) (room : ℕ) (q : Sameness) : Type 0 where
+  pub rows : List Row
+  pub others : List Row
+  pub first : readOf a room ≡ accepted rows
+  pub second : readOf b room ≡ accepted others
+  pub exactly : (q ≡ S.Same) ↔ SayTheSame a rows b others
+
+-- the lists a and b, compared with a table that held t and outputs that held c and d, which hold u, e and f afterwards: the second list is tidied
+-- where the first has its copy
+pub record Answered (a b t c d u e f : List ℕ) (q : Sameness) : Type 0 where
+  pub answer : q
+      ≡ answerOf (tidyAnswer a c (readOf a (roomOf t))) (tidyAnswer b d (readOf b (roomOf t)))
+      (sameBytes (copied a (readOf a (roomOf t))) (copied b (readOf b (roomOf t))))
+  pub exact : isCompared q ≡ true → Exact a b (roomOf t) q
+  pub table : u
+      ≡ pick (isWritten (tidyAnswer a c (readOf a (roomOf t)))) (tidyTable (length t) b d (readOf b (roomOf t)))
+      (tidyTable (length t) a c (readOf a (roomOf t)))
+  pub first : e ≡ tidyOutput a c (readOf a (roomOf t))
+  pub second : f ≡ pick (isWritten (tidyAnswer a c (readOf a (roomOf t)))) (tidyOutput b d (readOf b (roomOf t))) d
