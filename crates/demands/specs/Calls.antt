@@ -28,7 +28,7 @@ use Rattle.readings.specs.Accept.{accepts}
 use Rattle.meaning.specs.Tests.{both-of}
 use Rattle.demands.specs.Readings.{accepted-exactly, reading-unique, not-both}
 use Rattle.demands.specs.Copies.{tidy-accepted, tidy-again, same-exactly}
-use Rattle.demands.specs.Settled.{ReadPromise, TidyPromise}
+use Rattle.format.specs.Promises.{ReadPromise, TidyPromise}
 
 -- the rows of a reading in a table of n words
 abbrev pub tabled : ℕ → List Row → List ℕ

@@ -22,7 +22,7 @@ use Rattle.format.specs.Says.{objectsIn, orderOf, whatFrom, spread, nodesOf, no
 use Rattle.format.specs.Examples.{hexOnto}
 use Rattle.num.specs.Le.{Bytes}
 use Rattle.meaning.specs.Tests.{both-of}
-use Rattle.demands.specs.CounterExamples.{case2, sevens, runList, stringRows, case7}
+use Rattle.format.specs.CounterExamples.{case2, sevens, runList, stringRows, case7}
 use Rattle.demands.specs.Readings.{accepted-exactly, no-reading}
 
 -- whether every entry is a byte

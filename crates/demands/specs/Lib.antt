@@ -1,5 +1,4 @@
 -- What a user can be taught to trust.
-pub mod CounterExamples
 pub mod Readings
 pub mod Copies
 pub mod Settled

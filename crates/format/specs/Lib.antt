@@ -15,4 +15,8 @@ pub mod Contents
 pub mod Grammar
 pub mod Says
 pub mod Tidy
+pub mod Promises
 pub mod Examples
+pub mod CounterExamples
+pub mod Lists
+pub mod Allowed

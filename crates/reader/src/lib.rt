@@ -14,7 +14,8 @@ ghost use mathlib.Core.List.{List};
 ghost use Prim.Native.Nat.{ℕ, _≤_, _<_};
 ghost use lib.ListN.{length};
 ghost use Rattle.format.specs.Rows.{roomOf, rowsOf};
-ghost use Rattle.format.specs.Machine.{recordStep, whereIn, step, finish, readOf, readAnswer, tableWords};
+ghost use Rattle.format.specs.Machine.{recordStep, whereIn, step, finish, readOf};
+ghost use Rattle.format.specs.Promises.{ReadPromise};
 ghost use Rattle.frames.specs.Frames.{saved};
 ghost use Rattle.steps.specs.Held.{stateOf, after, Held};
 ghost use Rattle.reader.specs.Due.{dueOf};
@@ -151,8 +152,7 @@ fn judge(s: &[u8], table: &mut [u32]) -> ReadAnswer
 // Reads a stream into a table of rows. Any stream and any table are taken. After a refusal every word is zero, after success the words
 // after the last row.
 pub fn read(s: &[u8], table: &mut [u32]) -> ReadAnswer
-    ensures { λ r. ⌜ (r ≡ readAnswer (readOf (now (s .entry)) (roomOf (now (table .entry)))))
-        × (now (table .exit) ≡ tableWords (length (now (table .entry))) (readOf (now (s .entry)) (roomOf (now (table .entry))))) ⌝ }
+    ensures { λ r. ⌜ ReadPromise (now (s .entry)) (now (table .entry)) r (now (table .exit)) ⌝ }
 {
     let a = judge(s, table);
     match a {

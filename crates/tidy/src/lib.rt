@@ -3,10 +3,7 @@
 use format::ReadAnswer;
 use format::TidyAnswer;
 ghost use mathlib.Core.Path.{_≡_};
-ghost use lib.ListN.{length};
-ghost use Rattle.format.specs.Rows.{roomOf};
-ghost use Rattle.format.specs.Machine.{readOf};
-ghost use Rattle.format.specs.Tidy.{tidyAnswer, tidyOutput, tidyTable};
+ghost use Rattle.format.specs.Promises.{TidyPromise};
 ghost use Rattle.tidy.specs.Top.{restored};
 
 // The table after the copy: the reading where one was written, all zeros where none was.
@@ -24,9 +21,7 @@ fn restore(s: &[u8], table: &mut [u32], q: TidyAnswer)
 
 // Writes the tidy copy of the list in `s` to the front of `out`, if all of it fits.
 pub fn tidy(s: &[u8], table: &mut [u32], out: &mut [u8]) -> TidyAnswer
-    ensures { λ q. ⌜ (q ≡ tidyAnswer (now (s .entry)) (now (out .entry)) (readOf (now (s .entry)) (roomOf (now (table .entry)))))
-        × ((now (table .exit) ≡ tidyTable (length (now (table .entry))) (now (s .entry)) (now (out .entry)) (readOf (now (s .entry)) (roomOf (now (table .entry)))))
-        × (now (out .exit) ≡ tidyOutput (now (s .entry)) (now (out .entry)) (readOf (now (s .entry)) (roomOf (now (table .entry)))))) ⌝ }
+    ensures { λ q. ⌜ TidyPromise (now (s .entry)) (now (table .entry)) (now (out .entry)) q (now (table .exit)) (now (out .exit)) ⌝ }
 {
     let a = reader::read(s, table);
     match a {

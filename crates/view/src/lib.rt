@@ -5,7 +5,8 @@ use format::Refusal;
 use format::RowAnswer;
 use format::Text;
 ghost use mathlib.Core.Path.{_≡_};
-ghost use Rattle.format.specs.View.{recordText, rowText, rowQuestion, textView};
+ghost use Rattle.format.specs.View.{recordText, rowText};
+ghost use Rattle.format.specs.Promises.{QuestionPromise, ViewPromise};
 
 // The text of a whole string record at a place.
 fn record_text(s: &[u8], at: usize) -> Text
@@ -54,7 +55,7 @@ pub fn row_text(s: &[u8], table: &[u32], row: usize) -> Text
 
 // Whether a row has text.
 pub fn row_question(s: &[u8], table: &[u32], row: usize) -> RowAnswer
-    ensures { λ r. ⌜ r ≡ rowQuestion (now (s .entry)) (now (table .entry)) row ⌝ }
+    ensures { λ r. ⌜ QuestionPromise (now (s .entry)) (now (table .entry)) row r ⌝ }
 {
     match row_text(s, table, row) {
         Text::Part(_, _) => RowAnswer::HasText,
@@ -64,7 +65,7 @@ pub fn row_question(s: &[u8], table: &[u32], row: usize) -> RowAnswer
 
 // The text of a row, or nothing.
 pub fn text_view<'a>(s: &'a [u8], table: &[u32], row: usize) -> &'a [u8]
-    ensures { λ r. ⌜ now r ≡ textView (now (s .entry)) (now (table .entry)) row ⌝ }
+    ensures { λ r. ⌜ ViewPromise (now (s .entry)) (now (table .entry)) row (now r) ⌝ }
 {
     match row_text(s, table, row) {
         Text::Part(from, to) => &s[from..to],

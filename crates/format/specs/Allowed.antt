@@ -1,0 +1,103 @@
+-- What the grammar allows and does not, on worked lists of records: a library in a slot, a reference to what comes later, a class that is still
+-- open; no null run past an object's end, none over a primitive member, no library twice, no class that comes later.
+use Prim.Native.Nat.{ℕ, zero, suc, _+_, _≤_, _<_}
+use mathlib.Core.Path.{_≡_, refl, ap}
+use mathlib.Core.Bool.{Bool, true, false, _||_}
+use mathlib.Core.List.{List, [], _∷_, map}
+use native.Mathlib.Omega.{arith}
+use lib.ListN.{length, take, drop, length-replicate}
+use lib.Dec.{eqb}
+use borrow.Author.Tests.{eqb-true}
+use Rattle.format.specs.declared.PrimitiveCode.the-variants as C
+use Rattle.format.specs.declared.SlotType.{SlotType}
+use Rattle.format.specs.declared.SlotType.the-variants as S
+use Rattle.format.specs.declared.Row.{Row}
+use Rattle.format.specs.Numbers.{leBytes}
+use Rattle.format.specs.Prefix.{groupsOf}
+use Rattle.format.specs.Text.{needOf, loOf, hiOf, leadOf, stepOf, after, wellFormed}
+use Rattle.format.specs.Rows.{findFrom, objectRow, linkOf, linked, withLink, rowsOf}
+use Rattle.format.specs.Contents.{Detail, primitive, text, Member, Rec, header, classById, systemClass, libraryClass, string, reference, null, nulls, manyNulls, end, library, objectArray, enc, encs}
+use Rattle.format.specs.Grammar.{Name, Entry, aClass, another, aLibrary, ClassId, ObjectId, LibraryId, GoodDetail, Members, no-more, member, ClassInfo, Cur, cur, rowOf, size, Object, library-class, Body, hollow, filled, Slots, full, somePrimitive, class-by-id, an-object, a-string, a-reference, a-null, a-run, a-library, Array, of-objects, Objects, the-end, one-object, one-string, one-array, one-library, idsOf, refsOf, among, Reading}
+use Rattle.format.specs.Examples.{hexOnto}
+use Rattle.format.specs.Lists.{jaw, named, inSlot, inSlotRows}
+
+-- ---- allowed
+
+name-of : (t : List ℕ) → wellFormed t ≡ true → length t < 2147483648 → Name t
+name-of t a b = record { good = a; short = b }
+
+-- what follows the header
+abbrev rest : List Rec
+rest = drop 1 (inSlot 4294967295 4 6 2 9 text 2)
+
+-- the one reference names the text
+to-text : (i : ℕ) → among i (2 ∷ []) ≡ true → among i (4 ∷ 6 ∷ 2 ∷ []) ≡ true
+to-text i e = rw (eqb-true i 2 (either (eqb i 2) e))
+  where
+    either : (b : Bool) → (b || false) ≡ true → b ≡ true
+    either true e = refl
+    either false e = e
+
+-- a library stands in a slot, and a reference names what the list has
+pub allowed-in-slot : Reading (encs (inSlot 4294967295 4 6 2 9 text 2)) (rowsOf 7 inSlotRows)
+unfolding rowsOf linked linkOf objectRow findFrom encs enc leBytes groupsOf wellFormed after stepOf leadOf hiOf loOf needOf hexOnto
+allowed-in-slot =
+    record {
+      root = 4;
+      header-id = 4294967295;
+      rs = rest;
+      is = map (λ (r : Row). withLink r 0) (drop 1 (rowsOf 7 inSlotRows));
+      root-bits = omega arith;
+      header-bits = omega arith;
+      bytes-are = refl;
+      small = omega arith;
+      objects-are =
+          one-array (record { sign = refl; fresh = refl }) (of-objects {i = 4} {n = 2} (omega arith)) refl
+          (filled (a-library refl refl refl (name-of (0x4C ∷ []) refl (omega arith)) refl
+          (an-object refl
+          (library-class {i = 6} {n = 0x50 ∷ []} {ms = named text} (record { apart = refl; bits = omega arith; fresh = refl })
+          (record { named = name-of (0x50 ∷ []) refl (omega arith); counted = omega arith; members = member (name-of (0x4E ∷ []) refl (omega arith)) tt no-more })
+          (record { sign = refl; there = refl }) refl
+          (filled (a-string refl (record { sign = refl; fresh = refl }) (name-of jaw refl (omega arith)) refl full)))
+          (a-reference refl refl refl full))))
+          (the-end refl);
+      rooted = refl;
+      targets = to-text;
+      rows-are = refl;
+    }
+
+-- ---- not allowed
+
+-- a null run stands in the slots of its object, whatever they are
+pub run-within : {room own slot at row k : ℕ} {t : SlotType} {ts : List SlotType} {es : List Entry} {rs : List Rec} {is : List Row} {c : Cur}
+    → Slots room own slot (t ∷ ts) (cur at row es (nulls k ∷ rs) is) c → k ≤ length (t ∷ ts)
+run-within (a-run t k l p u r d) = l
+
+-- an array of n slots has n
+slots-of : {es : List Entry} {i n kind j m : ℕ} {ts : List SlotType} → Array es (objectArray i n) kind j m ts → length ts ≡ n
+slots-of (of-objects {n = n} l) = length-replicate n S.Object
+
+run-of-body : {room own at row k : ℕ} {ts : List SlotType} {es : List Entry} {rs : List Rec} {is : List Row} {c : Cur}
+    → Body room own ts (cur at row es (nulls k ∷ rs) is) c → 0 < length ts → k ≤ length ts
+run-of-body hollow l = absurd (omega (arith, l))
+run-of-body (filled d) l = run-within d
+
+-- a run of four in an array of three
+pub no-run-past-the-end : {is : List Row} → Objects (cur 17 1 [] (objectArray 1 3 ∷ nulls 4 ∷ end ∷ []) is) → ⊥
+no-run-past-the-end (one-array i a q b o) =
+    let n = slots-of a in
+    let l = run-of-body b (omega (arith, n)) in
+    omega (arith, n, l)
+
+-- a run leaves no primitive member out
+pub run-over-none : {room own slot at row k : ℕ} {t : SlotType} {ts : List SlotType} {es : List Entry} {rs : List Rec} {is : List Row} {c : Cur}
+    → Slots room own slot (t ∷ ts) (cur at row es (nulls k ∷ rs) is) c → somePrimitive (take k (t ∷ ts)) ≡ false
+run-over-none (a-run t k l p u r d) = p
+
+-- a class that no earlier record has
+pub no-later-class : {rs : List Rec} {is : List Row} → Objects (cur 17 1 [] (classById 1 2 ∷ rs) is) → ⊥
+no-later-class (one-object (class-by-id i k e q d) o) = let z : _≡_ {A = ℕ} 0 1 = cc in omega arith
+
+-- one LibraryId for two libraries
+pub no-library-twice : {m n : List ℕ} {rs : List Rec} {is : List Row} → Objects (cur 17 1 [] (library 1 m ∷ library 1 n ∷ rs) is) → ⊥
+no-library-twice (one-library i k n q (one-library j l m r d)) = let z : _≡_ {A = ℕ} 0 1 = cc in omega arith

@@ -1,0 +1,130 @@
+-- Worked lists, as records, beside the counter examples: what is read of them, how they are tidied, and which of them say the
+-- same.
+use Prim.Native.Nat.{ℕ}
+use mathlib.Core.Path.{_≡_, refl, ap}
+use mathlib.Core.List.{List, [], _∷_, _++_}
+use native.Mathlib.Omega.{arith}
+use lib.ListN.{length, getD}
+use Rattle.format.specs.Bytes.{sameBytes, laid}
+use Rattle.format.specs.Numbers.{le, u32At, u64At, leBytes}
+use Rattle.format.specs.Prefix.{prefixIn, groupsOf}
+use Rattle.format.specs.Text.{needOf, loOf, hiOf, leadOf, stepOf, after, wellFormed, textAt, stringAt}
+use Rattle.format.specs.Values.{times}
+use Rattle.format.specs.Types.{primitiveOf, codeAt, typeByteAt, nameAt, libraryIdAt, infoAt, slotOf, typedAt, moved, passed, passedOf}
+use Rattle.format.specs.Rows.{words, findFrom, objectRow, classRow, libraryRow, linkOf, linked}
+use Rattle.format.specs.Records.{allowed, kindOf, kindAt, ownLibraryAt, headerAt, stringRecordAt, referenceAt, nullsAt, longNullsAt, libraryAt, infoKnown, infosAt, membersAt, classAt, classByIdAt, slotArrayAt, headingAt}
+use Rattle.format.specs.Machine.{close, filled, opened, add, object, nullRun, ending, act, recordStep, step, finish, run, Outcome, accepted, refused, readOf, readAnswer, tableWords}
+use Rattle.format.specs.View.{recordText, rowText, rowQuestion, textView}
+use Rattle.format.specs.Contents.{Detail, text, Member, typeByte, Rec, header, classById, libraryClass, string, reference, null, nulls, end, library, objectArray, enc, encs}
+use Rattle.format.specs.Contents.{object as anything}
+use Rattle.format.specs.Says.{numbersFrom, libraryName, detailFrom, membersFrom, classFrom, arrayFrom, objectsIn, orderOf, whatFrom, spread, nodesOf, nodesFrom, What, anObject, aString, anArray, aPrimitive, aReference, aNull, aPrimitiveArray, anObjectArray, aStringArray, aValue, Node, Model, says}
+use Rattle.format.specs.Tidy.{sameDetail, sameMembers, sameClass, numberIn, entered, allEntered, libraryRecords, recordsOf, afterWhat, pack, runOf, written, waiting, squeeze, tidyRecords, tidyOf, tidyAnswer, tidyOutput, tidyTable}
+use Rattle.format.specs.Examples.{Example, entry, hexOnto, hex, accepts, writes, textsFrom, holds, failing, None}
+
+-- ---- the lists
+
+-- the text 12E5
+abbrev pub jaw : List ℕ
+jaw = hex 4 0x31324535
+
+-- one member, N, of this type
+abbrev pub named : Detail ℕ → List (Member ℕ)
+named d = record { name = 0x4E ∷ []; type = d } ∷ []
+
+-- an array of two slots: a part P of the library L that has the text, the library's record in the slot before it; and a reference. The ids of the
+-- array, the part, its text and the library are free, and so are the type of N and the target
+abbrev pub inSlot : (header-id array part string library : ℕ) → Detail ℕ → (target : ℕ) → List Rec
+inSlot h a p t l d target =
+    header a h ∷ objectArray a 2 ∷ library l (0x4C ∷ []) ∷ libraryClass p (0x50 ∷ []) (named d) l ∷ string t jaw ∷ reference target ∷ end ∷ []
+
+-- two parts P, each with its own record: the first with N of type text, the second with N of this type
+abbrev pub twoParts : Detail ℕ → List Rec
+twoParts d =
+    header 2 0 ∷ library 5 (0x4C ∷ []) ∷ libraryClass 4 (0x50 ∷ []) (named text) 5 ∷ null
+    ∷ libraryClass 2 (0x50 ∷ []) (named d) 5 ∷ null ∷ end ∷ []
+
+-- ---- read and tidied
+
+abbrev pub inSlotRows : List ℕ
+inSlotRows =
+    0 ∷ 0 ∷ 17 ∷ 4 ∷ 0 ∷ 0 ∷ 2 ∷ 0
+    ∷ 16 ∷ 17 ∷ 26 ∷ 4 ∷ 0 ∷ 0 ∷ 0 ∷ 2
+    ∷ 12 ∷ 26 ∷ 33 ∷ 9 ∷ 0 ∷ 0 ∷ 0 ∷ 0
+    ∷ 5 ∷ 33 ∷ 51 ∷ 6 ∷ 2 ∷ 0 ∷ 0 ∷ 1
+    ∷ 6 ∷ 51 ∷ 61 ∷ 2 ∷ 4 ∷ 0 ∷ 0 ∷ 0
+    ∷ 9 ∷ 61 ∷ 66 ∷ 2 ∷ 2 ∷ 1 ∷ 5 ∷ 0
+    ∷ 11 ∷ 66 ∷ 67 ∷ 0 ∷ 0 ∷ 0 ∷ 0 ∷ 0 ∷ []
+
+abbrev pub twoPartsRows : List ℕ
+twoPartsRows =
+    0 ∷ 0 ∷ 17 ∷ 2 ∷ 0 ∷ 0 ∷ 5 ∷ 0
+    ∷ 12 ∷ 17 ∷ 24 ∷ 5 ∷ 0 ∷ 0 ∷ 0 ∷ 0
+    ∷ 5 ∷ 24 ∷ 42 ∷ 4 ∷ 0 ∷ 0 ∷ 0 ∷ 1
+    ∷ 10 ∷ 42 ∷ 43 ∷ 0 ∷ 3 ∷ 0 ∷ 0 ∷ 1
+    ∷ 5 ∷ 43 ∷ 61 ∷ 2 ∷ 0 ∷ 0 ∷ 0 ∷ 1
+    ∷ 10 ∷ 61 ∷ 62 ∷ 0 ∷ 5 ∷ 0 ∷ 0 ∷ 1
+    ∷ 11 ∷ 62 ∷ 63 ∷ 0 ∷ 0 ∷ 0 ∷ 0 ∷ 0 ∷ []
+
+-- the start of both tidy copies: the second object is the root, and the library stands before the first record that needs it
+abbrev pub firstPart : List Rec
+firstPart = header 2 2 ∷ library 1 (0x4C ∷ []) ∷ libraryClass 1 (0x50 ∷ []) (named text) 1 ∷ null ∷ []
+
+pub lists : List Example
+lists =
+    entry (encs (inSlot 4294967295 4 6 2 9 text 2)) 64 80 (accepts inSlotRows (4 ∷ 4 ∷ jaw)) (writes (encs (inSlot 1 1 2 3 1 text 3)))
+    ∷ entry (encs (twoParts text)) 64 80 (accepts twoPartsRows []) (writes (encs (firstPart ++ (classById 2 1 ∷ null ∷ end ∷ []))))
+    ∷ entry (encs (twoParts anything)) 64 80 (accepts twoPartsRows []) (writes (encs (firstPart ++ (libraryClass 2 (0x50 ∷ []) (named anything) 1 ∷ null ∷ end ∷ []))))
+    ∷ []
+
+pub list-examples : None (failing 0 lists)
+unfolding lists holds failing tidyTable tidyOutput tidyAnswer tidyOf tidyRecords squeeze waiting written runOf pack afterWhat recordsOf libraryRecords allEntered entered numberIn sameClass sameMembers sameDetail says nodesFrom nodesOf spread whatFrom orderOf objectsIn arrayFrom classFrom membersFrom detailFrom libraryName numbersFrom encs enc tableWords readAnswer readOf run finish step recordStep act ending nullRun object add opened filled close headingAt slotArrayAt classByIdAt classAt membersAt infosAt infoKnown libraryAt longNullsAt nullsAt referenceAt stringRecordAt headerAt ownLibraryAt kindAt kindOf allowed linked linkOf libraryRow classRow objectRow findFrom words passedOf passed moved typedAt slotOf infoAt libraryIdAt nameAt typeByteAt codeAt primitiveOf times stringAt textAt wellFormed after stepOf leadOf hiOf loOf needOf groupsOf prefixIn leBytes u64At u32At le laid sameBytes hexOnto textsFrom rowQuestion textView rowText recordText
+list-examples = tt
+
+-- ---- saying the same
+
+abbrev pub saidBy : List ℕ → Outcome → Model
+saidBy s (accepted rows) = says s rows
+saidBy s (refused r place) = record { root = 0; nodes = [] }
+
+-- what a list of these records says; at most 16 rows
+unfoldable pub said : List Rec → Model
+said rs = saidBy (encs rs) (readOf (encs rs) 16)
+
+-- three empty slots, packed in these records
+abbrev pub threeNulls : List Rec → List Rec
+threeNulls rs = header 1 1 ∷ objectArray 1 3 ∷ (rs ++ (end ∷ []))
+
+-- neither ids nor the header's other id nor the packing of nulls is said
+pub same-lists : (said (inSlot 4294967295 4 6 2 9 text 2) ≡ said (inSlot 0 8 3 7 1 text 7))
+    × ((said (threeNulls (nulls 3 ∷ [])) ≡ said (threeNulls (null ∷ nulls 0 ∷ nulls 2 ∷ []))))
+unfolding said says nodesFrom nodesOf spread whatFrom orderOf objectsIn classFrom membersFrom detailFrom libraryName encs enc readOf run finish step recordStep act ending nullRun object add opened filled close headingAt slotArrayAt classAt membersAt infosAt infoKnown libraryAt nullsAt referenceAt stringRecordAt headerAt ownLibraryAt kindAt kindOf allowed linked linkOf libraryRow classRow objectRow findFrom passedOf passed moved typedAt slotOf infoAt libraryIdAt nameAt typeByteAt times stringAt textAt wellFormed after stepOf leadOf hiOf loOf needOf groupsOf prefixIn leBytes u32At le hexOnto
+same-lists = (refl, refl)
+
+-- the types of a class's members, and the target of a reference
+abbrev memberTypes : List (Member (List ℕ)) → List ℕ
+memberTypes [] = []
+memberTypes (m ∷ ms) = typeByte (m .type) ∷ memberTypes ms
+
+abbrev told : What → List ℕ
+told (anObject c) = memberTypes (c .members)
+told (aString t) = []
+told (anArray t ns d items) = []
+told (aPrimitive c v) = []
+told (aReference target) = target ∷ []
+told aNull = []
+told (aPrimitiveArray n c items) = []
+told (anObjectArray n) = []
+told (aStringArray n) = []
+told (aValue v) = []
+
+unfoldable toldBy : List Node → List ℕ
+toldBy [] = []
+toldBy (n ∷ ns) = told (n .what) ++ toldBy ns
+
+-- a member's type is said, and so is the target of a reference, by its order
+pub other-lists : (said (inSlot 1 4 6 2 9 text 2) ≡ said (inSlot 1 4 6 2 9 anything 2) → ⊥) × (said (inSlot 1 4 6 2 9 text 2) ≡ said (inSlot 1 4 6 2 9 text 6) → ⊥)
+unfolding toldBy said says nodesFrom nodesOf spread whatFrom orderOf objectsIn classFrom membersFrom detailFrom libraryName encs enc readOf run finish step recordStep act ending nullRun object add opened filled close headingAt slotArrayAt classAt membersAt infosAt infoKnown libraryAt nullsAt referenceAt stringRecordAt headerAt ownLibraryAt kindAt kindOf allowed linked linkOf libraryRow classRow objectRow findFrom passedOf passed moved typedAt slotOf infoAt libraryIdAt nameAt typeByteAt times stringAt textAt wellFormed after stepOf leadOf hiOf loOf needOf groupsOf prefixIn leBytes u32At le hexOnto
+other-lists = (
+  λ e. let types : _≡_ {A = ℕ} 1 2 = ap (λ (m : Model). getD (toldBy (m .nodes)) 0 0) e in omega arith,
+  λ e. let targets : _≡_ {A = ℕ} 3 2 = ap (λ (m : Model). getD (toldBy (m .nodes)) 1 0) e in omega arith,
+)
