@@ -19,11 +19,15 @@ use Rattle.format.specs.Records.{allowed, kindOf, kindAt, headerAt, stringRecor
 use Rattle.format.specs.Grammar.{Reading}
 use Rattle.format.specs.Machine.{close, filled, opened, add, object, nullRun, ending, act, recordStep, step, finish, run, accepted, refused, readOf}
 use Rattle.format.specs.Says.{objectsIn, orderOf, whatFrom, spread, nodesOf, nodesFrom, Model, says, SayTheSame}
-use Rattle.format.specs.Examples.{hexOnto}
+use Rattle.format.specs.Examples.{hexOnto, failing, None}
 use Rattle.num.specs.Le.{Bytes}
 use Rattle.meaning.specs.Tests.{both-of}
-use Rattle.format.specs.CounterExamples.{case2, sevens, runList, stringRows, case7}
+use Rattle.format.specs.CounterExamples.{case2, sevens, runList, stringRows, case7, table, counter-examples as starred}
 use Rattle.demands.specs.Readings.{accepted-exactly, no-reading}
+
+-- the starred counter examples, computed where the definitions stand
+pub counter-examples : None (failing 0 table)
+counter-examples = starred
 
 -- whether every entry is a byte
 unfoldable bytes : List ℕ → Bool
