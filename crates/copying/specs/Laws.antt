@@ -1,5 +1,5 @@
 -- What is gathered and written before and after a row, the copy row by row, and the answers of the copying: one law for each way that a function ends.
-use Prim.Native.Nat.{ℕ, _+_, _*_, _≤_, _<_}
+use Prim.Native.Nat.{ℕ, _+_, _-_, _*_, _≤_, _<_}
 use mathlib.Core.Path.{_≡_, refl, sym, ap, _∙_}
 use mathlib.Core.Bool.{Bool, true, false}
 use mathlib.Core.List.{List, [], _∷_, _++_}
@@ -9,7 +9,7 @@ use lib.ListN.{length, getD, drop, drop-of-length-le}
 use lib.Seq.{drop-cons}
 use lib.Dec.{eqb}
 use borrow.Author.Tests.{eq-eqb, ne-eqb, le-leb, lt-leb}
-use borrow.Rule.Slice.PartMut.{putMid}
+use borrow.Rule.Slice.PartMut.{putMid, midOf}
 use Rattle.format.specs.declared.Row.{Row}
 use Rattle.format.specs.declared.TidyAnswer.the-variants as A
 use Rattle.format.specs.Bytes.{pick}
@@ -18,7 +18,7 @@ use Rattle.format.specs.Says.{isNulls}
 use Rattle.format.specs.Tidy.{answerBy, outBy}
 use Rattle.fields.specs.Judged.{picked}
 use Rattle.put.specs.Out.{runOut}
-use Rattle.put.specs.Put.{most, capped, Filled, Along, along-start, capped-below}
+use Rattle.put.specs.Put.{most, capped, Filled, Least, Along, along-start, along-more, capped-below}
 use Rattle.writing.specs.declared.Gathered.{Gathered}
 use Rattle.writing.specs.Copy.{recordOut, noneYet, isPassed, beforeOut, moreOf, runAfter, rowOut, copyFrom, copyOf}
 
@@ -122,6 +122,19 @@ module _ (s : List ℕ) (rs : List Row) (i : ℕ) (w : Gathered) where
   pub copy-end : length rs ≤ i → copyFrom s rs i w (drop i rs) ≡ runOut (w .count)
   unfolding copyFrom
   copy-end h = rw (drop-of-length-le rs {i = i} h)
+
+-- a part d of the output, which is e after i rows and a bytes: a row more is written at m, as y
+module _ (s d e y : List ℕ) (rs : List Row) (n i a b m t : ℕ) (w v : Gathered) (r : Row) where
+  pub row-copied : length rs ≡ n → i < n → r ≡ getD rs i blank → r .count < 4294967296 → v ≡ runAfter w r → w .count ≤ 4294967296 * i
+      → Along (copyOf s rs) (copyFrom s rs i w (drop i rs)) d e a → Least a (length e) m → t ≡ capped (a + b)
+      → length y ≡ length (midOf m (length e - m) e) → Filled (rowOut s rs i w r) (midOf m (length e - m) e) y b
+      → (i + 1 ≤ n) × (v .count ≤ 4294967296 * (i + 1)) × Along (copyOf s rs) (copyFrom s rs (i + 1) v (drop (i + 1) rs)) d (putMid m (length e - m) e y) t
+  row-copied l h x k g j p q z o f = (
+    omega arith,
+    few-more w v r i g j k,
+    along-more (copyOf s rs) (copyFrom s rs i w (drop i rs)) d e y a b m t p q z
+        (rowOut s rs i w r) (copyFrom s rs (i + 1) v (drop (i + 1) rs)) (copy-more s rs i w r v (omega arith) x g) o f,
+  )
 
 -- ---- all or nothing
 pub dry : (x y : List ℕ) → length y ≡ 0 → putMid 0 0 x y ≡ x

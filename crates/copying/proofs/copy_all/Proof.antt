@@ -6,9 +6,9 @@ use lib.ListN.{length, drop}
 use borrow.Rule.Slice.PartMut.{same-len-mid}
 use Rattle.format.specs.Rows.{rowsOf}
 use Rattle.table.specs.Rows.{length-rowsOf}
-use Rattle.put.specs.Put.{Along, along-more, along-last, became}
+use Rattle.put.specs.Put.{Along, along-last, became}
 use Rattle.writing.specs.Copy.{copyFrom, copyOf}
-use Rattle.copying.specs.Laws.{copy-start, copy-more, copy-end, few-more}
+use Rattle.copying.specs.Laws.{copy-start, row-copied, copy-end}
 use borrow.Author.Needs.{needs}
 use Rattle.copying.proofs.copy_all.Statement.{statement}
 use Rattle.copying.proofs.copy_all.Tie as tie
@@ -36,9 +36,7 @@ copy-all-spec =
     (λ c κs. omega (arith, c .before .before .before .before .before .before .before .before .loop .inv .1, c .before .before .before .before .before .before .before .loop-test .taken, c .before .before .before .before .before .before .before .before .before .before .before .before .pre .1))
     (λ c. omega (arith, c .before .before .before .before .before .before .before .before .loop-test .taken, c .before .before .before .before .before .before .before .before .before .before .before .before .before .pre .1))
     (λ c. omega (arith, c .before .before .before .before .before .before .before .before .loop-test .taken))
-    (λ c.
-    let l = length-rowsOf (c .before .before .before .before .before .before .before .before .before .before .before .before .before .args .n) (c .before .before .before .before .before .before .before .before .before .before .before .before .before .args .table .now) in
-    (omega arith, few-more _ _ _ _ (c .run-after .ensures) (c .before .before .before .before .before .before .before .before .before .loop .inv .1) (omega (arith, c .before .before .before .before .before .before .before .row-at .ok)), along-more _ _ _ _ _ _ _ _ _ (c .before .before .before .before .before .before .before .before .before .loop .inv .2) (c .before .before .before .before .before .before .least .ensures) (c .before .add-up .ensures) _ _ (copy-more _ _ _ _ _ _ (omega arith) (c .before .before .before .before .before .before .before .row-at .ensures) (c .run-after .ensures)) (c .before .before .before .before .put-row .kept .0) (c .before .before .before .before .put-row .ensures)))
+    (λ c. row-copied (c .before .before .before .before .before .before .before .before .before .before .before .before .before .args .s .now) _ _ _ (rowsOf (c .before .before .before .before .before .before .before .before .before .before .before .before .before .args .n) (c .before .before .before .before .before .before .before .before .before .before .before .before .before .args .table .now)) _ _ _ _ _ _ _ _ _ (length-rowsOf (c .before .before .before .before .before .before .before .before .before .before .before .before .before .args .n) (c .before .before .before .before .before .before .before .before .before .before .before .before .before .args .table .now)) (c .before .before .before .before .before .before .before .before .loop-test .taken) (c .before .before .before .before .before .before .before .row-at .ensures) (omega (arith, c .before .before .before .before .before .before .before .row-at .ok)) (c .run-after .ensures) (c .before .before .before .before .before .before .before .before .before .loop .inv .1) (c .before .before .before .before .before .before .before .before .before .loop .inv .2) (c .before .before .before .before .before .before .least .ensures) (c .before .add-up .ensures) (c .before .before .before .before .put-row .kept .0) (c .before .before .before .before .put-row .ensures))
     (λ c κs. search needs)
     (λ c. omega (arith, c .least2 .ensures .within))
     (λ c. omega (arith, c .least2 .ensures .within))
