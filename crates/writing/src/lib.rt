@@ -1,20 +1,17 @@
-// Writes the tidy copy from marked rows, one row after the other. Every writer takes the unwritten rest of the output and answers the
+// Writes the records of the tidy copy from marked rows: libraries and classes. Every writer takes the unwritten rest of the output and answers the
 // length that its bytes need; so the same functions measure and write.
 use format::LibraryNo;
 use format::ObjectNo;
 use format::Row;
-use format::TidyAnswer;
 ghost use mathlib.Core.Path.{_≡_};
 ghost use mathlib.Core.List.{_++_};
 ghost use Prim.Native.Nat.{_+_, _-_, _*_, _≤_, _<_};
-ghost use lib.ListN.{length};
+ghost use Rattle.format.specs.Bytes.{pick};
 ghost use Rattle.format.specs.Rows.{rowsOf, roomOf};
-ghost use Rattle.format.specs.Says.{numberFrom, afterInfo, isNulls};
-ghost use Rattle.format.specs.Tidy.{answerBy, outBy};
 ghost use Rattle.put.specs.Out.{between};
 ghost use Rattle.put.specs.Put.{Filled};
-ghost use Rattle.marks.specs.Marks.{rowAt, word, libraryAt, infosPlace, itemType, isFirst};
-ghost use Rattle.writing.specs.Copy.{libraryNumber, libraryOut, needOut, needInfoOut, needInfosOut, needOwnOut, needClassOut, infoOut, infosOut, ownOut, detailsOut, classOut, objectOut, itemsOut, bodyOut, arrayOut, keptOut, stringOut, recordOut, isPassed, beforeOut, runAfter, rowOut, copyOf};
+ghost use Rattle.marks.specs.Marks.{infosPlace};
+ghost use Rattle.writing.specs.Copy.{libraryNumber, libraryOut, needOut, needInfoOut, needInfosOut, needOwnOut, needClassOut, infoOut, infosOut, ownOut, detailsOut, classOut, objectOut};
 
 // Nulls of one object that wait to be written: the row of the object plus 1, and how many.
 pub struct Gathered {
@@ -58,7 +55,7 @@ fn put_need(out: &mut [u8], s: &[u8], table: &[u32], n: usize, p: usize) -> usiz
 }
 
 // For a detail that ends at e.
-fn put_need_info(out: &mut [u8], s: &[u8], table: &[u32], n: usize, kind: u8, e: usize) -> usize
+pub fn put_need_info(out: &mut [u8], s: &[u8], table: &[u32], n: usize, kind: u8, e: usize) -> usize
     requires { ⌜ (n ≤ roomOf (now table)) × (n < 4294967296) ⌝ }
     ensures { λ q. ⌜ Filled (needInfoOut (now (s .entry)) (rowsOf n (now (table .entry))) kind e) (now (out .entry)) (now (out .exit)) q ⌝ }
 {
@@ -116,7 +113,7 @@ fn put_need_class(out: &mut [u8], s: &[u8], table: &[u32], n: usize, r: Row) -> 
 // ---- classes
 
 // A detail from p to e, its library by the new number.
-fn put_info(
+pub fn put_info(
     out: &mut [u8],
     s: &[u8],
     table: &[u32],
@@ -210,19 +207,30 @@ fn put_class(out: &mut [u8], s: &[u8], table: &[u32], n: usize, r: Row) -> usize
     put::add_up(a, b)
 }
 
+// The records of the libraries that a class needs, or else its own record.
+fn put_piece(out: &mut [u8], s: &[u8], table: &[u32], n: usize, r: Row, libraries: bool) -> usize
+    requires { ⌜ (n ≤ roomOf (now table)) × (n < 4294967296) ⌝ }
+    ensures { λ q. ⌜ Filled (pick libraries (needClassOut (now (s .entry)) (rowsOf n (now (table .entry))) r) (classOut (now (s .entry)) (rowsOf n (now (table .entry))) r)) (now (out .entry)) (now (out .exit)) q ⌝ }
+{
+    if libraries {
+        return put_need_class(out, s, table, n, r);
+    }
+    put_class(out, s, table, n, r)
+}
+
 // The first object of a class in full, after the libraries that it needs.
 fn put_first(out: &mut [u8], s: &[u8], table: &[u32], n: usize, r: Row) -> usize
     requires { ⌜ (n ≤ roomOf (now table)) × (n < 4294967296) ⌝ }
     ensures { λ q. ⌜ Filled (needClassOut (now (s .entry)) (rowsOf n (now (table .entry))) r ++ classOut (now (s .entry)) (rowsOf n (now (table .entry))) r) (now (out .entry)) (now (out .exit)) q ⌝ }
 {
-    let a = put_need_class(out, s, table, n, r);
+    let a = put_piece(out, s, table, n, r, true);
     let from = put::least(a, out.len());
-    let b = put_class(&mut out[from..], s, table, n, r);
+    let b = put_piece(&mut out[from..], s, table, n, r, false);
     put::add_up(a, b)
 }
 
 // The first object of a class in full, later ones by it.
-fn put_object(out: &mut [u8], s: &[u8], table: &[u32], n: usize, i: usize, r: Row) -> usize
+pub fn put_object(out: &mut [u8], s: &[u8], table: &[u32], n: usize, i: usize, r: Row) -> usize
     requires { ⌜ (n ≤ roomOf (now table)) × (n < 4294967296) × (i < 4294967296) ⌝ }
     ensures { λ q. ⌜ Filled (objectOut (now (s .entry)) (rowsOf n (now (table .entry))) i r) (now (out .entry)) (now (out .exit)) q ⌝ }
 {
@@ -231,240 +239,4 @@ fn put_object(out: &mut [u8], s: &[u8], table: &[u32], n: usize, i: usize, r: Ro
     }
     let t = marks::row_named(table, n, r.link);
     put::put_by_id(out, ObjectNo(r.id), ObjectNo(t.id))
-}
-
-// ---- arrays
-
-// From the item type at p on, its detail ending at e.
-fn put_items(out: &mut [u8], s: &[u8], table: &[u32], n: usize, p: usize, e: usize, r: Row) -> usize
-    requires { ⌜ (n ≤ roomOf (now table)) × (n < 4294967296) × (p < 18446744073709551615) ⌝ }
-    ensures { λ q. ⌜ Filled (itemsOut (now (s .entry)) (rowsOf n (now (table .entry))) p e r) (now (out .entry)) (now (out .exit)) q ⌝ }
-{
-    let kind = types::byte_at(s, p);
-    let a = put_info(out, s, table, n, kind, p + 1, e);
-    let from = put::least(a, out.len());
-    let b = put::put_part(&mut out[from..], s, e, r.end as usize);
-    put::add_up(a, b)
-}
-
-// An array after its ObjectId: array type, rank, lengths and item type are kept.
-fn put_array_fields(
-    out: &mut [u8],
-    s: &[u8],
-    table: &[u32],
-    n: usize,
-    p: usize,
-    e: usize,
-    r: Row,
-) -> usize
-    requires { ⌜ (n ≤ roomOf (now table)) × (n < 4294967296) × (p < 18446744073709551615) ⌝ }
-    ensures { λ q. ⌜ Filled (between (now (s .entry)) (r .offset + 5) (p + 1) ++ itemsOut (now (s .entry)) (rowsOf n (now (table .entry))) p e r) (now (out .entry)) (now (out .exit)) q ⌝ }
-{
-    let a = put::put_part(out, s, (r.offset as usize) + 5, p + 1);
-    let from = put::least(a, out.len());
-    let b = put_items(&mut out[from..], s, table, n, p, e, r);
-    put::add_up(a, b)
-}
-
-fn put_body(out: &mut [u8], s: &[u8], table: &[u32], n: usize, p: usize, e: usize, r: Row) -> usize
-    requires { ⌜ (n ≤ roomOf (now table)) × (n < 4294967296) × (p < 18446744073709551615) ⌝ }
-    ensures { λ q. ⌜ Filled (bodyOut (now (s .entry)) (rowsOf n (now (table .entry))) p e r) (now (out .entry)) (now (out .exit)) q ⌝ }
-{
-    let a = put::put_head(out, 7, r.id);
-    let from = put::least(a, out.len());
-    let b = put_array_fields(&mut out[from..], s, table, n, p, e, r);
-    put::add_up(a, b)
-}
-
-// An array, after the library that its item type needs.
-fn put_array(out: &mut [u8], s: &[u8], table: &[u32], n: usize, r: Row) -> usize
-    requires { ⌜ (n ≤ roomOf (now table)) × (n < 4294967296) ⌝ }
-    ensures { λ q. ⌜ Filled (arrayOut (now (s .entry)) (rowsOf n (now (table .entry))) r) (now (out .entry)) (now (out .exit)) q ⌝ }
-{
-    let p = marks::item_type(s, r);
-    let kind = types::byte_at(s, p);
-    let e = marks::after_info(s, kind, p + 1);
-    let a = put_need_info(out, s, table, n, kind, e);
-    let from = put::least(a, out.len());
-    let b = put_body(&mut out[from..], s, table, n, p, e, r);
-    put::add_up(a, b)
-}
-
-// ---- a row
-
-// An object whose bytes after the ObjectId are kept.
-fn put_kept(out: &mut [u8], s: &[u8], r: Row) -> usize
-    ensures { λ q. ⌜ Filled (keptOut (now (s .entry)) r) (now (out .entry)) (now (out .exit)) q ⌝ }
-{
-    let a = put::put_head(out, (r.kind % 256) as u8, r.id);
-    let from = put::least(a, out.len());
-    let b = put::put_part(&mut out[from..], s, (r.offset as usize) + 5, r.end as usize);
-    put::add_up(a, b)
-}
-
-fn put_string(out: &mut [u8], s: &[u8], r: Row) -> usize
-    ensures { λ q. ⌜ Filled (stringOut (now (s .entry)) r) (now (out .entry)) (now (out .exit)) q ⌝ }
-{
-    let a = put::put_head(out, 6, r.id);
-    let from = put::least(a, out.len());
-    let b = put::put_text(&mut out[from..], s, (r.offset as usize) + 5, r.end as usize);
-    put::add_up(a, b)
-}
-
-// Row i, which is r. Libraries and nulls are written with other rows.
-fn put_record(out: &mut [u8], s: &[u8], table: &[u32], n: usize, i: usize, r: Row) -> usize
-    requires { ⌜ (n ≤ roomOf (now table)) × (n < 4294967296) × (i < 4294967296) ⌝ }
-    ensures { λ q. ⌜ Filled (recordOut (now (s .entry)) (rowsOf n (now (table .entry))) i r) (now (out .entry)) (now (out .exit)) q ⌝ }
-{
-    let kind = r.kind;
-    match kind {
-        0 => {
-            let t = marks::row_named(table, n, r.link);
-            put::put_header(out, ObjectNo(t.id))
-        }
-        1 => {
-            let c = marks::row_named(table, n, r.link);
-            let t = marks::row_named(table, n, c.link);
-            put::put_by_id(out, ObjectNo(r.id), ObjectNo(t.id))
-        }
-        4 => put_object(out, s, table, n, i, r),
-        5 => put_object(out, s, table, n, i, r),
-        6 => put_string(out, s, r),
-        7 => put_array(out, s, table, n, r),
-        9 => {
-            let t = marks::row_named(table, n, r.link);
-            put::put_head(out, 9, t.id)
-        }
-        10 => 0,
-        12 => 0,
-        13 => 0,
-        14 => 0,
-        15 => put_kept(out, s, r),
-        16 => put_kept(out, s, r),
-        17 => put_kept(out, s, r),
-        _ => put::put_part(out, s, r.offset as usize, r.end as usize),
-    }
-}
-
-// ---- null runs
-
-fn is_nulls(kind: u32) -> bool
-    ensures { λ q. ⌜ q ≡ isNulls kind ⌝ }
-{
-    match kind {
-        10 => true,
-        13 => true,
-        14 => true,
-        _ => false,
-    }
-}
-
-// Rows that a run is gathered across: libraries, and runs of 0.
-fn is_passed(r: Row) -> bool
-    ensures { λ q. ⌜ q ≡ isPassed r ⌝ }
-{
-    if r.kind == 12 {
-        return true;
-    }
-    if is_nulls(r.kind) {
-        return r.count == 0;
-    }
-    false
-}
-
-// The nulls gathered so far, if row r is no more of them.
-fn put_before(out: &mut [u8], w: Gathered, r: Row) -> usize
-    ensures { λ q. ⌜ Filled (beforeOut w r) (now (out .entry)) (now (out .exit)) q ⌝ }
-{
-    if is_passed(r) {
-        return 0;
-    }
-    if is_nulls(r.kind) {
-        if r.owner == w.owner {
-            return 0;
-        }
-        return put::put_run(out, w.count);
-    }
-    put::put_run(out, w.count)
-}
-
-// The nulls that wait after row r.
-fn run_after(before: Gathered, r: Row) -> Gathered
-    requires { ⌜ before .count < 1152921504606846976 ⌝ }
-    ensures { λ q. ⌜ q ≡ runAfter before r ⌝ }
-{
-    if is_passed(r) {
-        return before;
-    }
-    if is_nulls(r.kind) {
-        if r.owner == before.owner {
-            return Gathered {
-                owner: r.owner,
-                count: before.count + (r.count as usize),
-            };
-        }
-        return Gathered {
-            owner: r.owner,
-            count: r.count as usize,
-        };
-    }
-    Gathered { owner: 0, count: 0 }
-}
-
-// ---- the copy
-
-// Row i, which is r, after the nulls before it.
-fn put_row(
-    out: &mut [u8],
-    s: &[u8],
-    table: &[u32],
-    n: usize,
-    i: usize,
-    w: Gathered,
-    r: Row,
-) -> usize
-    requires { ⌜ (n ≤ roomOf (now table)) × (n < 4294967296) × (i < 4294967296) ⌝ }
-    ensures { λ q. ⌜ Filled (rowOut (now (s .entry)) (rowsOf n (now (table .entry))) i w r) (now (out .entry)) (now (out .exit)) q ⌝ }
-{
-    let a = put_before(out, w, r);
-    let from = put::least(a, out.len());
-    let b = put_record(&mut out[from..], s, table, n, i, r);
-    put::add_up(a, b)
-}
-
-// The whole copy at the front of `out`, and its length; over an empty part, the length alone.
-fn copy_all(out: &mut [u8], s: &[u8], table: &[u32], n: usize) -> usize
-    requires { ⌜ (n ≤ roomOf (now table)) × (n ≤ 16777216) ⌝ }
-    ensures { λ q. ⌜ Filled (copyOf (now (s .entry)) (rowsOf n (now (table .entry)))) (now (out .entry)) (now (out .exit)) q ⌝ }
-{
-    let mut at: usize = 0;
-    let mut w = Gathered { owner: 0, count: 0 };
-    let mut i: usize = 0;
-    while i < n {
-        let r = table::row_at(table, n, i);
-        let from = put::least(at, out.len());
-        let b = put_row(&mut out[from..], s, table, n, i, w, r);
-        at = put::add_up(at, b);
-        w = run_after(w, r);
-        i += 1;
-    }
-    let from = put::least(at, out.len());
-    let b = put::put_run(&mut out[from..], w.count);
-    put::add_up(at, b)
-}
-
-// The copy, or nothing where it does not fit; its length either way.
-pub fn copied(out: &mut [u8], s: &[u8], table: &[u32], n: usize) -> TidyAnswer
-    requires { ⌜ (n ≤ roomOf (now table)) × (n ≤ 16777216) × (length (copyOf (now s) (rowsOf n (now table))) ≤ 18446744073709551615) ⌝ }
-    ensures { λ q. ⌜ (q ≡ answerBy (copyOf (now (s .entry)) (rowsOf n (now (table .entry)))) (now (out .entry))) × (now (out .exit) ≡ outBy (copyOf (now (s .entry)) (rowsOf n (now (table .entry)))) (now (out .entry))) ⌝ }
-{
-    let total = copy_all(&mut out[0..0], s, table, n);
-    if out.len() < total {
-        return TidyAnswer::OutFull(total);
-    }
-    if 16777216 < total {
-        return TidyAnswer::OutFull(total);
-    }
-    copy_all(out, s, table, n);
-    TidyAnswer::Written(total)
 }

@@ -1,0 +1,52 @@
+-- The invariant: what is written and the copy of the rows still left are the whole copy; a run is short, since each row adds a word to it at most.
+use Prim.Native.Nat.{_≤_, _-_, _*_}
+use mathlib.Core.Path.{_∙_}
+use native.Mathlib.Omega.{arith}
+use lib.ListN.{length, drop}
+use borrow.Rule.Slice.PartMut.{same-len-mid}
+use Rattle.format.specs.Rows.{rowsOf}
+use Rattle.table.specs.Rows.{length-rowsOf}
+use Rattle.put.specs.Put.{Along, along-last, became}
+use Rattle.writing.specs.Copy.{copyFrom, copyOf}
+use Rattle.copying.specs.Laws.{copy-start, row-copied, copy-end}
+use borrow.Author.Needs.{needs}
+use Rattle.copying.proofs.copy_all.Statement.{statement}
+use Rattle.copying.proofs.copy_all.Tie as tie
+
+abbrev Inv-loop : tie.InvT-loop
+Inv-loop out₀ s table n at₀ w₀ i₀ out at w i = (i ≤ n) × (w .count ≤ 4294967296 * i) × Along (copyOf s (rowsOf n table)) (copyFrom s (rowsOf n table) i w (drop i (rowsOf n table))) out₀ out at
+
+abbrev μ-loop : tie.MeasureT-loop
+μ-loop out₀ s table n at₀ w₀ i₀ out at w i = n - i
+
+pub copy-all-spec : {M : Type 1} → statement M
+copy-all-spec =
+    tie.close
+    (tie.spec
+    Inv-loop
+    μ-loop
+    (λ c. (omega arith, omega arith, copy-start _ _ _))
+    (λ c κs. search needs)
+    (λ c κs. search needs)
+    (λ c. omega (arith, c .least .ensures .within))
+    (λ c. omega (arith, c .least .ensures .within))
+    (λ c. omega (arith, c .least .ensures .within))
+    (λ c κs. search needs)
+    (λ c κs. search needs)
+    (λ c κs. omega (arith, c .before .before .before .before .before .before .before .before .loop .inv .1, c .before .before .before .before .before .before .before .loop-test .taken, c .before .before .before .before .before .before .before .before .before .before .before .before .pre .1))
+    (λ c. omega (arith, c .before .before .before .before .before .before .before .before .loop-test .taken, c .before .before .before .before .before .before .before .before .before .before .before .before .before .pre .1))
+    (λ c. omega (arith, c .before .before .before .before .before .before .before .before .loop-test .taken))
+    (λ c. row-copied (c .before .before .before .before .before .before .before .before .before .before .before .before .before .args .s .now) _ _ _ (rowsOf (c .before .before .before .before .before .before .before .before .before .before .before .before .before .args .n) (c .before .before .before .before .before .before .before .before .before .before .before .before .before .args .table .now)) _ _ _ _ _ _ _ _ _ (length-rowsOf (c .before .before .before .before .before .before .before .before .before .before .before .before .before .args .n) (c .before .before .before .before .before .before .before .before .before .before .before .before .before .args .table .now)) (c .before .before .before .before .before .before .before .before .loop-test .taken) (c .before .before .before .before .before .before .before .row-at .ensures) (omega (arith, c .before .before .before .before .before .before .before .row-at .ok)) (c .run-after .ensures) (c .before .before .before .before .before .before .before .before .before .loop .inv .1) (c .before .before .before .before .before .before .before .before .before .loop .inv .2) (c .before .before .before .before .before .before .least .ensures) (c .before .add-up .ensures) (c .before .before .before .before .put-row .kept .0) (c .before .before .before .before .put-row .ensures))
+    (λ c κs. search needs)
+    (λ c. omega (arith, c .least2 .ensures .within))
+    (λ c. omega (arith, c .least2 .ensures .within))
+    (λ c. omega (arith, c .least2 .ensures .within))
+    (λ c κs. search needs)
+    (λ c κs. search needs)
+    (λ c.
+    let x = c .before .before .before .before .before .before .before .loop .out in
+    let m = c .before .before .before .before .before .least2 .result in
+    same-len-mid m (length x - m) x (c .before .before .before .put-run .last .0) (c .before .before .before .put-run .kept .0) ∙ c .before .before .before .before .before .before .before .loop .inv .2 .sized)
+    (λ c.
+    let l = length-rowsOf (c .before .before .before .before .before .before .before .before .before .before .before .args .n) (c .before .before .before .before .before .before .before .before .before .before .before .args .table .now) in
+    along-last _ _ _ _ _ _ _ _ _ (c .before .before .before .before .before .before .before .loop .inv .2) (c .before .before .before .before .before .least2 .ensures) (c .add-up2 .ensures) (became _ _ _ _ _ (copy-end _ _ _ _ (omega arith)) (c .before .before .before .put-run .ensures))))

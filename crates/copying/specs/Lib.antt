@@ -1,0 +1,2 @@
+-- The laws of the copy, row by row.
+pub mod Laws

@@ -1,0 +1,136 @@
+// Writes the tidy copy from marked rows, one row after the other: null runs are gathered across rows, and the same traversal measures
+// and writes.
+use format::Row;
+use format::TidyAnswer;
+use writing::Gathered;
+ghost use mathlib.Core.Path.{_≡_};
+ghost use Prim.Native.Nat.{_≤_, _<_};
+ghost use lib.ListN.{length};
+ghost use Rattle.format.specs.Rows.{rowsOf, roomOf};
+ghost use Rattle.format.specs.Says.{isNulls};
+ghost use Rattle.format.specs.Tidy.{answerBy, outBy};
+ghost use Rattle.put.specs.Put.{Filled};
+ghost use Rattle.writing.specs.Copy.{isPassed, beforeOut, runAfter, rowOut, copyOf};
+
+// ---- null runs
+
+fn is_nulls(kind: u32) -> bool
+    ensures { λ q. ⌜ q ≡ isNulls kind ⌝ }
+{
+    match kind {
+        10 => true,
+        13 => true,
+        14 => true,
+        _ => false,
+    }
+}
+
+// Rows that a run is gathered across: libraries, and runs of 0.
+fn is_passed(r: Row) -> bool
+    ensures { λ q. ⌜ q ≡ isPassed r ⌝ }
+{
+    if r.kind == 12 {
+        return true;
+    }
+    if is_nulls(r.kind) {
+        return r.count == 0;
+    }
+    false
+}
+
+// The nulls gathered so far, if row r is no more of them.
+fn put_before(out: &mut [u8], w: Gathered, r: Row) -> usize
+    ensures { λ q. ⌜ Filled (beforeOut w r) (now (out .entry)) (now (out .exit)) q ⌝ }
+{
+    if is_passed(r) {
+        return 0;
+    }
+    if is_nulls(r.kind) {
+        if r.owner == w.owner {
+            return 0;
+        }
+        return put::put_run(out, w.count);
+    }
+    put::put_run(out, w.count)
+}
+
+// The nulls that wait after row r.
+fn run_after(before: Gathered, r: Row) -> Gathered
+    requires { ⌜ before .count < 1152921504606846976 ⌝ }
+    ensures { λ q. ⌜ q ≡ runAfter before r ⌝ }
+{
+    if is_passed(r) {
+        return before;
+    }
+    if is_nulls(r.kind) {
+        if r.owner == before.owner {
+            return Gathered {
+                owner: r.owner,
+                count: before.count + (r.count as usize),
+            };
+        }
+        return Gathered {
+            owner: r.owner,
+            count: r.count as usize,
+        };
+    }
+    Gathered { owner: 0, count: 0 }
+}
+
+// ---- the copy
+
+// Row i, which is r, after the nulls before it.
+fn put_row(
+    out: &mut [u8],
+    s: &[u8],
+    table: &[u32],
+    n: usize,
+    i: usize,
+    w: Gathered,
+    r: Row,
+) -> usize
+    requires { ⌜ (n ≤ roomOf (now table)) × (n < 4294967296) × (i < 4294967296) ⌝ }
+    ensures { λ q. ⌜ Filled (rowOut (now (s .entry)) (rowsOf n (now (table .entry))) i w r) (now (out .entry)) (now (out .exit)) q ⌝ }
+{
+    let a = put_before(out, w, r);
+    let from = put::least(a, out.len());
+    let b = one_row::put_record(&mut out[from..], s, table, n, i, r);
+    put::add_up(a, b)
+}
+
+// The whole copy at the front of `out`, and its length; over an empty part, the length alone.
+fn copy_all(out: &mut [u8], s: &[u8], table: &[u32], n: usize) -> usize
+    requires { ⌜ (n ≤ roomOf (now table)) × (n ≤ 16777216) ⌝ }
+    ensures { λ q. ⌜ Filled (copyOf (now (s .entry)) (rowsOf n (now (table .entry)))) (now (out .entry)) (now (out .exit)) q ⌝ }
+{
+    let mut at: usize = 0;
+    let mut w = Gathered { owner: 0, count: 0 };
+    let mut i: usize = 0;
+    while i < n {
+        let r = table::row_at(table, n, i);
+        let from = put::least(at, out.len());
+        let b = put_row(&mut out[from..], s, table, n, i, w, r);
+        at = put::add_up(at, b);
+        w = run_after(w, r);
+        i += 1;
+    }
+    let from = put::least(at, out.len());
+    let b = put::put_run(&mut out[from..], w.count);
+    put::add_up(at, b)
+}
+
+// The copy, or nothing where it does not fit; its length either way.
+pub fn copied(out: &mut [u8], s: &[u8], table: &[u32], n: usize) -> TidyAnswer
+    requires { ⌜ (n ≤ roomOf (now table)) × (n ≤ 16777216) × (length (copyOf (now s) (rowsOf n (now table))) ≤ 18446744073709551615) ⌝ }
+    ensures { λ q. ⌜ (q ≡ answerBy (copyOf (now (s .entry)) (rowsOf n (now (table .entry)))) (now (out .entry))) × (now (out .exit) ≡ outBy (copyOf (now (s .entry)) (rowsOf n (now (table .entry)))) (now (out .entry))) ⌝ }
+{
+    let total = copy_all(&mut out[0..0], s, table, n);
+    if out.len() < total {
+        return TidyAnswer::OutFull(total);
+    }
+    if 16777216 < total {
+        return TidyAnswer::OutFull(total);
+    }
+    copy_all(out, s, table, n);
+    TidyAnswer::Written(total)
+}

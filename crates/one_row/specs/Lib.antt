@@ -1,0 +1,2 @@
+-- The laws of what a row is written as.
+pub mod Laws
