@@ -1,7 +1,4 @@
--- What tidying puts into words of rows: the definitions, then their laws by subject, in the order of the definitions.
+-- What tidying puts into words of rows: the definitions, then the laws of rows and of places by which code reads and writes them.
 pub mod Marks
-pub mod Sweeps
+pub mod Rows
 pub mod Places
-pub mod Orders
-pub mod Equal
-pub mod Needs

@@ -26,7 +26,7 @@ pub fn tidy(s: &[u8], table: &mut [u32], out: &mut [u8]) -> TidyAnswer
     let a = reader::read(s, table);
     match a {
         ReadAnswer::Accepted(n) => {
-            marks::mark_all(s, table, n);
+            marking::mark_all(s, table, n);
             let q = copying::copied(out, s, table, n);
             restore(s, table, q);
             q

@@ -1,5 +1,5 @@
 -- One law for each way. A link that is not 0 is compared less 1, since i + 1 need not fit.
-use Rattle.marks.specs.Equal.{is-first, is-unlinked, is-no-class}
+use Rattle.marks.specs.Rows.{is-first, is-unlinked, is-no-class}
 use borrow.Author.Needs.{needs}
 use Rattle.marks.proofs.is_first.Statement.{statement}
 use Rattle.marks.proofs.is_first.Tie as tie

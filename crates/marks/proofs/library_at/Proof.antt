@@ -1,5 +1,5 @@
 -- The lookups, one after the other, are the definition.
-use Rattle.marks.specs.Equal.{library-is}
+use Rattle.marks.specs.Rows.{library-is}
 use borrow.Author.Needs.{needs}
 use Rattle.marks.proofs.library_at.Statement.{statement}
 use Rattle.marks.proofs.library_at.Tie as tie

@@ -1,5 +1,5 @@
 -- Past the rows `set` changes nothing (`put-past`).
-use Rattle.marks.specs.Orders.{put-past}
+use Rattle.marks.specs.Rows.{put-past}
 use borrow.Author.Needs.{needs}
 use Rattle.marks.proofs.put_named.Statement.{statement}
 use Rattle.marks.proofs.put_named.Tie as tie

@@ -1,7 +1,7 @@
 -- A word less 1 is the row's number.
 use borrow.Author.Needs.{needs}
 use Rattle.format.specs.Rows.{rowsOf}
-use Rattle.marks.specs.Orders.{row-is}
+use Rattle.marks.specs.Rows.{row-is}
 use Rattle.marks.proofs.row_named.Statement.{statement}
 use Rattle.marks.proofs.row_named.Tie as tie
 
