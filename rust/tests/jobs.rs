@@ -211,6 +211,21 @@ fn numbers_and_names_belong_together() {
 }
 
 #[test]
+fn the_header_for_c_has_the_same_numbers_and_names() {
+    let header = include_str!("../../strelinga.h");
+    let given: Vec<_> = header
+        .lines()
+        .filter_map(|line| line.trim().strip_prefix("STRELINGA_")?.split_once(" = "))
+        .collect();
+    for refusal in Refusal::NAMED {
+        let name = refusal.name().replace(' ', "_");
+        let (_, rest) = given.iter().find(|(given, _)| *given == name).expect(&name);
+        let number: String = rest.chars().take_while(|c| c.is_ascii_digit()).collect();
+        assert_eq!(number, refusal.number().to_string(), "{name}");
+    }
+}
+
+#[test]
 fn errors_say_their_number_name_and_place() {
     let cut = Refused { refusal: Refusal::CutShort, place: 27 };
     assert_eq!(cut.to_string(), "2 CUT SHORT at 27");
