@@ -1,5 +1,6 @@
 /* The four public jobs of Strelinga, for C: read a stream into a table of rows, say whether a row has text, show that text, and write the tidy
-   copy. Link target/staticlib/libterminal.a, which `rt staticlib terminal` writes.
+   copy; and over them the one that answers whether two lists say the same. Link the archive that `tests/library` makes for this processor and
+   prints the path of. docs/EMBEDDING.md says what to lend and what is left in it.
 
    A stream is bytes and their count, a table is 32-bit words and their count, an output is bytes and their count. Any bytes and any sizes are
    taken, none at all too. What is written must not overlap anything else that is lent, and no pointer is null, also beside a count of 0. Nothing
@@ -71,6 +72,15 @@ uint32_t strelinga_text_view(const uint8_t *stream, size_t bytes, const uint32_t
    and the table is the reading of the stream; after a refusal the table is all zero and the output unchanged. */
 uint32_t strelinga_tidy(const uint8_t *stream, size_t bytes, uint32_t *table, size_t words, uint8_t *out, size_t room, uint64_t *place,
                         uint64_t *length);
+
+/* Whether the lists in `a` and `b` say the same. The tidy copies go to the fronts of `first` and `second`; the one table serves both readings.
+   Answers 0 where both lists have their copies: `same` gets 1 where they say the same and 0 where not, `list`, `place` and `needed` get 0. Else
+   answers the number of the refusal, as `strelinga_tidy` would for the list that `list` names, 1 or 2: `place` gets its place, `needed` with 20
+   how long its copy would be, else 0, and `same` gets 0. A first list without a copy goes before the second, which is then not looked at and
+   whose output is unchanged. The table holds what the last tidying leaves: the reading of `b`, or all zero after a refusal. */
+uint32_t strelinga_say_the_same(const uint8_t *a, size_t a_bytes, const uint8_t *b, size_t b_bytes, uint32_t *table, size_t words,
+                                uint8_t *first, size_t first_room, uint8_t *second, size_t second_room, uint64_t *same, uint64_t *list,
+                                uint64_t *place, uint64_t *needed);
 
 #ifdef __cplusplus
 }

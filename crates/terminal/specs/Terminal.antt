@@ -14,12 +14,15 @@ use Rattle.format.specs.declared.TidyAnswer.{TidyAnswer}
 use Rattle.format.specs.declared.TidyAnswer.the-variants as C
 use Rattle.format.specs.declared.Text.{Text}
 use Rattle.format.specs.declared.Text.the-variants as T
-use Rattle.format.specs.Bytes.{part}
+use Rattle.format.specs.Bytes.{part, sameBytes}
 use Rattle.format.specs.Replies.{numberOf, Reply, reply, readReply, rowReply, tidyReply}
 use Rattle.format.specs.Rows.{roomOf}
 use Rattle.format.specs.Machine.{readOf}
 use Rattle.format.specs.Tidy.{tidyAnswer, tidyTable, tidyOutput}
 use Rattle.format.specs.View.{rowText, rowQuestion, textView}
+use Rattle.sameness.specs.declared.Sameness.{Sameness}
+use Rattle.sameness.specs.declared.Sameness.the-variants as S
+use Rattle.sameness.specs.Sameness as W
 use Rattle.view.specs.Laws.{question-part, question-fault, view-part, view-fault, row-inside}
 
 pub record Answered (r : Reply) (number place value : ℕ) : Type 0 where
@@ -60,6 +63,63 @@ pub tidied : (s t out t' out' : List ℕ) (number place value : ℕ) (a : TidyAn
     → Tidied s t out t' out' number place value
 tidied s t out t' out' number place value a e et eo h =
     record { answer-is = subst (λ (x : TidyAnswer). Answered (tidyReply x) number place value) e h; table-is = et; out-is = eo }
+
+-- ---- comparing
+
+-- the answer of the tidying that ends a comparing: 0 and no length where both copies are written
+abbrev pub endingOf : Sameness → TidyAnswer
+endingOf S.Same = C.Written 0
+endingOf S.Different = C.Written 0
+endingOf (S.FirstRefused r p) = C.Refused r p
+endingOf (S.SecondRefused r p) = C.Refused r p
+endingOf (S.FirstFull n) = C.OutFull n
+endingOf (S.SecondFull n) = C.OutFull n
+
+-- the list that is refused or has no room for its copy
+abbrev pub listOf : Sameness → ℕ
+listOf S.Same = 0
+listOf S.Different = 0
+listOf (S.FirstRefused r p) = 1
+listOf (S.SecondRefused r p) = 2
+listOf (S.FirstFull n) = 1
+listOf (S.SecondFull n) = 2
+
+abbrev pub sameOf : Sameness → ℕ
+sameOf S.Same = 1
+sameOf S.Different = 0
+sameOf (S.FirstRefused r p) = 0
+sameOf (S.SecondRefused r p) = 0
+sameOf (S.FirstFull n) = 0
+sameOf (S.SecondFull n) = 0
+
+-- the answer that the lists a and b have with a table that held t and outputs that held c and d
+abbrev pub saidOf : List ℕ → List ℕ → List ℕ → List ℕ → List ℕ → Sameness
+saidOf a b t c d =
+    W.answerOf (tidyAnswer a c (readOf a (roomOf t))) (tidyAnswer b d (readOf b (roomOf t)))
+    (sameBytes (W.copied a (readOf a (roomOf t))) (W.copied b (readOf b (roomOf t))))
+
+-- what a comparing leaves in the table and the outputs (`said`), beside its reply
+pub record Compared (a b t c d u e f : List ℕ) (number same list place needed : ℕ) : Type 0 where
+  pub said : W.Answered a b t c d u e f (saidOf a b t c d)
+  pub answer-is : Answered (tidyReply (endingOf (saidOf a b t c d))) number place needed
+  pub same-is : same ≡ sameOf (saidOf a b t c d)
+  pub list-is : list ≡ listOf (saidOf a b t c d)
+
+pub compared : (a b t c d u e f : List ℕ) (number same list place needed : ℕ) (q : Sameness)
+    → W.Answered a b t c d u e f q
+    → (x : TidyAnswer)
+    → x ≡ endingOf q
+    → Answered (tidyReply x) number place needed
+    → same ≡ sameOf q
+    → list ≡ listOf q
+    → Compared a b t c d u e f number same list place needed
+compared a b t c d u e f number same list place needed q w x i h k l =
+    record {
+      said = subst (λ (y : Sameness). W.Answered a b t c d u e f y) (w .answer) w;
+      answer-is = subst (λ (y : TidyAnswer). Answered (tidyReply y) number place needed) (i ∙ ap endingOf (w .answer)) h;
+      same-is = k ∙ ap sameOf (w .answer);
+      list-is = l ∙ ap listOf (w .answer);
+    }
 
 -- ---- the row question
 

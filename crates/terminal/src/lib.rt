@@ -4,13 +4,14 @@ use format::Refusal;
 use format::RowAnswer;
 use format::Text;
 use format::TidyAnswer;
+use sameness::Sameness;
 ghost use mathlib.Core.Path.{_≡_};
 ghost use lib.ListN.{length};
 ghost use Rattle.format.specs.Rows.{roomOf};
 ghost use Rattle.format.specs.Machine.{readOf, readAnswer, tableWords};
 ghost use Rattle.format.specs.View.{rowQuestion};
 ghost use Rattle.format.specs.Replies.{readReply, rowReply, tidyReply};
-ghost use Rattle.terminal.specs.Terminal.{Answered, Shown, Tidied};
+ghost use Rattle.terminal.specs.Terminal.{Answered, Shown, Tidied, endingOf, listOf, sameOf, Compared};
 
 // Reads a stream into a table of rows. Answers 0, or the number of the refusal; `place` is then its place, and `rows` is how many rows there
 // are where there is none.
@@ -122,4 +123,72 @@ pub extern "C" fn strelinga_tidy(
     *place = r.place;
     *length = r.value;
     r.number
+}
+
+// What the tidying answered that ends a comparing. One that compares has written both copies and has no length to tell.
+fn ending_of(q: Sameness) -> TidyAnswer
+    ensures { λ r. ⌜ r ≡ endingOf q ⌝ }
+{
+    match q {
+        Sameness::Same => TidyAnswer::Written(0),
+        Sameness::Different => TidyAnswer::Written(0),
+        Sameness::FirstRefused(r, at) => TidyAnswer::Refused(r, at),
+        Sameness::SecondRefused(r, at) => TidyAnswer::Refused(r, at),
+        Sameness::FirstFull(n) => TidyAnswer::OutFull(n),
+        Sameness::SecondFull(n) => TidyAnswer::OutFull(n),
+    }
+}
+
+// Which list is refused or has no room for its copy, 1 or 2; 0 where both have their copies.
+fn list_of(q: Sameness) -> u64
+    ensures { λ r. ⌜ r ≡ listOf q ⌝ }
+{
+    match q {
+        Sameness::Same => 0,
+        Sameness::Different => 0,
+        Sameness::FirstRefused(_, _) => 1,
+        Sameness::SecondRefused(_, _) => 2,
+        Sameness::FirstFull(_) => 1,
+        Sameness::SecondFull(_) => 2,
+    }
+}
+
+// 1 where the lists say the same, else 0.
+fn same_of(q: Sameness) -> u64
+    ensures { λ r. ⌜ r ≡ sameOf q ⌝ }
+{
+    match q {
+        Sameness::Same => 1,
+        Sameness::Different => 0,
+        Sameness::FirstRefused(_, _) => 0,
+        Sameness::SecondRefused(_, _) => 0,
+        Sameness::FirstFull(_) => 0,
+        Sameness::SecondFull(_) => 0,
+    }
+}
+
+// Whether two lists say the same. Answers 0 where both have their tidy copies, and `same` is then 1 or 0; else the number of the refusal of the
+// list that `list` names, with its `place` or, with 20, the length that its copy needs.
+#[no_mangle]
+pub extern "C" fn strelinga_say_the_same(
+    a: &[u8],
+    b: &[u8],
+    table: &mut [u32],
+    first: &mut [u8],
+    second: &mut [u8],
+    same: &mut u64,
+    list: &mut u64,
+    place: &mut u64,
+    needed: &mut u64,
+) -> u32
+    ensures { λ n. ⌜ Compared (now (a .entry)) (now (b .entry)) (now (table .entry)) (now (first .entry)) (now (second .entry)) (now (table .exit)) (now (first .exit)) (now (second .exit)) n (now (same .exit)) (now (list .exit)) (now (place .exit)) (now (needed .exit)) ⌝ }
+{
+    let q = sameness::say_the_same(a, b, table, first, second);
+    let ending = ending_of(q);
+    let w = tidy_reply(ending);
+    *same = same_of(q);
+    *list = list_of(q);
+    *place = w.place;
+    *needed = w.value;
+    w.number
 }

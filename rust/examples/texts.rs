@@ -1,0 +1,40 @@
+//! Reads a list of at most 65,536 bytes from standard input and prints its texts, then how long its tidy copy is.
+
+use std::error::Error;
+use std::fmt::Display;
+use std::io::{stdin, stdout, Read, Write};
+use std::process::exit;
+use strelinga::{read, rows, text, tidy, Refusal, ROW_WORDS};
+
+const BYTES: usize = 65_536;
+
+fn refused(refusal: Refusal, place: impl Display) -> ! {
+    println!("refused {} at {place}", refusal.number());
+    exit(1);
+}
+
+fn main() -> Result<(), Box<dyn Error>> {
+    let mut stream = Vec::new();
+    stdin().take(BYTES as u64).read_to_end(&mut stream)?;
+    let mut table = vec![0; 8192 * ROW_WORDS];
+    let mut copy = vec![0; 2 * BYTES];
+
+    match read(&stream, &mut table) {
+        Ok(count) => println!("accepted {count}"),
+        Err(e) => refused(e.refusal, e.place),
+    }
+
+    for number in 0..rows(&table).count() {
+        if let Some(text) = text(&stream, &table, number) {
+            print!("row {number}: ");
+            stdout().write_all(text)?;
+            println!();
+        }
+    }
+
+    match tidy(&stream, &mut table, &mut copy) {
+        Ok(length) => println!("tidy copy: {length} of {} bytes", stream.len()),
+        Err(e) => refused(e.refusal(), e.place()),
+    }
+    Ok(())
+}
