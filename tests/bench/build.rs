@@ -1,4 +1,4 @@
-//! Links the proved reading job: the archive or object that STRELINGA names.
+//! Links the proved jobs: the archive or object that STRELINGA names.
 
 fn main() {
     println!("cargo:rerun-if-env-changed=STRELINGA");

@@ -76,6 +76,7 @@ pub fn cases() -> Vec<Case> {
         full_tables(),
         tidy_copies(),
         giants(),
+        messages(),
     ];
     groups.into_iter().flatten().collect()
 }
@@ -1033,5 +1034,43 @@ fn giants() -> Vec<Case> {
             Stream::new().array(1, 0, &[top]).bytes(&[0, BYTE, 1]),
             Refused(2, 17),
         ),
+    ]
+}
+
+/// The request and the response of the format's own section 3, whose method
+/// records are not taken. The request is printed there with two bytes missing,
+/// a digit of the type name and a type byte; here they stand.
+fn messages() -> Vec<Case> {
+    let string: &[u8] = &[];
+    let members = ["Street", "City", "State", "Zip"].map(|name| (name, 1, string));
+    let library =
+        "DOJRemotingMetadata, Version=1.0.2622.31326, Culture=neutral, PublicKeyToken=null";
+    let request = Stream::default()
+        .header(1, -1)
+        .bytes(&[21])
+        .int(0x14)
+        .bytes(&[18])
+        .text("SendAddress")
+        .bytes(&[18])
+        .text(&format!("DOJRemotingMetadata.MyServer, {library}"))
+        .objects(1, 1)
+        .reference(2)
+        .library(3, library)
+        .class(2, "DOJRemotingMetadata.Address", &members, 3)
+        .string(4, "One Microsoft Way")
+        .string(5, "Redmond")
+        .string(6, "WA")
+        .string(7, "98054")
+        .end();
+    let response = Stream::default()
+        .header(0, 0)
+        .bytes(&[22])
+        .int(0x811)
+        .bytes(&[18])
+        .text("Address received")
+        .end();
+    vec![
+        case("request of section 3", request, Refused(4, 17)),
+        case("response of section 3", response, Refused(4, 17)),
     ]
 }

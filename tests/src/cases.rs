@@ -9,6 +9,7 @@ use crate::show::MOST_WORDS;
 use crate::stream::{Member, Stream};
 use std::path::Path;
 
+#[derive(Clone)]
 pub struct Case {
     pub what: String,
     pub stream: Vec<u8>,
@@ -20,8 +21,9 @@ pub struct Case {
 }
 
 /// What is known of the outcome besides what this reader finds.
+#[derive(Clone)]
 pub struct Known {
-    pub answer: String,
+    pub answer: Option<String>,
     /// Hash of the rows, see [`corpus::rows_hash`].
     pub rows: Option<String>,
     /// Of the tidy copy, see [`corpus::copy_note`].
@@ -40,7 +42,7 @@ fn hand_written(case: by_hand::Case) -> Case {
     };
     let what = format!("by hand: {}", case.what);
     let copy = case.copy.and_then(Result::ok).map(|copy| corpus::copy_note(&copy));
-    let known = Some(Known { answer, rows: None, copy });
+    let known = Some(Known { answer: Some(answer), rows: None, copy });
     Case { what, stream: case.stream, words: case.words, known, is_list: false }
 }
 
@@ -64,9 +66,12 @@ fn known(outcome: &str) -> Option<Known> {
     let words: Vec<&str> = reading.split(' ').collect();
     match words[..] {
         ["accepted", rows, hash] => {
-            Some(Known { answer: format!("accepted {rows}"), rows: Some(hash.to_string()), copy })
+            let answer = Some(format!("accepted {rows}"));
+            Some(Known { answer, rows: Some(hash.to_string()), copy })
         }
-        ["refused", _, "at", _] => Some(Known { answer: reading.to_string(), rows: None, copy }),
+        ["refused", _, "at", _] => {
+            Some(Known { answer: Some(reading.to_string()), rows: None, copy })
+        }
         _ => None,
     }
 }
@@ -358,6 +363,21 @@ mod tests {
             let enough = found(&case.stream, MOST_WORDS);
             assert!(enough.outcome.is_ok(), "{}: {:02X?}", enough.answer, case.stream);
         }
+    }
+
+    /// Of the first thousand, which are valid, with what they need.
+    #[test]
+    fn tables_have_all_the_odd_sizes() {
+        let cases: Vec<Case> = generated(7, 2_000, &[]).into_iter().take(1_000).collect();
+        let with = |odd: fn(usize, usize) -> bool| {
+            cases.iter().filter(|case| odd(case.words, rows_of(&case.stream) * ROW_WORDS)).count()
+        };
+        assert!(with(|words, _| words == 0) > 10);
+        assert!(with(|words, _| words == 7) > 0);
+        assert!(with(|words, _| words % ROW_WORDS != 0) > 100);
+        assert!(with(|words, enough| words + ROW_WORDS == enough) > 10);
+        assert!(with(|words, enough| words + 1 == enough) > 0);
+        assert!(with(|words, enough| words == enough) > 10);
     }
 
     #[test]

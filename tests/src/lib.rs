@@ -7,13 +7,16 @@ pub mod by_hand;
 pub mod cases;
 pub mod corpus;
 pub mod generate;
+pub mod large;
 pub mod reader;
+pub mod report;
 pub mod said;
 pub mod same;
 pub mod show;
 pub mod stream;
 pub mod tidy;
 pub mod tidying;
+pub mod views;
 
 pub use reader::{read, row_answer, row_text, Refusal};
 pub use same::same;

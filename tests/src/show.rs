@@ -29,6 +29,11 @@ pub fn send(stream: &[u8], others: &[usize], sent: &mut Vec<u8>) {
     sent.extend_from_slice(stream);
 }
 
+/// The words of a table that is lent as it stands.
+pub fn send_table(table: &[u32], sent: &mut Vec<u8>) {
+    sent.extend(table.iter().flat_map(|word| word.to_le_bytes()));
+}
+
 /// What this reader or tidier makes of a stream: its answer in words, the
 /// number of rows or the length of the copy, or the number of the refusal, and
 /// what is left of the table and the output.
@@ -39,8 +44,13 @@ pub struct Found {
     pub out: Option<Vec<u8>>,
 }
 
+/// A table and an output as they are lent.
+pub fn littered(words: usize, room: usize) -> (Vec<u32>, Vec<u8>) {
+    (vec![LITTER_WORD; words], vec![LITTER_BYTE; room])
+}
+
 pub fn found(stream: &[u8], words: usize) -> Found {
-    let mut table = vec![LITTER_WORD; words];
+    let (mut table, _) = littered(words, 0);
     let outcome = read(stream, &mut table);
     let answer = match &outcome {
         Ok(rows) => format!("accepted {rows}"),
@@ -50,8 +60,7 @@ pub fn found(stream: &[u8], words: usize) -> Found {
 }
 
 pub fn found_tidying(stream: &[u8], words: usize, room: usize) -> Found {
-    let mut table = vec![LITTER_WORD; words];
-    let mut out = vec![LITTER_BYTE; room];
+    let (mut table, mut out) = littered(words, room);
     let outcome = tidy(stream, &mut table, &mut out);
     let answer = match &outcome {
         Ok(length) => written(*length),
@@ -85,7 +94,8 @@ pub fn byte_trace(out: &[u8]) -> String {
     trace(&words)
 }
 
-fn trace(words: &[u32]) -> String {
+/// Two hashes of all words and their places.
+pub fn trace(words: &[u32]) -> String {
     let [first, second] = LANES.map(|by| hash(words, by));
     format!("{first} {second}")
 }

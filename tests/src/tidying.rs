@@ -3,7 +3,7 @@
 
 use crate::cases::Case;
 use crate::generate::{self, List, Random};
-use crate::reader::{read_records, ROW_WORDS};
+use crate::reader::{read_records, ROW_WORDS, STREAM_LIMIT};
 use crate::said;
 use crate::show::{byte_trace, written, MOST_WORDS};
 use crate::tidy::copy_of;
@@ -56,12 +56,14 @@ pub fn of_case(case: &Case) -> Vec<Tidying> {
     let length = copy.len();
     let known = case.known.as_ref().and_then(|known| known.copy.clone());
     let noted = known.map_or(Demand::None, Demand::Noted);
+    // A copy over the limit is never written, and too large as a stream.
+    let again = if length > STREAM_LIMIT { Demand::None } else { Demand::Unchanged };
     vec![
         tidying("output larger", &case.stream, length + 1 + length % 40, Demand::None),
         tidying("output as large", &case.stream, length, noted),
         tidying("output one byte too small", &case.stream, length - 1, Demand::None),
         tidying("output empty", &case.stream, 0, Demand::None),
-        tidying("its copy", &copy, length, Demand::Unchanged),
+        tidying("its copy", &copy, length, again),
     ]
 }
 
@@ -127,4 +129,29 @@ pub fn copy_part(line: &str) -> Option<(String, String)> {
 /// What the line says where the copy is these bytes.
 pub fn part_of(copy: &[u8]) -> (String, String) {
     (written(copy.len()), byte_trace(copy))
+}
+
+#[cfg(test)]
+mod tests {
+    use super::*;
+    use crate::cases::generated;
+
+    #[test]
+    fn outputs_have_all_the_odd_sizes() {
+        let cases = generated(7, 400, &[]);
+        let mut seen = [0; 5];
+        for case in &cases {
+            let Some(copy) = copy_in(&case.stream, case.words) else {
+                continue;
+            };
+            for one in of_case(case) {
+                seen[0] += usize::from(one.room == 0);
+                seen[1] += usize::from(one.room + 1 == copy.len());
+                seen[2] += usize::from(one.room == copy.len());
+                seen[3] += usize::from(one.room > copy.len());
+                seen[4] += usize::from(one.room % ROW_WORDS != 0);
+            }
+        }
+        assert!(seen.iter().all(|&seen| seen > 100), "{seen:?}");
+    }
 }

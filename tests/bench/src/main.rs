@@ -1,105 +1,98 @@
-//! Bytes and rows a second of the proved reader and of the independent one, on the same lists, in one run. Both fill a table that was all
-//! zeros before; the best of seven turns counts.
+//! `bench DOCS LIST TAKEN`: times the proved reader and tidier beside the
+//! independent ones, in one run on the same lists, and writes the tables of
+//! DOCS/BENCHMARKS.md and the picture DOCS/growth.svg. LIST is a real list;
+//! TAKEN says where and when.
 
-use independent_reader::read;
-use std::time::Instant;
+mod document;
+mod growth;
+mod lists;
+mod picture;
+mod timing;
 
-extern "C" {
-    fn strelinga_read(
-        stream: *const u8,
-        bytes: usize,
-        table: *mut u32,
-        words: usize,
-        place: *mut u64,
-        rows: *mut u64,
-    ) -> u32;
-}
+use growth::Series;
+use std::path::Path;
+use timing::{Subject, Times, MOST_TURNS, TIME_FOR_TURNS};
 
-const TURNS: usize = 7;
-
-fn proved(stream: &[u8], table: &mut [u32]) -> usize {
-    let (mut place, mut rows) = (0, 0);
-    // The job takes any bytes and any words; the pointers and lengths are those of two live slices.
-    let number = unsafe {
-        strelinga_read(stream.as_ptr(), stream.len(), table.as_mut_ptr(), table.len(), &mut place, &mut rows)
+fn main() -> Result<(), String> {
+    let words: Vec<String> = std::env::args().skip(1).collect();
+    let [docs, list, taken] = &words[..] else {
+        return Err("bench DOCS LIST TAKEN".to_string());
     };
-    assert_eq!(number, 0, "refused {number} at {place}");
-    rows as usize
+    let real = std::fs::read(list).map_err(|error| format!("{list}: {error}"))?;
+    let docs = Path::new(docs);
+    let mut page = document::Page::open(&docs.join("BENCHMARKS.md"))?;
+    page.write("taken", &taken_line(taken))?;
+    page.write("speed", &speed(real))?;
+    let series = growth::all();
+    page.write("growth", &growth::table(&series))?;
+    page.save()?;
+    let drawn = picture::drawn(&series);
+    std::fs::write(docs.join("growth.svg"), drawn).map_err(|error| error.to_string())
 }
 
-fn independent(stream: &[u8], table: &mut [u32]) -> usize {
-    read(stream, table).expect("the list is good")
+fn taken_line(taken: &str) -> String {
+    format!(
+        "Taken on {taken}. Times are processor time of this one process. The best of {MOST_TURNS} turns counts; no further turn is begun once \
+         the turns took {TIME_FOR_TURNS} s together.\n"
+    )
 }
 
-fn int(n: u32) -> [u8; 4] {
-    n.to_le_bytes()
-}
-
-fn list(body: Vec<u8>) -> Vec<u8> {
-    let mut stream = vec![0];
-    [1, 1, 1, 0].iter().for_each(|n| stream.extend(int(*n)));
-    stream.extend(body);
-    stream.push(11);
-    stream
-}
-
-/// An object array whose slots each hold a typed Int32: a row each, and no object among them.
-fn small_rows(count: u32) -> Vec<u8> {
-    let mut body = [&[16][..], &int(1), &int(count)].concat();
-    for n in 0..count {
-        body.extend([&[8, 8][..], &int(n)].concat());
+fn speed(real: Vec<u8>) -> String {
+    let subjects = [
+        ("100,000 small rows", Subject::of(lists::values(100_000))),
+        ("20,000 texts", Subject::of(lists::texts(20_000))),
+        ("16 MiB of numbers", Subject::of(lists::numbers())),
+        ("big_20000_nodes", Subject::of(real)),
+    ];
+    let mut text = String::from(
+        "| list | bytes | rows | job | by | time | bytes a second | rows a second |\n\
+         |---|---:|---:|---|---|---:|---:|---:|\n",
+    );
+    for (name, mut subject) in subjects {
+        eprintln!("{name}");
+        let (read, tidied) = (subject.read(), subject.tidied());
+        for (job, times) in [("read", read), ("tidy", tidied)] {
+            for (by, seconds) in [("proved", times.proved), ("independent", times.independent)] {
+                text += &line(name, &subject, job, by, seconds);
+            }
+        }
     }
-    list(body)
+    text
 }
 
-/// A string array full of part numbers; every string is an object whose number is looked up.
-fn texts(count: u32) -> Vec<u8> {
-    let mut body = [&[17][..], &int(1), &int(count)].concat();
-    for n in 0..count {
-        let text = format!("gripper jaw {n:06}, hall 7, shelf {:04}", n % 9973);
-        body.extend([&[6][..], &int(n + 2), &[text.len() as u8], text.as_bytes()].concat());
+fn line(name: &str, subject: &Subject, job: &str, by: &str, seconds: f64) -> String {
+    let (bytes, rows) = (subject.stream.len(), subject.rows);
+    format!(
+        "| {name} | {bytes} | {rows} | {job} | {by} | {} | {} | {} |\n",
+        timing::shown(seconds),
+        rate(bytes, seconds),
+        rate(rows, seconds)
+    )
+}
+
+/// Thousands or millions a second.
+fn rate(count: usize, seconds: f64) -> String {
+    let rate = count as f64 / seconds;
+    match rate {
+        1e7.. => format!("{:.0} M", rate / 1e6),
+        1e6.. => format!("{:.1} M", rate / 1e6),
+        1e4.. => format!("{:.0} k", rate / 1e3),
+        _ => format!("{rate:.0}"),
     }
-    list(body)
 }
 
-/// One array of Int32, as large as a stream may be.
-fn numbers() -> Vec<u8> {
-    let count = (16_777_216 - 28) / 4;
-    let mut body = [&[15][..], &int(1), &int(count), &[8]].concat();
-    (0..count).for_each(|n| body.extend(int(n)));
-    list(body)
+/// Both jobs of both programs.
+#[derive(Clone, Copy)]
+struct Point {
+    rows: usize,
+    read: Option<Times>,
+    tidied: Option<Times>,
 }
 
-fn best(job: impl Fn(&[u8], &mut [u32]) -> usize, stream: &[u8], words: usize) -> (f64, Vec<u32>, usize) {
-    let mut best = f64::MAX;
-    let mut last = (Vec::new(), 0);
-    for _ in 0..TURNS {
-        let mut table = vec![0; words];
-        let start = Instant::now();
-        let rows = job(stream, &mut table);
-        best = best.min(start.elapsed().as_secs_f64());
-        last = (table, rows);
+impl Series {
+    /// The times of one job, by rows.
+    fn of_job(&self, job: fn(&Point) -> Option<Times>) -> Vec<(usize, Times)> {
+        let points = self.points.iter();
+        points.filter_map(|point| job(point).map(|times| (point.rows, times))).collect()
     }
-    (best, last.0, last.1)
-}
-
-fn show(name: &str, stream: &[u8], words: usize) {
-    let (a, left, rows) = best(proved, stream, words);
-    let (b, right, other) = best(independent, stream, words);
-    assert!(rows == other && left == right, "{name}: the readers differ");
-    let line = |who: &str, seconds: f64| {
-        let (mega, million) = (stream.len() as f64 / seconds / 1e6, rows as f64 / seconds / 1e6);
-        println!("| {name} | {} | {rows} | {who} | {:.3} ms | {mega:.1} MB/s | {million:.2} M rows/s |", stream.len(), seconds * 1e3);
-    };
-    line("proved", a);
-    line("independent", b);
-}
-
-fn main() {
-    println!("| list | bytes | rows | reader | best of {TURNS} | bytes | rows |");
-    println!("|---|---|---|---|---|---|---|");
-    show("100,000 small rows", &small_rows(100_000), 8 * 100_010);
-    show("2,000 texts", &texts(2_000), 8 * 2_010);
-    show("20,000 texts", &texts(20_000), 8 * 20_010);
-    show("16 MiB of numbers", &numbers(), 64);
 }

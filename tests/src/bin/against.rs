@@ -1,34 +1,42 @@
-//! `against RUN.. [--seed N] [--count N] [--lists FOLDER]`: compares the proved
-//! reader and tidier with the independent ones, stream by stream: answer, place
-//! or length, every word of the table and every byte of the output. RUN with
-//! its words runs the comparing program whose name comes after them.
+//! `against RUN.. [--seed N] [--count N] [--lists FOLDER] [--linked PROGRAM]`:
+//! compares the proved jobs with the independent ones, stream by stream:
+//! answer, place or length, every word of the table and every byte of the
+//! output. RUN with its words runs the comparing program whose name comes after
+//! them. PROGRAM has the C forms linked; it shows texts and takes large streams.
 
 use independent_reader::asked::{ask, Asked};
 use independent_reader::cases::{self, Case};
 use independent_reader::corpus::{copy_note, rows_hash};
+use independent_reader::generate::Random;
+use independent_reader::large::large;
+use independent_reader::report::Report;
 use independent_reader::show::{
-    found, found_tidying, send, Found, MOST_BYTES, MOST_ROOM, MOST_STREAMS, MOST_WORDS,
+    found, found_tidying, send, send_table, Found, MOST_BYTES, MOST_ROOM, MOST_STREAMS, MOST_WORDS,
 };
 use independent_reader::tidying::{self, copy_part, part_of, Demand, Tidying};
-use std::collections::{BTreeMap, HashMap};
+use independent_reader::views::{found_views, planted, rows_asked};
+use std::collections::HashMap;
 use std::path::PathBuf;
 use std::process::ExitCode;
 
-const USAGE: &str = "against RUN.. [--seed N] [--count N] [--lists FOLDER]";
+const USAGE: &str = "against RUN.. [--seed N] [--count N] [--lists FOLDER] [--linked PROGRAM]";
 const USUAL_SEED: u64 = 1;
 const USUAL_COUNT: usize = 20_000;
 
-/// The comparing programs.
+/// The comparing programs, and what the linked one is asked for.
 const READING: &str = "compare";
 const TIDYING: &str = "compare_tidy";
+const LINKED_READING: &str = "read";
+const LINKED_TIDYING: &str = "tidy";
+const LINKED_VIEWS: &str = "view";
+
+/// Streams made at once, each batch from a seed of its own.
+const BATCH: usize = 20_000;
 
 /// One list is repacked for so many streams.
 const STREAMS_A_REPACKING: usize = 10;
 
-/// More than these say nothing new.
-const MOST_SHOWN: usize = 20;
-
-/// A longer stream is a file with a name.
+/// A longer stream is a file with a name, or large.
 const MOST_HEX: usize = 65_536;
 
 fn main() -> ExitCode {
@@ -45,10 +53,29 @@ fn main() -> ExitCode {
 /// The number of differences.
 fn compare_all() -> Result<usize, String> {
     let wishes = Wishes::from(std::env::args().skip(1))?;
-    let cases = wishes.cases()?;
-    let reading = compare_reading(&wishes.program(READING), &cases)?;
-    let tidying = compare_tidying(&wishes.program(TIDYING), &wishes.tidyings(&cases)?)?;
-    Ok(reading + tidying)
+    let lists = wishes.lists()?;
+    let by_hand = cases::by_hand();
+    let (hand, real) = (by_hand.len(), lists.len());
+    let large = if wishes.linked.is_some() { large(&lists) } else { Vec::new() };
+    println!(
+        "seed {}: {} generated streams, {hand} by hand, {real} lists, {} large ones",
+        wishes.seed,
+        wishes.count,
+        large.len()
+    );
+    let mut report = Report::default();
+    wishes.compare_batch(wishes.seed, 0, by_hand.into_iter().chain(lists.clone()), &mut report)?;
+    let mut seeds = Random::new(wishes.seed);
+    let mut seed = wishes.seed;
+    for first in (0..wishes.count).step_by(BATCH) {
+        let count = BATCH.min(wishes.count - first);
+        let made = cases::generated(seed, count, &lists).into_iter().take(count);
+        wishes.compare_batch(seed, count / STREAMS_A_REPACKING, made, &mut report)?;
+        seed = seeds.draw();
+    }
+    wishes.compare_large(&large, &mut report)?;
+    report.print();
+    Ok(report.differences)
 }
 
 struct Wishes {
@@ -56,17 +83,19 @@ struct Wishes {
     seed: u64,
     count: usize,
     lists: Option<PathBuf>,
+    linked: Option<String>,
 }
 
 impl Wishes {
     fn from(mut words: impl Iterator<Item = String>) -> Result<Wishes, String> {
         let (run, seed, count) = (Vec::new(), USUAL_SEED, USUAL_COUNT);
-        let mut wishes = Wishes { run, seed, count, lists: None };
+        let mut wishes = Wishes { run, seed, count, lists: None, linked: None };
         while let Some(word) = words.next() {
             match word.as_str() {
                 "--seed" => wishes.seed = number(words.next())?,
                 "--count" => wishes.count = number(words.next())?,
                 "--lists" => wishes.lists = Some(words.next().ok_or(USAGE)?.into()),
+                "--linked" => wishes.linked = Some(words.next().ok_or(USAGE)?),
                 _ => wishes.run.push(word),
             }
         }
@@ -76,40 +105,52 @@ impl Wishes {
         Ok(wishes)
     }
 
+    fn lists(&self) -> Result<Vec<Case>, String> {
+        self.lists.as_ref().map_or(Ok(Vec::new()), |folder| cases::lists(folder))
+    }
+
     fn program(&self, name: &str) -> Vec<String> {
         let mut words = self.run.clone();
         words.push(name.to_string());
         words
     }
 
-    fn cases(&self) -> Result<Vec<Case>, String> {
-        let lists = match &self.lists {
-            Some(folder) => cases::lists(folder)?,
-            None => Vec::new(),
-        };
-        if self.count > MOST_STREAMS {
-            return Err(too_many());
+    /// Reads and tidies the cases, and packings of so many lists made from the
+    /// seed and of those among the cases.
+    fn compare_batch(
+        &self,
+        seed: u64,
+        repackings: usize,
+        cases: impl Iterator<Item = Case>,
+        report: &mut Report,
+    ) -> Result<(), String> {
+        let cases: Vec<Case> = cases.collect();
+        held_to_limits(cases.iter().map(|case| (&*case.what, &*case.stream, case.words, 0)))?;
+        compare_reading(&self.program(READING), &cases, report)?;
+        let mut tidyings: Vec<Tidying> = cases.iter().flat_map(tidying::of_case).collect();
+        tidyings.extend(tidying::repacked(seed, repackings, &cases));
+        held_to_limits(tidyings.iter().map(|one| (&*one.what, &*one.stream, one.words, one.room)))?;
+        compare_tidying(&self.program(TIDYING), &tidyings, report)?;
+        match &self.linked {
+            Some(linked) => compare_views(linked, seed, &cases, report),
+            None => Ok(()),
         }
-        let mut all = cases::generated(self.seed, self.count, &lists);
-        let by_hand = cases::by_hand();
-        println!(
-            "seed {}: {} generated streams, {} by hand, {} lists",
-            self.seed,
-            all.len(),
-            by_hand.len(),
-            lists.len()
-        );
-        all.extend(by_hand);
-        all.extend(lists);
-        held_to_limits(all.iter().map(|case| (&*case.what, &*case.stream, case.words, 0)))?;
-        Ok(all)
     }
 
-    fn tidyings(&self, cases: &[Case]) -> Result<Vec<Tidying>, String> {
-        let mut all: Vec<Tidying> = cases.iter().flat_map(tidying::of_case).collect();
-        all.extend(tidying::repacked(self.seed, self.count / STREAMS_A_REPACKING, cases));
-        held_to_limits(all.iter().map(|one| (&*one.what, &*one.stream, one.words, one.room)))?;
-        Ok(all)
+    /// One at a time, as each takes much memory.
+    fn compare_large(&self, cases: &[Case], report: &mut Report) -> Result<(), String> {
+        let Some(linked) = &self.linked else {
+            return Ok(());
+        };
+        let program = |job: &str| [linked.clone(), job.to_string()];
+        for case in cases {
+            let case = std::slice::from_ref(case);
+            compare_reading(&program(LINKED_READING), case, report)?;
+            let tidyings = tidying::of_case(&case[0]);
+            compare_tidying(&program(LINKED_TIDYING), &tidyings, report)?;
+            compare_views(linked, self.seed, case, report)?;
+        }
+        Ok(())
     }
 }
 
@@ -117,16 +158,12 @@ fn number<T: std::str::FromStr>(word: Option<String>) -> Result<T, String> {
     word.and_then(|word| word.parse().ok()).ok_or(USAGE.to_string())
 }
 
-fn too_many() -> String {
-    format!("the program takes at most {MOST_STREAMS} streams")
-}
-
 /// The program would stop at a stream that it has no space for.
 fn held_to_limits<'c>(
     all: impl ExactSizeIterator<Item = (&'c str, &'c [u8], usize, usize)>,
 ) -> Result<(), String> {
     if all.len() > MOST_STREAMS {
-        return Err(too_many());
+        return Err(format!("the program takes at most {MOST_STREAMS} streams"));
     }
     for (what, stream, words, room) in all {
         if stream.len() > MOST_BYTES || words > MOST_WORDS || room > MOST_ROOM {
@@ -136,48 +173,86 @@ fn held_to_limits<'c>(
     Ok(())
 }
 
-fn compare_reading(program: &[String], cases: &[Case]) -> Result<usize, String> {
+fn compare_reading(program: &[String], cases: &[Case], report: &mut Report) -> Result<(), String> {
     let mut sent = Vec::new();
     cases.iter().for_each(|case| send(&case.stream, &[case.words], &mut sent));
     let asked = ask(program, sent)?;
-    let mut report = Report::of(&asked, cases.len());
+    note_program(&asked, cases.len(), report);
     for (number, case) in cases.iter().enumerate() {
         let line = line_of(&asked, number);
         let found = found(&case.stream, case.words);
-        report.count(&found, "accepted");
-        let mut faults = differing(&found, line);
+        report.read.count(&found.outcome);
+        report.sizes.count_table(case.words, &found.outcome);
+        let mut faults = differing(&found.line(), line);
         faults.extend(against_known(case, &found, line));
-        report.note(number, &case.what, &case.stream, &[case.words], &faults);
+        note(report, &case.what, &case.stream, &[case.words], &faults);
     }
-    report.last_lines("streams read");
-    Ok(report.differences)
+    Ok(())
 }
 
-fn compare_tidying(program: &[String], tidyings: &[Tidying]) -> Result<usize, String> {
+fn compare_tidying(
+    program: &[String],
+    tidyings: &[Tidying],
+    report: &mut Report,
+) -> Result<(), String> {
     let mut sent = Vec::new();
     for one in tidyings {
         send(&one.stream, &[one.words, one.room], &mut sent);
     }
     let asked = ask(program, sent)?;
-    let mut report = Report::of(&asked, tidyings.len());
+    note_program(&asked, tidyings.len(), report);
     let mut copies = Copies::default();
     for (number, one) in tidyings.iter().enumerate() {
         let line = line_of(&asked, number);
         let found = found_tidying(&one.stream, one.words, one.room);
-        report.count(&found, "written");
-        let mut faults = differing(&found, line);
-        faults.extend(copies.fault(one, &found, line));
-        report.note(number, &one.what, &one.stream, &[one.words, one.room], &faults);
+        report.tidied.count(&found.outcome);
+        report.sizes.count_output(one.room, &found.outcome);
+        let mut faults = differing(&found.line(), line);
+        faults.extend(copies.fault(one, &found, line, report));
+        note(report, &one.what, &one.stream, &[one.words, one.room], &faults);
     }
-    report.last_lines("streams and outputs tidied");
-    println!(
-        "{} known copies, {} tidy copies tidied again, {} packings of {} lists with one copy each",
-        copies.noted,
-        copies.unchanged,
-        copies.packings,
-        copies.of_group.len()
-    );
-    Ok(report.differences)
+    report.packed += copies.of_group.len();
+    Ok(())
+}
+
+/// What the rows of the reading show, and rows that no reading left.
+fn compare_views(
+    linked: &str,
+    seed: u64,
+    cases: &[Case],
+    report: &mut Report,
+) -> Result<(), String> {
+    let mut random = Random::new(seed);
+    let mut asked_of: Vec<(&Case, Vec<u32>)> = Vec::new();
+    for case in cases {
+        asked_of.push((case, found(&case.stream, case.words).table));
+        asked_of.push((case, planted(&case.stream, &mut random)));
+    }
+    let mut sent = Vec::new();
+    for (case, table) in &asked_of {
+        send(&case.stream, &[table.len()], &mut sent);
+        send_table(table, &mut sent);
+    }
+    let asked = ask(&[linked.to_string(), LINKED_VIEWS.to_string()], sent)?;
+    note_program(&asked, asked_of.len(), report);
+    for (number, (case, table)) in asked_of.iter().enumerate() {
+        let views = found_views(&case.stream, table);
+        report.tables += 1;
+        report.rows += rows_asked(table.len()).count();
+        report.texts += views.texts;
+        let faults = differing(&views.line(), line_of(&asked, number));
+        note(report, &format!("{}, texts", case.what), &case.stream, &[table.len()], &faults);
+    }
+    Ok(())
+}
+
+/// What went wrong with the program itself, and lines after the last stream,
+/// are differences.
+fn note_program(asked: &Asked, streams: usize, report: &mut Report) {
+    asked.faults.iter().for_each(|fault| report.difference(fault));
+    for line in asked.lines.iter().skip(streams) {
+        report.difference(&format!("after the last stream: {line}"));
+    }
 }
 
 /// Every stream has one line.
@@ -185,25 +260,38 @@ fn line_of(asked: &Asked, number: usize) -> &str {
     asked.lines.get(number).map_or("(no line)", String::as_str)
 }
 
-fn differing(found: &Found, line: &str) -> Vec<String> {
-    let right = found.line();
+fn differing(right: &str, line: &str) -> Vec<String> {
     if line == right {
         return Vec::new();
     }
     vec![format!("program      {line}"), format!("independent  {right}")]
 }
 
+fn note(report: &mut Report, what: &str, stream: &[u8], sizes: &[usize], faults: &[String]) {
+    if faults.is_empty() {
+        return;
+    }
+    let bytes = stream.len();
+    let mut text = format!("{what}, {bytes} bytes, table and output {sizes:?}\n");
+    if bytes <= MOST_HEX {
+        let hex: String = stream.iter().map(|byte| format!("{byte:02X}")).collect();
+        text += &format!("  stream       {hex}\n");
+    }
+    report.difference(&(text + "  " + &faults.join("\n  ")));
+}
+
 /// What is known of a reading besides what the independent reader finds.
 fn against_known(case: &Case, found: &Found, line: &str) -> Vec<String> {
     let mut faults = Vec::new();
-    if let Some(known) = &case.known {
-        let rows = found.outcome.ok().map(|rows| rows_hash(&found.table, rows));
-        if known.answer != answer_of(line) {
-            faults.push(format!("known        {}, not {line}", known.answer));
-        }
-        if known.rows.is_some() && known.rows != rows {
-            faults.push(format!("known rows   {:?}, not {rows:?}", known.rows));
-        }
+    let Some(known) = &case.known else {
+        return faults;
+    };
+    let rows = found.outcome.ok().map(|rows| rows_hash(&found.table, rows));
+    if known.answer.as_ref().is_some_and(|answer| answer != answer_of(line)) {
+        faults.push(format!("known        {:?}, not {line}", known.answer));
+    }
+    if known.rows.is_some() && known.rows != rows {
+        faults.push(format!("known rows   {:?}, not {rows:?}", known.rows));
     }
     faults
 }
@@ -218,95 +306,36 @@ fn answer_of(line: &str) -> &str {
 struct Copies {
     /// The first copy of each group.
     of_group: HashMap<usize, Option<(String, String)>>,
-    noted: usize,
-    unchanged: usize,
-    packings: usize,
 }
 
 impl Copies {
-    fn fault(&mut self, one: &Tidying, found: &Found, line: &str) -> Option<String> {
+    fn fault(
+        &mut self,
+        one: &Tidying,
+        found: &Found,
+        line: &str,
+        report: &mut Report,
+    ) -> Option<String> {
         let part = copy_part(line);
         match &one.demand {
             Demand::None => None,
             Demand::Noted(known) => {
-                self.noted += 1;
+                report.noted += 1;
                 let copy = found.out.as_deref().map(copy_note);
                 let same = copy.as_ref() == Some(known);
                 (!same).then(|| format!("known copy   {known}, not {copy:?}"))
             }
             Demand::Unchanged => {
-                self.unchanged += 1;
+                report.unchanged += 1;
                 let same = part == Some(part_of(&one.stream));
                 (!same).then(|| format!("a tidy copy is changed: {line}"))
             }
             Demand::OneCopy(group) => {
-                self.packings += 1;
+                report.packings += 1;
                 let first = self.of_group.entry(*group).or_insert_with(|| part.clone());
                 let same = part.is_some() && part == *first;
                 (!same).then(|| format!("another packing has another copy: {first:?}, {line}"))
             }
         }
-    }
-}
-
-struct Report {
-    differences: usize,
-    compared: usize,
-    /// By the word of the answer.
-    counts: BTreeMap<String, usize>,
-}
-
-impl Report {
-    /// What went wrong with the program itself, and lines after the last
-    /// stream, are differences.
-    fn of(asked: &Asked, streams: usize) -> Report {
-        let mut report = Report { differences: 0, compared: streams, counts: BTreeMap::new() };
-        asked.faults.iter().for_each(|fault| report.difference(fault));
-        for line in asked.lines.iter().skip(streams) {
-            report.difference(&format!("after the last stream: {line}"));
-        }
-        report
-    }
-
-    fn count(&mut self, found: &Found, good: &str) {
-        let word = match found.outcome {
-            Ok(_) => good.to_string(),
-            Err(number) => format!("refused with {number:2}"),
-        };
-        *self.counts.entry(word).or_default() += 1;
-    }
-
-    fn note(
-        &mut self,
-        number: usize,
-        what: &str,
-        stream: &[u8],
-        sizes: &[usize],
-        faults: &[String],
-    ) {
-        if faults.is_empty() {
-            return;
-        }
-        let bytes = stream.len();
-        let mut text = format!("{number}: {what}, {bytes} bytes, table and output {sizes:?}\n");
-        if bytes <= MOST_HEX {
-            let hex: String = stream.iter().map(|byte| format!("{byte:02X}")).collect();
-            text += &format!("  stream       {hex}\n");
-        }
-        self.difference(&(text + "  " + &faults.join("\n  ")));
-    }
-
-    fn difference(&mut self, what: &str) {
-        self.differences += 1;
-        if self.differences <= MOST_SHOWN {
-            println!("{what}");
-        }
-    }
-
-    fn last_lines(&self, what: &str) {
-        for (word, count) in &self.counts {
-            println!("{word}: {count}");
-        }
-        println!("{} {what} and compared, {} differences", self.compared, self.differences);
     }
 }

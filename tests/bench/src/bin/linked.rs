@@ -1,0 +1,88 @@
+//! `linked read|tidy|view`: takes streams from standard input as the proved
+//! comparing programs do and prints the same lines, but calls the C forms and
+//! has space for streams, tables and outputs of any size. `view` takes the
+//! words of each table too and prints what its rows show.
+
+use independent_reader::show::{byte_trace, littered, trace};
+use independent_reader::views::{rows_asked, Views};
+use std::io::{self, BufWriter, Read, Write};
+
+fn main() -> io::Result<()> {
+    let job = std::env::args().nth(1).unwrap_or_default();
+    let mut input = io::stdin().lock();
+    let mut output = BufWriter::new(io::stdout().lock());
+    while let Some(bytes) = size(&mut input) {
+        let line = match job.as_str() {
+            "read" => read(&mut input, bytes)?,
+            "tidy" => tidy(&mut input, bytes)?,
+            "view" => view(&mut input, bytes)?,
+            _ => return Err(io::Error::other("linked read|tidy|view")),
+        };
+        writeln!(output, "{line}")?;
+    }
+    output.flush()
+}
+
+/// Nothing where the input ends.
+fn size(input: &mut impl Read) -> Option<usize> {
+    let mut bytes = [0; 4];
+    input.read_exact(&mut bytes).ok()?;
+    Some(u32::from_le_bytes(bytes) as usize)
+}
+
+fn next_size(input: &mut impl Read) -> io::Result<usize> {
+    size(input).ok_or(io::Error::from(io::ErrorKind::UnexpectedEof))
+}
+
+fn taken(input: &mut impl Read, bytes: usize) -> io::Result<Vec<u8>> {
+    let mut taken = vec![0; bytes];
+    input.read_exact(&mut taken)?;
+    Ok(taken)
+}
+
+fn refused(answer: &bench::Answer) -> String {
+    format!("refused {} at {}", answer.number, answer.place)
+}
+
+fn read(input: &mut impl Read, bytes: usize) -> io::Result<String> {
+    let words = next_size(input)?;
+    let stream = taken(input, bytes)?;
+    let (mut table, _) = littered(words, 0);
+    let answer = bench::read(&stream, &mut table);
+    let said = match answer.number {
+        0 => format!("accepted {}", answer.value),
+        _ => refused(&answer),
+    };
+    Ok(format!("{said} {}", trace(&table)))
+}
+
+fn tidy(input: &mut impl Read, bytes: usize) -> io::Result<String> {
+    let (words, room) = (next_size(input)?, next_size(input)?);
+    let stream = taken(input, bytes)?;
+    let (mut table, mut out) = littered(words, room);
+    let answer = bench::tidy(&stream, &mut table, &mut out);
+    let said = match answer.number {
+        0 => format!("written {}", answer.value),
+        20 => format!("full {}", answer.value),
+        _ => refused(&answer),
+    };
+    Ok(format!("{said} {} {}", trace(&table), byte_trace(&out)))
+}
+
+fn view(input: &mut impl Read, bytes: usize) -> io::Result<String> {
+    let words = next_size(input)?;
+    let stream = taken(input, bytes)?;
+    let table: Vec<u32> = taken(input, 4 * words)?
+        .chunks_exact(4)
+        .map(|word| u32::from_le_bytes([word[0], word[1], word[2], word[3]]))
+        .collect();
+    let mut views = Views::default();
+    for row in rows_asked(words) {
+        let (reply, part) = bench::text_view(&stream, &table, row);
+        if reply != bench::row_question(&stream, &table, row) {
+            return Ok(format!("the row question and the text view differ at row {row}"));
+        }
+        views.note(reply, &stream[part]);
+    }
+    Ok(views.line())
+}

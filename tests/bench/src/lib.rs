@@ -1,0 +1,101 @@
+//! The proved jobs, called through their C forms.
+
+use std::ops::Range;
+
+extern "C" {
+    fn strelinga_read(
+        stream: *const u8,
+        bytes: usize,
+        table: *mut u32,
+        words: usize,
+        place: *mut u64,
+        rows: *mut u64,
+    ) -> u32;
+
+    fn strelinga_row_question(
+        stream: *const u8,
+        bytes: usize,
+        table: *const u32,
+        words: usize,
+        row: u64,
+    ) -> u32;
+
+    fn strelinga_text_view(
+        stream: *const u8,
+        bytes: usize,
+        table: *const u32,
+        words: usize,
+        row: u64,
+        from: *mut u64,
+        length: *mut u64,
+    ) -> u32;
+
+    fn strelinga_tidy(
+        stream: *const u8,
+        bytes: usize,
+        table: *mut u32,
+        words: usize,
+        out: *mut u8,
+        room: usize,
+        place: *mut u64,
+        length: *mut u64,
+    ) -> u32;
+}
+
+/// Number, place, and rows or length, as the C form hands them out.
+pub struct Answer {
+    pub number: u32,
+    pub place: u64,
+    pub value: u64,
+}
+
+// The jobs take any bytes and any words; pointers and counts below are those of live slices that do not overlap.
+
+pub fn read(stream: &[u8], table: &mut [u32]) -> Answer {
+    let (mut place, mut value) = (0, 0);
+    let (start, words) = (table.as_mut_ptr(), table.len());
+    let number = unsafe {
+        strelinga_read(stream.as_ptr(), stream.len(), start, words, &mut place, &mut value)
+    };
+    Answer { number, place, value }
+}
+
+pub fn tidy(stream: &[u8], table: &mut [u32], out: &mut [u8]) -> Answer {
+    let (mut place, mut value) = (0, 0);
+    let number = unsafe {
+        strelinga_tidy(
+            stream.as_ptr(),
+            stream.len(),
+            table.as_mut_ptr(),
+            table.len(),
+            out.as_mut_ptr(),
+            out.len(),
+            &mut place,
+            &mut value,
+        )
+    };
+    Answer { number, place, value }
+}
+
+pub fn row_question(stream: &[u8], table: &[u32], row: u64) -> u32 {
+    unsafe {
+        strelinga_row_question(stream.as_ptr(), stream.len(), table.as_ptr(), table.len(), row)
+    }
+}
+
+/// The reply, and where the text lies in the stream.
+pub fn text_view(stream: &[u8], table: &[u32], row: u64) -> (u32, Range<usize>) {
+    let (mut from, mut length) = (0, 0);
+    let number = unsafe {
+        strelinga_text_view(
+            stream.as_ptr(),
+            stream.len(),
+            table.as_ptr(),
+            table.len(),
+            row,
+            &mut from,
+            &mut length,
+        )
+    };
+    (number, from as usize..(from + length) as usize)
+}

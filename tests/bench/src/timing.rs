@@ -1,0 +1,107 @@
+//! Times both readers and both tidiers on one list, and holds what they leave
+//! against each other.
+
+use independent_reader::reader::{read_records, ROW_WORDS};
+use independent_reader::tidy::copy_of;
+
+pub const MOST_TURNS: usize = 7;
+
+/// No further turn is begun after so many seconds.
+pub const TIME_FOR_TURNS: f64 = 2.0;
+
+#[derive(Clone, Copy)]
+pub struct Times {
+    pub proved: f64,
+    pub independent: f64,
+}
+
+/// A list with a table and an output that just fit, written before, so that
+/// no turn pays for fresh memory.
+pub struct Subject {
+    pub stream: Vec<u8>,
+    pub rows: usize,
+    table: Vec<u32>,
+    out: Vec<u8>,
+}
+
+impl Subject {
+    pub fn of(stream: Vec<u8>) -> Subject {
+        let reading = read_records(&stream, usize::MAX).expect("the list is good");
+        let rows = reading.records.len();
+        let length = copy_of(&reading).len();
+        Subject { table: vec![1; rows * ROW_WORDS], out: vec![1; length], rows, stream }
+    }
+
+    pub fn read(&mut self) -> Times {
+        let Subject { stream, table, rows, .. } = self;
+        let proved = best(|| {
+            let answer = bench::read(stream, table);
+            assert_eq!((answer.number, answer.value), (0, *rows as u64), "at {}", answer.place);
+        });
+        let left = table.clone();
+        table.fill(1);
+        let independent =
+            best(|| assert_eq!(independent_reader::read(stream, table), Ok(*rows), "read"));
+        assert!(left == *table, "the readers leave different tables");
+        Times { proved, independent }
+    }
+
+    pub fn tidied(&mut self) -> Times {
+        let Subject { stream, table, out, .. } = self;
+        let length = out.len();
+        let proved = best(|| {
+            let answer = bench::tidy(stream, table, out);
+            assert_eq!((answer.number, answer.value), (0, length as u64), "at {}", answer.place);
+        });
+        let left = (table.clone(), out.clone());
+        table.fill(1);
+        out.fill(1);
+        let independent =
+            best(|| assert_eq!(independent_reader::tidy(stream, table, out), Ok(length), "tidy"));
+        assert!(left.0 == *table && left.1 == *out, "the tidiers leave different memory");
+        Times { proved, independent }
+    }
+}
+
+fn best(mut turn: impl FnMut()) -> f64 {
+    let (mut best, mut all) = (f64::MAX, 0.0);
+    for _ in 0..MOST_TURNS {
+        if all > TIME_FOR_TURNS {
+            break;
+        }
+        let start = processor_seconds();
+        turn();
+        let taken = processor_seconds() - start;
+        best = best.min(taken);
+        all += taken;
+    }
+    best
+}
+
+#[repr(C)]
+struct Timespec {
+    seconds: i64,
+    nanoseconds: i64,
+}
+
+extern "C" {
+    fn clock_gettime(clock: i32, time: *mut Timespec) -> i32;
+}
+
+/// Linux's number of the clock that runs while this process does.
+const PROCESS_CLOCK: i32 = 2;
+
+fn processor_seconds() -> f64 {
+    let mut time = Timespec { seconds: 0, nanoseconds: 0 };
+    let failed = unsafe { clock_gettime(PROCESS_CLOCK, &mut time) };
+    assert_eq!(failed, 0, "no clock of processor time");
+    time.seconds as f64 + time.nanoseconds as f64 / 1e9
+}
+
+pub fn shown(seconds: f64) -> String {
+    match seconds {
+        1.0.. => format!("{seconds:.2} s"),
+        1e-3.. => format!("{:.2} ms", seconds * 1e3),
+        _ => format!("{:.1} µs", seconds * 1e6),
+    }
+}

@@ -1,0 +1,120 @@
+//! Counts what a comparison came to, and shows what differs.
+
+use crate::reader::{Reply, ROW_WORDS};
+
+/// Replies by number, 0 for a stream that was read or a copy that was written.
+pub const REPLIES: [&str; 21] = [
+    "accepted, written",
+    "TOO LARGE",
+    "CUT SHORT",
+    "UNKNOWN KIND",
+    "NOT TAKEN",
+    "WRONG PLACE",
+    "BAD VERSION",
+    "BAD LENGTH",
+    "BAD TEXT",
+    "BAD COUNT",
+    "BAD TYPE",
+    "BAD VALUE",
+    "BAD ID",
+    "NO LIBRARY",
+    "NO CLASS",
+    "TOO DEEP",
+    "NO ROOM",
+    "TRAILING",
+    "NO ROOT",
+    "NO OBJECT",
+    "OUT FULL",
+];
+
+/// More differences than these say nothing new.
+const MOST_SHOWN: usize = 20;
+
+/// How often each reply came.
+#[derive(Default)]
+pub struct Replies([usize; REPLIES.len()]);
+
+impl Replies {
+    pub fn count(&mut self, outcome: &Result<usize, u32>) {
+        let number = outcome.as_ref().err().map_or(0, |number| *number as usize);
+        self.0[number] += 1;
+    }
+
+    pub fn all(&self) -> usize {
+        self.0.iter().sum()
+    }
+}
+
+/// How often a table or an output had a size at which a job could go wrong.
+#[derive(Default)]
+pub struct Sizes {
+    pub no_word: usize,
+    pub under_a_row: usize,
+    pub broken_row: usize,
+    pub no_room: usize,
+    pub empty_output: usize,
+    pub output_full: usize,
+}
+
+impl Sizes {
+    pub fn count_table(&mut self, words: usize, outcome: &Result<usize, u32>) {
+        self.no_word += usize::from(words == 0);
+        self.under_a_row += usize::from((1..ROW_WORDS).contains(&words));
+        self.broken_row += usize::from(words > ROW_WORDS && words % ROW_WORDS != 0);
+        self.no_room += usize::from(*outcome == Err(Reply::NoRoom as u32));
+    }
+
+    pub fn count_output(&mut self, room: usize, outcome: &Result<usize, u32>) {
+        self.empty_output += usize::from(room == 0);
+        self.output_full += usize::from(*outcome == Err(Reply::OutFull as u32));
+    }
+}
+
+#[derive(Default)]
+pub struct Report {
+    pub read: Replies,
+    pub tidied: Replies,
+    pub sizes: Sizes,
+    /// Tables, and rows in them, whose texts were asked for.
+    pub tables: usize,
+    pub rows: usize,
+    pub texts: usize,
+    pub noted: usize,
+    pub unchanged: usize,
+    pub packings: usize,
+    pub packed: usize,
+    pub differences: usize,
+}
+
+impl Report {
+    pub fn difference(&mut self, what: &str) {
+        self.differences += 1;
+        if self.differences <= MOST_SHOWN {
+            println!("{what}");
+        }
+    }
+
+    pub fn print(&self) {
+        println!("{:>2}  {:<18}{:>10}{:>10}", "", "reply", "read", "tidied");
+        for (number, name) in REPLIES.iter().enumerate() {
+            let (read, tidied) = (self.read.0[number], self.tidied.0[number]);
+            println!("{number:>2}  {name:<18}{read:>10}{tidied:>10}");
+        }
+        println!("{:>2}  {:<18}{:>10}{:>10}", "", "all", self.read.all(), self.tidied.all());
+        self.print_sizes();
+        println!("known copies: {}", self.noted);
+        println!("tidy copies tidied again: {}", self.unchanged);
+        println!("packings: {} of {} lists", self.packings, self.packed);
+        println!("texts: {} of {} rows in {} tables", self.texts, self.rows, self.tables);
+        println!("differences: {}", self.differences);
+    }
+
+    fn print_sizes(&self) {
+        let Sizes { no_word, under_a_row, broken_row, no_room, .. } = self.sizes;
+        println!(
+            "tables: {no_word} without a word, {under_a_row} of 1 to 7 words, {broken_row} with a broken last row, {no_room} too small"
+        );
+        let Sizes { empty_output, output_full, .. } = self.sizes;
+        println!("outputs: {empty_output} empty, {output_full} too small");
+    }
+}
