@@ -38,7 +38,7 @@ fn number_all(table: &mut [u32], n: usize)
 
 // ---- a library's first row with its name, and where a class's type bytes stand
 
-// A library's row gets its first row, plus 1, as count; a class's row the place of its type bytes as slot.
+// A library's row gets the first row with its name, plus 1, as count; a class's row the place of its type bytes as slot.
 fn place_one(s: &[u8], table: &mut [u32], n: usize, i: usize)
     requires { ⌜ (n ≤ roomOf (now table)) × (n < 4294967296) ⌝ }
     ensures { λ _. ⌜ rowsOf n (now (table .exit)) ≡ placeOne (now (s .entry)) i (rowsOf n (now (table .entry))) ⌝ }
@@ -95,7 +95,7 @@ fn first_all(s: &[u8], table: &mut [u32], n: usize)
 
 // ---- libraries are numbered by first need
 
-// What all rows need, in order, from 1 on.
+// All rows, in order; libraries are numbered from 1 on.
 fn need_all(s: &[u8], table: &mut [u32], n: usize)
     requires { ⌜ n ≤ roomOf (now table) ⌝ }
     ensures { λ _. ⌜ rowsOf n (now (table .exit)) ≡ needed (now (s .entry)) (rowsOf n (now (table .entry))) ⌝ }
@@ -110,7 +110,8 @@ fn need_all(s: &[u8], table: &mut [u32], n: usize)
 
 // ---- all marks
 
-// Each pass needs the marks of those before it: equal classes have equal libraries, and only a class's first row needs libraries.
+// Libraries are placed before classes are compared, which looks at their first rows, and classes before needs, since only a class's first row
+// needs libraries.
 pub fn mark_all(s: &[u8], table: &mut [u32], n: usize)
     requires { ⌜ (n ≤ roomOf (now table)) × (n < 4294967296) ⌝ }
     ensures { λ _. ⌜ rowsOf n (now (table .exit)) ≡ marked (now (s .entry)) (rowsOf n (now (table .entry))) ⌝ }
