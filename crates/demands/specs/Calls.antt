@@ -24,8 +24,8 @@ use Rattle.format.specs.Says.{says, SayTheSame}
 use Rattle.format.specs.Tidy.{fits, tidyOf, tidyAnswer, tidyOutput, tidyTable}
 use Rattle.fields.specs.Judged.{told}
 use Rattle.num.specs.Le.{Bytes}
+use Rattle.laws.specs.Tests.{both-of}
 use Rattle.readings.specs.Accept.{accepts}
-use Rattle.meaning.specs.Tests.{both-of}
 use Rattle.demands.specs.Readings.{accepted-exactly, reading-unique, not-both}
 use Rattle.demands.specs.Copies.{tidy-accepted, tidy-again, same-exactly}
 use Rattle.demands.specs.Settled.{ReadPromise, TidyPromise}

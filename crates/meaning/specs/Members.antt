@@ -23,10 +23,10 @@ use Rattle.types.specs.Codes.{number-primitive}
 use Rattle.types.specs.Keeps.{code-told, type-told, name-told, name-moves}
 use Rattle.classes.specs.Moves.{names-there, info-known-moves}
 use Rattle.same.specs.Laws.{SameParts, same-eq}
+use Rattle.laws.specs.Tests.{both-of, both-true, pick-of, pick-true, true-same}
 use Rattle.marks.specs.Marks.{libraryAt, sameBetween, sameInfo, sameInfos}
 use Rattle.meaning.specs.Stands.{Stands}
 use Rattle.meaning.specs.Marked.{Placed, nameAtField}
-use Rattle.meaning.specs.Tests.{both-of, both-true, pick-of, pick-true, true-same}
 use Rattle.meaning.specs.Alike.{parts-first, parts-last, parts-join, between-of, true-between, string-shift, string-same, same-strings}
 use Rattle.meaning.specs.Names.{info-end, after-info, class-info, same-library}
 

@@ -27,10 +27,11 @@ use Rattle.classes.specs.Moves.{names-there, types-there, infos-moves}
 use Rattle.same.specs.Laws.{same-eq}
 use Rattle.table.specs.Find.{find-hit, library-at}
 use Rattle.strings.specs.Laws.{string-moves}
+use Rattle.laws.specs.Tests.{bool-ext, both-of, both-true, apart, pick-of, true-same}
+use Rattle.laws.specs.Firsts.{find-alike, find-some}
 use Rattle.marks.specs.Marks.{sameTail, sameName, firstLibrary, libraryAt, sameBetween, typesPlace, itemType, word, withId, withSlot, firstClass, isFirst}
 use Rattle.meaning.specs.Stands.{StringStands, OwnStands, of-system, of-library, ClassStands, ArrayStands, RowStands, the-header, by-id, a-class, a-string, an-array, a-primitive, a-reference, nulls, the-end, a-library, primitives, objects, texts, a-value, Stands}
 use Rattle.meaning.specs.Marked.{Placed, Firsts, infoFields, classFields, arrayFields, rowFields, fieldsFrom, All, none, both, nameAtField, libraryFirst}
-use Rattle.meaning.specs.Tests.{bool-ext, both-of, both-true, apart, pick-of, true-same, find-alike, find-some}
 use Rattle.meaning.specs.Alike.{same-strings}
 
 -- ---- what stands at a row, by its kind

@@ -15,6 +15,7 @@ use Rattle.format.specs.Rows.{blank, isObject, isClass, findFrom}
 use Rattle.format.specs.Says.{Class, What, anObject, aString, aPrimitive, aReference, aPrimitiveArray, anObjectArray, aStringArray, aValue, Node, node, textFrom, codeFrom, detailFrom, classFrom, arrayFrom, objectsIn, orderOf, whatFrom, spread, isNulls, isSilent, nodesOf, nodesFrom}
 use Rattle.format.specs.Tidy.{sameClass, numberIn, Progress, nothing, allEntered, detailNeeds, classNeeds, afterObject, counted, afterWhat, Standing, ownedBy, recordsOf, pack}
 use Rattle.table.specs.Find.{find-hit}
+use Rattle.laws.specs.Numbers.{afterNodes}
 use Rattle.marks.specs.Marks.{itemType}
 use Rattle.meaning.specs.Stands.{RowStands, the-header, by-id, a-class, a-string, an-array, a-primitive, a-reference, nulls, the-end, a-library, primitives, objects, texts, a-value, Stands}
 use Rattle.meaning.specs.Marked.{classFirst}
@@ -84,10 +85,6 @@ module _ (s : List ℕ) (rows : List Row) (r : Row) where
   what-as k e = ap whatAs e
 
 -- ---- what was written once these nodes were
-
-unfoldable pub afterNodes : Progress → List Node → Progress
-afterNodes w [] = w
-afterNodes w (n ∷ ns) = afterNodes (afterWhat w (n .what)) ns
 
 pub after-append : (w : Progress) (a b : List Node) → afterNodes w (a ++ b) ≡ afterNodes (afterNodes w a) b
 unfolding afterNodes

@@ -19,11 +19,11 @@ use Rattle.num.specs.Read.{u32-says}
 use Rattle.fields.specs.Judged.{picked}
 use Rattle.fields.specs.Sequence.{through}
 use Rattle.types.specs.Keeps.{type-told, name-moves}
+use Rattle.laws.specs.Tests.{pick-of}
 use Rattle.classes.specs.Moves.{info-known-moves}
 use Rattle.marks.specs.Marks.{rowAt, libraryAt, itemType, isFirst}
 use Rattle.meaning.specs.Stands.{OwnStands, of-system, of-library, ClassStands, ArrayStands, Stands}
 use Rattle.meaning.specs.Marked.{Placed, Firsts, infoFields, classFields, arrayFields, rowFields, fieldsFrom, All}
-use Rattle.meaning.specs.Tests.{pick-of}
 use Rattle.meaning.specs.Names.{class-at, library-row, array-at, NamesLibrary, own-names, after-info, class-places, library-first, firsts-word, firsts-library, fields-name}
 use Rattle.meaning.specs.Bytes.{class-info}
 use Rattle.meaning.specs.RecordBytes.{library-is}

@@ -15,9 +15,10 @@ use Rattle.format.specs.Says.{textFrom}
 use Rattle.format.specs.Tidy.{numberIn, Libraries, entered, allEntered}
 use Rattle.same.specs.Laws.{same-eq, same-refl}
 use Rattle.table.specs.Find.{find-hit}
+use Rattle.laws.specs.Numbers.{Counted, counted-more, number-new, number-other, entered-new, entered-old, entered-has, all-more}
 use Rattle.marks.specs.Marks.{Pass, pass, word, rowAt, withSlot, libraryAt, need, needed}
 use Rattle.meaning.specs.Marked.{nameAtField, namesOf, libraryFirst, fieldsFrom, All, none, both}
-use Rattle.meaning.specs.Entered.{Counted, counted-more, number-new, number-other, entered-new, entered-old, entered-has, librariesFor, all-more}
+use Rattle.meaning.specs.Entered.{librariesFor}
 use Rattle.meaning.specs.Needs.{Like, Aimed, like-self, like-at, entering, need-is, need-like, needAll, all-needs, all-keeps, all-left, all-right, all-first, needed-fields, needed-like}
 
 -- ---- premises

@@ -16,11 +16,11 @@ use Rattle.format.specs.Contents.{Rec, array, end, library}
 use Rattle.format.specs.Grammar.{Entry, Array, of-objects, of-strings, of-primitives, of-any, of-values, idOf, refOf, idsOf, refsOf, among}
 use Rattle.format.specs.Says.{Class, What, anObject, aString, anArray, aPrimitive, aReference, aNull, aPrimitiveArray, anObjectArray, aStringArray, aValue, Node}
 use Rattle.format.specs.Tidy.{sameClass, numberIn, Progress, nothing, Libraries, libraryRecords, entered, allEntered, detailNeeds, classNeeds, detailBy, classBy, objectBy, afterObject, recordsOf, afterWhat}
-use Rattle.saying.specs.Good.{Place, countOf, openAfter, Fits, the-end, a-node}
+use Rattle.laws.specs.Tests.{apart}
+use Rattle.laws.specs.Numbers.{entered-new, entered-old, afterNodes}
+use Rattle.saying.specs.Good.{Place, openAfter, Fits, the-end, a-node}
 use Rattle.saying.specs.There.{kindOf}
-use Rattle.saying.specs.Tests.{apart}
-use Rattle.saying.specs.Numbers.{entered-new, entered-old, afterNodes}
-use Rattle.saying.specs.Shown.{Shown, shown, allShown, packed, Wait, wait, noWait, runShown, oneMore, squeezed, Sort, a-null, plain, sort-of, squeezed-null, squeezed-records, recsOf}
+use Rattle.saying.specs.Shown.{Shown, allShown, packed, Wait, noWait, runShown, oneMore, squeezed, Sort, a-null, plain, sort-of, squeezed-null, squeezed-records, recsOf}
 use Rattle.saying.specs.Legal.{Takes, class-by-id, system-class, library-class, a-string, an-array, a-primitive, a-reference, some-nulls, many-nulls, a-library, a-value, Legal, all-shown, a-record}
 use Rattle.saying.specs.Legal as L
 use Rattle.saying.specs.Limits.{what-count}

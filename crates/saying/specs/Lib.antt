@@ -6,7 +6,6 @@ pub mod There
 pub mod Ids
 pub mod Known
 pub mod SaidGood
-pub mod Tests
 pub mod Numbers
 pub mod Shown
 pub mod Round
