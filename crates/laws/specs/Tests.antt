@@ -1,7 +1,7 @@
 -- Answers of tests, and that the tests by which the tidy copy finds a name or a class that was written before are tests for equality.
 use Prim.Native.Nat.{ℕ}
 use mathlib.Core.Path.{_≡_, refl, sym, ap, _∙_}
-use mathlib.Core.Bool.{Bool, true, false, _&&_}
+use mathlib.Core.Bool.{Bool, true, false, _&&_, _||_}
 use mathlib.Core.List.{List, [], _∷_}
 use native.Mathlib.Omega.{arith}
 use lib.ListN.{getD}
@@ -34,6 +34,21 @@ both-true p q e f = rw (e, f)
 
 pub apart : {A : Type 0} → false ≡ true → A
 apart e = absurd (let z : _≡_ {A = ℕ} 0 1 = cc in omega arith)
+
+pub differ : {X : Type 0} → true ≡ false → X
+differ e = apart (sym e)
+
+pub either : {X : Type 0} (t : Bool) → (t ≡ true → X) → (t ≡ false → X) → X
+either true f g = f refl
+either false f g = g refl
+
+pub neither : (p q : Bool) → (p || q) ≡ false → (p ≡ false) × (q ≡ false)
+neither true q e = differ e
+neither false q e = (refl, e)
+
+pub or-right : (p q : Bool) → q ≡ true → (p || q) ≡ true
+or-right true q e = refl
+or-right false q e = e
 
 -- a pick that is true and whose second choice is not
 pub pick-of : (p q : Bool) → pick p q false ≡ true → (p ≡ true) × (q ≡ true)

@@ -29,6 +29,7 @@ use Rattle.num.specs.Read.{u32-says}
 use Rattle.strings.specs.Laws.{string-told, string-moves, string-converse}
 use Rattle.types.specs.Codes.{number-primitive}
 use Rattle.types.specs.Keeps.{code-told, type-told, name-told, name-moves, library-told}
+use Rattle.laws.specs.Fields.{by-type}
 use Rattle.classes.specs.Moves.{known-moves}
 use Rattle.put.specs.Out.{between, textOut}
 use Rattle.writing.specs.Copy.{libraryNumber, infoOut, infosOut}
@@ -147,15 +148,7 @@ module _ (s : List ℕ) (rows : List Row) where
 
   pub type-is : (type p : ℕ) → type ≤ 7 → typeByte (detailFrom s rows type p) ≡ type
   unfolding detailFrom
-  type-is zero p h = refl
-  type-is (suc zero) p h = refl
-  type-is (suc (suc zero)) p h = refl
-  type-is (suc (suc (suc zero))) p h = refl
-  type-is (suc (suc (suc (suc zero)))) p h = refl
-  type-is (suc (suc (suc (suc (suc zero))))) p h = refl
-  type-is (suc (suc (suc (suc (suc (suc zero)))))) p h = refl
-  type-is (suc (suc (suc (suc (suc (suc (suc zero))))))) p h = refl
-  type-is (suc (suc (suc (suc (suc (suc (suc (suc type)))))))) p h = absurd (omega arith)
+  type-is type p h = by-type (λ t. typeByte (detailFrom s rows t p) ≡ t) refl refl refl refl refl refl refl refl type h
 
   pub class-detail : (p e : ℕ) → ClassInfo s p e → detailFrom s rows 4 p ≡ class (textFrom s p) (nameAtField s rows (e - 4))
   unfolding detailFrom nameAtField

@@ -3,7 +3,6 @@ pub mod Order
 pub mod Said
 pub mod Good
 pub mod There
-pub mod Ids
 pub mod Known
 pub mod SaidGood
 pub mod Numbers
