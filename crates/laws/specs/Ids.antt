@@ -13,6 +13,7 @@ use Rattle.format.specs.Bytes.{pick}
 use Rattle.format.specs.Rows.{isObject, findFrom, objectRow}
 use Rattle.format.specs.Contents.{Rec}
 use Rattle.format.specs.Grammar.{Entry, Cur, cur, rowOf, Object, system-class, library-class, class-by-id, Body, hollow, filled, Slots, full, member-value, an-object, a-string, a-typed-primitive, a-reference, a-null, a-run, a-long-run, a-library, Array, of-objects, of-strings, of-primitives, of-any, of-values, Objects, the-end, one-object, one-string, one-array, one-library, idOf, refOf, idsOf, refsOf, among}
+use Rattle.laws.specs.Tests.{or-right}
 
 -- ---- numbers and references
 
@@ -79,6 +80,10 @@ objects-shown (one-array {kind = kind} a b q d f) =
 objects-shown (one-library a b n q d) = shown-more _ _ 12 _ _ _ _ _ _ q refl refl (objects-shown d)
 
 -- ---- lookups among the rows against the ids of the records
+
+pub among-right : (i : ℕ) (a b : List ℕ) → among i b ≡ true → among i (a ++ b) ≡ true
+among-right i [] b e = e
+among-right i (j ∷ a) b e = or-right (eqb i j) (among i (a ++ b)) (among-right i a b e)
 
 -- the rows may be counted from any number
 among-from : (id k : ℕ) (rows : List Row) → among id (rowIds rows) ≡ not (eqb (findFrom (λ (r : Row). isObject (r .kind) && eqb (r .id) id) k rows) 0)

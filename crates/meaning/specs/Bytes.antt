@@ -35,6 +35,7 @@ use Rattle.put.specs.Out.{between, textOut}
 use Rattle.writing.specs.Copy.{libraryNumber, infoOut, infosOut}
 use Rattle.meaning.specs.Stands.{StringStands}
 use Rattle.meaning.specs.Marked.{All, none, both, infoFields, nameAtField, namesOf}
+use Rattle.meaning.specs.Entered.{names-append}
 
 -- ---- texts, numbers and codes
 
@@ -238,11 +239,6 @@ all-first P x xs (both p a) = p
 -- the one field of a detail of type 4
 pub field-of : (P : ℕ → Type 0) (type p : ℕ) → All P (pick (eqb type 4) (p ∷ []) []) → type ≡ 4 → P p
 field-of P type p a e = all-first P p [] (rw e at a)
-
-pub names-append : (s : List ℕ) (rows : List Row) (xs ys : List ℕ) → namesOf s rows (xs ++ ys) ≡ namesOf s rows xs ++ namesOf s rows ys
-unfolding namesOf
-names-append s rows [] ys = refl
-names-append s rows (x ∷ xs) ys = ap (λ (l : List (List ℕ)). nameAtField s rows x ∷ l) (names-append s rows xs ys)
 
 -- wherever the members' names stand
 pub infos-need : (s : List ℕ) (rows : List Row) (n types names p e t : ℕ) → infosAt s rows n types p ≡ F.End e → times (typeByteAt s) n types ≡ F.End t

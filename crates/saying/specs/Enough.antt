@@ -19,6 +19,7 @@ use Rattle.format.specs.Tidy.{sameClass, numberIn, Progress, nothing, Libraries
 use Rattle.laws.specs.Tests.{apart}
 use Rattle.laws.specs.Numbers.{afterNodes}
 use Rattle.laws.specs.Runs.{libraries-length, Sort, a-null, plain, sort-of}
+use Rattle.laws.specs.Ids.{among-right}
 use Rattle.saying.specs.Good.{Place, openAfter, Fits, the-end, a-node}
 use Rattle.saying.specs.There.{kindOf}
 use Rattle.saying.specs.Shown.{Shown, allShown, packed, Wait, noWait, runShown, oneMore, squeezed, squeezed-null, squeezed-records, recsOf}
@@ -108,14 +109,6 @@ among-left i (j ∷ a) b e = go (eqb i j) (among-left i a b) e
     go : (t : Bool) → (among i a ≡ true → among i (a ++ b) ≡ true) → (t || among i a) ≡ true → (t || among i (a ++ b)) ≡ true
     go true again e = refl
     go false again e = again e
-
-among-right : (i : ℕ) (a b : List ℕ) → among i b ≡ true → among i (a ++ b) ≡ true
-among-right i [] b e = e
-among-right i (j ∷ a) b e = go (eqb i j) (among-right i a b e)
-  where
-    go : (t : Bool) → among i (a ++ b) ≡ true → (t || among i (a ++ b)) ≡ true
-    go true again = refl
-    go false again = again
 
 among-either : {X : Type 0} (i : ℕ) (a b : List ℕ) → among i (a ++ b) ≡ true → (among i a ≡ true → X) → (among i b ≡ true → X) → X
 among-either i [] b e f g = g e

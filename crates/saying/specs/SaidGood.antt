@@ -17,9 +17,8 @@ use Rattle.format.specs.Rows.{blank, isObject, findFrom, objectRow, withLink, l
 use Rattle.format.specs.Contents.{Detail, primitive, text, object, system, class, objects, texts, primitives, Member, slotFor, Rec, header, classById, systemClass, libraryClass, string, typedPrimitive, reference, null, nulls, manyNulls, end, library, value, enc, encs}
 use Rattle.format.specs.Grammar.{Name, Values, ClassInfo, LibraryId, typesOf, classed, classOf, product, Array, of-objects, of-strings, of-primitives, of-any, of-values, Object, system-class, library-class, class-by-id, Body, hollow, filled, Slots, full, member-value, an-object, a-string, a-typed-primitive, a-reference, a-null, a-run, a-long-run, a-library, Objects, the-end, one-object, one-string, one-array, one-library, Entry, aClass, another, aLibrary, known, Cur, cur, size, rowOf, somePrimitive, refOf, refsOf, idsOf, among, Reading}
 use Rattle.format.specs.Says.{theSystem, theLibrary, Class, What, anObject, aString, anArray, aPrimitive, aReference, aNull, aPrimitiveArray, anObjectArray, aStringArray, aValue, Node, node, libraryName, classFrom, objectsIn, orderOf, spread, isNulls, nodesOf, nodesFrom, says}
-use Rattle.laws.specs.Tests.{or-right}
 use Rattle.laws.specs.Fields.{size-header, positive-bits}
-use Rattle.laws.specs.Ids.{shown-more, objects-shown, id-there}
+use Rattle.laws.specs.Ids.{among-right, shown-more, objects-shown, id-there}
 use Rattle.saying.specs.Said.{named, classOfAll, saidBy}
 use Rattle.saying.specs.Good.{length-filled, GoodClass, slotsOf, Place, place, shut, ownerOf, slotOf, filledOne, openedIn, Deep, never-open, one-more, Allowed, in-null, countOf, itemSlots, openAfter, Fits, a-node, Good}
 use Rattle.saying.specs.Good as G
@@ -54,12 +53,6 @@ module _ (total count o : ℕ) (fs : List Place) (ns : List Node) where
       go false q e again =
           let f = again e (subst (λ (n : ℕ). Fits total count (shut (place o n (drop k ts) ∷ fs)) ns) a w) in
           a-node (in-null q) refl refl (subst (λ (n : ℕ). Fits total n (shut (place o (slot + 1) ts ∷ fs)) (spread k o (slot + 1) ++ ns)) b f)
-
--- ---- references
-
-among-right : (i : ℕ) (xs ys : List ℕ) → among i ys ≡ true → among i (xs ++ ys) ≡ true
-among-right i [] ys e = e
-among-right i (x ∷ xs) ys e = or-right (eqb i x) (among i (xs ++ ys)) (among-right i xs ys e)
 
 -- ---- along the rows
 
