@@ -1,4 +1,4 @@
--- What an answer of reading says of the outcome that it reports (01, Reading).
+-- What an answer of reading says of the outcome that it reports (01, Replies by number).
 use Prim.Native.Nat.{ℕ}
 use mathlib.Core.Path.{_≡_, refl}
 use mathlib.Core.List.{List}
