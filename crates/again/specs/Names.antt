@@ -15,12 +15,12 @@ use Rattle.format.specs.Contents.{Detail, primitive, text, object, system, clas
 use Rattle.format.specs.Grammar.{Entry, aClass, another, aLibrary, known, classed, classOf, GoodDetail, Members, no-more, member, of-objects, of-strings, of-primitives, of-any, of-values}
 use Rattle.format.specs.Says.{theSystem, theLibrary, From, Class, anArray, anObject, node, textFrom, libraryName, classFrom}
 use Rattle.format.specs.Tidy.{Progress}
+use Rattle.laws.specs.Tests.{apart}
 use Rattle.saying.specs.Said.{named, namedAll, classOfAll}
 use Rattle.saying.specs.Numbers.{nameIn, classIn}
 use Rattle.saying.specs.Order.{item-there}
 use Rattle.saying.specs.There.{kindOf, RowOf, GoodRec, system-class-from, library-class-from, library-said}
 use Rattle.saying.specs.Known.{unknown-both, ofLibrary, fresh-more, library-row, other-library}
-use Rattle.saying.specs.Tests.{apart}
 use Rattle.saying.specs.Shown.{saidAt}
 use Rattle.saying.specs.Counts.{madeKnown}
 use Rattle.saying.specs.Legal.{Takes, class-by-id, system-class, library-class, a-string, an-array, a-primitive, a-reference, a-null, some-nulls, many-nulls, a-library, a-value}

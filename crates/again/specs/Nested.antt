@@ -12,9 +12,9 @@ use Rattle.format.specs.Rows.{isObject}
 use Rattle.format.specs.Contents.{primitive, Rec, classById, systemClass, libraryClass, string, array, typedPrimitive, reference, null, nulls, manyNulls, end, library, value, enc}
 use Rattle.format.specs.Grammar.{Entry, another, Classed, ObjectId, takesObjects, Cur, cur, size, rowOf, Object, Body, hollow, filled, Slots, full, Array, of-objects, of-strings, of-primitives, of-any, of-values, Objects, the-end}
 use Rattle.format.specs.Grammar as G
-use Rattle.saying.specs.Good.{Place, place, shutBy, shut, ownerOf, slotOf, filledOne, openedIn, Deep, never-open, one-more}
+use Rattle.laws.specs.Tests.{apart}
+use Rattle.saying.specs.Good.{length-filled, Place, place, shutBy, shut, ownerOf, slotOf, filledOne, openedIn, Deep, never-open, one-more}
 use Rattle.saying.specs.There.{kindOf}
-use Rattle.saying.specs.Tests.{apart}
 use Rattle.saying.specs.Shown.{Shown, recsOf}
 use Rattle.saying.specs.Counts.{madeKnown}
 use Rattle.saying.specs.Legal.{Takes, class-by-id, system-class, library-class, a-string, an-array, a-primitive, a-reference, a-null, some-nulls, many-nulls, a-library, a-value, one, some, many, ofClass, Stands, top-object, top-library, in-object, in-string, in-primitive, in-reference, in-nulls, in-library, in-value, fills, filledBy, isApart, openBy, Legal, all-shown, a-record}
@@ -68,10 +68,6 @@ array-is (of-any {i = i} {type = type} {ns = ns} {d = d} a b c e f) =
     record { row-is = λ which at o m. ap (λ (l : ℕ). rowOf 7 at (array i type ns d []) i (which o) m 0 l) (sym b); object = refl; inside = refl; makes = λ row. refl }
 array-is (of-values {i = i} {type = type} {ns = ns} {b = c} {vs = vs} a b d) =
     record { row-is = λ which at o m. ap (λ (l : ℕ). rowOf 7 at (array i type ns (primitive c) vs) i (which o) m 0 l) (sym b); object = refl; inside = refl; makes = λ row. refl }
-
-length-filled : (fs : List Place) → length (filledOne fs) ≡ length fs
-length-filled [] = refl
-length-filled (f ∷ fs) = refl
 
 deep-top : (ts : List SlotType) → Deep ts []
 deep-top [] = never-open

@@ -13,9 +13,9 @@ use Rattle.format.specs.Rows.{isObject, findFrom, withLink, linkOf}
 use Rattle.format.specs.Contents.{Rec, header, classById, systemClass, libraryClass, string, array, typedPrimitive, reference, null, nulls, manyNulls, end, library, primitiveArray, objectArray, stringArray, value}
 use Rattle.format.specs.Grammar.{Entry, size, idOf}
 use Rattle.format.specs.Says.{orderOf}
+use Rattle.laws.specs.Tests.{apart}
 use Rattle.saying.specs.Good.{Place}
 use Rattle.saying.specs.There.{kindOf}
-use Rattle.saying.specs.Tests.{apart}
 use Rattle.saying.specs.Order.{items-after, order-more}
 use Rattle.saying.specs.Shown.{Shown}
 use Rattle.saying.specs.Counts.{madeKnown}

@@ -2,7 +2,7 @@
 -- number of the first object of a class to the class.
 use Prim.Native.Nat.{ℕ, zero, suc, _+_, _≤_, _<_}
 use mathlib.Core.Path.{_≡_, refl, sym, ap, subst, _∙_}
-use mathlib.Core.Bool.{Bool, true}
+use mathlib.Core.Bool.{Bool}
 use mathlib.Core.List.{List, [], _∷_, _++_, map}
 use native.Mathlib.Omega.{arith}
 use lib.ListN.{length, length-append}
@@ -11,36 +11,20 @@ use borrow.Author.Tests.{eq-eqb, ne-eqb}
 use Rattle.format.specs.declared.PrimitiveCode.{PrimitiveCode}
 use Rattle.format.specs.Bytes.{pick, sameBytes}
 use Rattle.format.specs.Prefix.{groupsOf, prefixBytes}
-use Rattle.format.specs.Contents.{Detail, Member, typeByte, Rec, header, classById, systemClass, libraryClass, string, array, typedPrimitive, reference, null, nulls, manyNulls, end, library, primitiveArray, objectArray, stringArray, value, enc, encs}
+use Rattle.format.specs.Contents.{Rec, header, classById, systemClass, libraryClass, string, array, typedPrimitive, reference, null, nulls, manyNulls, end, library, primitiveArray, objectArray, stringArray, value, enc, encs}
 use Rattle.format.specs.Grammar.{Value, number, boolean, scalar, exact, moment, size}
 use Rattle.format.specs.Says.{From, theSystem, theLibrary, Class, What, anObject, aString, anArray, aPrimitive, aReference, aNull, aPrimitiveArray, anObjectArray, aStringArray, aValue, Node}
-use Rattle.format.specs.Tidy.{detailName, detailLibrary, sameDetail, sameMembers, sameFrom, sameClass, numberIn, Progress, Libraries, libraryRecords, entered, allEntered, classNeeds, detailNeeds, classBy, objectBy, afterObject, recordsOf, afterWhat, runOf}
+use Rattle.format.specs.Tidy.{sameClass, numberIn, Progress, Libraries, libraryRecords, entered, allEntered, classNeeds, detailNeeds, classBy, objectBy, afterObject, recordsOf, afterWhat, runOf}
 use Rattle.fields.specs.Judged.{picked}
 use Rattle.same.specs.Laws.{same-eq, same-refl}
+use Rattle.laws.specs.Tests.{class-refl}
+use Rattle.laws.specs.Numbers.{number-new, entered-new, all-more, afterNodes}
+use Rattle.laws.specs.Runs.{Sort, a-null, plain, sort-of}
 use Rattle.saying.specs.Said.{classOfAll, saidBy}
 use Rattle.saying.specs.Good.{Place, Allowed, in-value, countOf, openAfter, Fits, a-node}
-use Rattle.saying.specs.Numbers.{Listed, number-new, number-back, entered-new, entered-listed, all-more, all-have, each-so, afterNodes, Numbered, numbered-what, Later, later-nodes, nameIn, classIn, name-back, class-back}
-use Rattle.saying.specs.Shown.{Shown, shown, allShown, packed, Wait, noWait, runShown, oneMore, squeezed, recsOf, Sort, a-null, plain, sort-of, squeezed-null, squeezed-records}
+use Rattle.saying.specs.Numbers.{within-counted, Listed, listed-counted, number-back, entered-listed, all-have, each-so, Numbered, numbered-what, Later, later-nodes, nameIn, classIn, name-back, class-back}
+use Rattle.saying.specs.Shown.{Shown, shown, allShown, packed, Wait, noWait, runShown, oneMore, squeezed, recsOf, squeezed-null, squeezed-records}
 use Rattle.saying.specs.Round.{class-said}
-
--- ---- a class is the same as itself
-
-detail-refl : (d : Detail (List ℕ)) → sameDetail d d ≡ true
-unfolding sameDetail
-detail-refl d = rw (eq-eqb (typeByte d) (typeByte d) refl, same-refl (detailName d), same-refl (detailLibrary d))
-
-members-refl : (ms : List (Member (List ℕ))) → sameMembers ms ms ≡ true
-unfolding sameMembers
-members-refl [] = refl
-members-refl (m ∷ ms) = rw (same-refl (m .name), detail-refl (m .type), members-refl ms)
-
-from-refl : (x : From) → sameFrom x x ≡ true
-from-refl theSystem = refl
-from-refl (theLibrary n) = same-refl n
-
-class-refl : (c : Class) → sameClass c c ≡ true
-unfolding sameClass
-class-refl c = rw (same-refl (c .name), from-refl (c .from), members-refl (c .members))
 
 -- ---- of every record
 
@@ -144,7 +128,7 @@ module _ (v : Progress) (good : Numbered v) where
       go : (m : ℕ) → numberIn (sameBytes x) ls ≡ m → All (Kept v) (pick (eqb (numberIn (sameBytes x) ls) 0) (library (suc (length ls)) x ∷ []) [])
       go zero e =
           let a : numberIn (sameBytes x) (entered x ls) ≡ suc (length ls) =
-          ap (numberIn (sameBytes x)) (entered-new x ls e) ∙ number-new (sameBytes x) 0 (length ls) (suc (length ls)) x ls w (same-refl x) e in
+          ap (numberIn (sameBytes x)) (entered-new x ls e) ∙ number-new (sameBytes x) ls (length ls) x (listed-counted ls w) (same-refl x) e in
           let b = stay (sameBytes x) (length ls) (all-more names (entered x ls) (sameBytes x) (length ls) a) in
           let c : nameIn v (suc (length ls)) ≡ x =
           number-back (sameBytes x) [] x 0 (length (v .libraries)) (length ls) (v .libraries) (good .libraries-rise) (λ y z. sym (same-eq x y z)) b in
@@ -168,7 +152,7 @@ module _ (v : Progress) (good : Numbered v) where
       let ls : Libraries = allEntered (classNeeds c) (p .libraries) in
       let back = each-so (classNeeds c) (name-back v good (afterObject zero p c) l) (all-have (classNeeds c) (p .libraries) (h .libraries-rise)) in
       let a = class-said (nameIn v) ls (classIn v) (λ (k : ℕ). k) (suc (p .count)) c back in
-      let b = class-back v good (afterObject zero p c) l c (p .count) (number-new (sameClass c) 0 (p .count) (suc (p .count)) c (p .classes) (h .classes-rise) (class-refl c) e) in
+      let b = class-back v good (afterObject zero p c) l c (p .count) (number-new (sameClass c) (p .classes) (p .count) c (within-counted 0 (p .count) (p .classes) (h .classes-rise)) (class-refl c) e) in
       all-append (Kept v) (libraryRecords (classNeeds c) (p .libraries)) (classBy ls (suc (p .count)) c (c .from) ∷ [])
       (kept-libraries (classNeeds c) (p .libraries) (h .libraries-rise) (l .libraries-stay)) (kept-class ls (suc (p .count)) c (c .from) a b, tt)
   kept-object (suc k) p c e h l = let d : 0 < size (classById (suc (p .count)) (suc k)) = omega arith in ((tt, d), tt)

@@ -11,8 +11,9 @@ use Rattle.format.specs.Grammar.{rowOf, Reading}
 use Rattle.format.specs.Says.{Model}
 use Rattle.format.specs.Tidy.{Progress, nothing, tidyRecords, tidyOf}
 use Rattle.table.specs.Links.{length-linked}
+use Rattle.laws.specs.Numbers.{afterNodes}
 use Rattle.saying.specs.Good.{Good}
-use Rattle.saying.specs.Numbers.{afterNodes, Numbered, numbered-none, numbered-nodes}
+use Rattle.saying.specs.Numbers.{Numbered, numbered-none, numbered-nodes}
 use Rattle.saying.specs.Shown.{Shown, packed, noWait, squeezed, recsOf, recs-squeezed}
 use Rattle.saying.specs.Legal.{Legal}
 use Rattle.saying.specs.Enough.{enough, count-total, legal-few, legal-ids, legal-refs}

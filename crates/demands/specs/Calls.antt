@@ -24,8 +24,9 @@ use Rattle.format.specs.Says.{says, SayTheSame}
 use Rattle.format.specs.Tidy.{fits, tidyOf, tidyAnswer, tidyOutput, tidyTable}
 use Rattle.fields.specs.Judged.{told}
 use Rattle.num.specs.Le.{Bytes}
+use Rattle.laws.specs.Tests.{both-of}
+use Rattle.laws.specs.Answers.{accepted-of, refused-of}
 use Rattle.readings.specs.Accept.{accepts}
-use Rattle.meaning.specs.Tests.{both-of}
 use Rattle.demands.specs.Readings.{accepted-exactly, reading-unique, not-both}
 use Rattle.demands.specs.Copies.{tidy-accepted, tidy-again, same-exactly}
 use Rattle.format.specs.Promises.{ReadPromise, TidyPromise}
@@ -43,11 +44,6 @@ pub record HasRows (s t : List ℕ) (n : ℕ) (u : List ℕ) : Type 0 where
   pub count : length rows ≡ n
   pub fit : n ≤ roomOf t
   pub table-is : u ≡ tabled (length t) rows
-
-accepted-of : (o : Outcome) (n : ℕ) → A.Accepted n ≡ readAnswer o → (rows : List Row) × (o ≡ accepted rows) × (length rows ≡ n)
-unfolding readAnswer
-accepted-of (accepted rows) n e = (rows, refl, cc)
-accepted-of (refused r p) n e = absurd (let z : _≡_ {A = ℕ} 0 1 = cc in omega arith)
 
 pub read-accepts : (s t : List ℕ) → Bytes s → (n : ℕ) (u : List ℕ) → ReadPromise s t (A.Accepted n) u → HasRows s t n u
 unfolding tableWords
@@ -69,11 +65,6 @@ unfolding readAnswer tableWords
 read-accepted s t rows w l a u p =
     let e = accepts w (roomOf t) l in
     (p .0 ∙ ap readAnswer e, p .1 ∙ ap (tableWords (length t)) e)
-
-refused-of : (o : Outcome) (r : Refusal) (p : ℕ) → A.Refused r p ≡ readAnswer o → o ≡ refused r p
-unfolding readAnswer
-refused-of (accepted rows) r p e = absurd (let z : _≡_ {A = ℕ} 0 1 = cc in omega arith)
-refused-of (refused x y) r p e = cc
 
 -- after a refusal the table is all zeros, and no reading fits it
 pub read-refuses : (s t : List ℕ) (r : Refusal) (place : ℕ) (u : List ℕ) → ReadPromise s t (A.Refused r place) u

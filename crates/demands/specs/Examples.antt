@@ -21,8 +21,8 @@ use Rattle.format.specs.Machine.{close, filled, opened, add, object, nullRun, e
 use Rattle.format.specs.Says.{objectsIn, orderOf, whatFrom, spread, nodesOf, nodesFrom, Model, says, SayTheSame}
 use Rattle.format.specs.Examples.{hexOnto, failing, None}
 use Rattle.num.specs.Le.{Bytes}
-use Rattle.meaning.specs.Tests.{both-of}
 use Rattle.format.specs.CounterExamples.{case2, sevens, runList, stringRows, case7, table, counter-examples as starred}
+use Rattle.laws.specs.Tests.{both-of}
 use Rattle.demands.specs.Readings.{accepted-exactly, no-reading}
 
 -- the starred counter examples, computed where the definitions stand

@@ -15,26 +15,15 @@ use Rattle.format.specs.Contents.{Rec, null, library}
 use Rattle.format.specs.Says.{Class, What, anObject, aString, anArray, aPrimitive, aReference, aNull, aPrimitiveArray, anObjectArray, aStringArray, aValue, Node, node, spread, isNulls, isSilent, textFrom, orderOf, whatFrom, nodesOf, nodesFrom, says}
 use Rattle.format.specs.Tidy.{sameClass, numberIn, Progress, nothing, Libraries, entered, allEntered, libraryRecords, classNeeds, detailNeeds, objectBy, afterObject, recordsOf, afterWhat, runOf}
 use Rattle.fields.specs.Judged.{picked}
-use Rattle.saying.specs.Shown.{Shown, shown, allShown, packed, Wait, wait, noWait, runShown, oneMore, squeezed, Sort, a-null, plain, sort-of, squeezed-null, squeezed-records}
+use Rattle.laws.specs.Tests.{either}
+use Rattle.laws.specs.Runs.{libraries-length, Sort, a-null, plain, sort-of}
+use Rattle.saying.specs.Enough.{length-shown}
+use Rattle.saying.specs.Shown.{Shown, shown, allShown, packed, Wait, wait, noWait, runShown, oneMore, squeezed, squeezed-null, squeezed-records}
 use Rattle.meaning.specs.Stands.{Stands}
-use Rattle.meaning.specs.Orders.{either, afterRow, afterRows, after-silent, after-run, after-said, nodes-silent, nodes-nulls, nodes-one}
+use Rattle.meaning.specs.Orders.{afterRow, afterRows, after-silent, after-run, after-said, nodes-silent, nodes-nulls, nodes-one}
 use Rattle.fewer.specs.Libraries.{has, isEntered, rowsEntered, libraries-few}
 
 -- ---- the records of one node
-
-libraries-length : (ns : List (List ℕ)) (ls : Libraries) → length (libraryRecords ns ls) + length ls ≡ length (allEntered ns ls)
-unfolding libraryRecords allEntered entered
-libraries-length [] ls = omega arith
-libraries-length (n ∷ ns) ls =
-    go (eqb (numberIn (sameBytes n) ls) 0) (entered n ls) refl (libraries-length ns (entered n ls))
-  where
-    go : (b : Bool) (es : Libraries) → pick b (ls ++ ((suc (length ls), n) ∷ [])) ls ≡ es
-        → length (libraryRecords ns es) + length es ≡ length (allEntered ns es)
-        → length (pick b (library (suc (length ls)) n ∷ []) [] ++ libraryRecords ns es) + length ls ≡ length (allEntered ns es)
-    go true es e again =
-        let a : length es ≡ length ls + 1 = ap length (sym e) ∙ length-append ls ((suc (length ls), n) ∷ []) in
-        omega arith
-    go false es e again = let a : length es ≡ length ls = ap length (sym e) in omega arith
 
 -- a record and the libraries before it
 after-libraries : (ns : List (List ℕ)) (ls : Libraries) (r : Rec) → length (libraryRecords ns ls ++ (r ∷ [])) + length ls ≡ suc (length (allEntered ns ls))
@@ -60,10 +49,6 @@ records-length w (aPrimitiveArray n code items) = omega arith
 records-length w (anObjectArray n) = omega arith
 records-length w (aStringArray n) = omega arith
 records-length w (aValue v) = omega arith
-
-shown-length : (o n : ℕ) (rs : List Rec) → length (allShown o n rs) ≡ length rs
-shown-length o n [] = refl
-shown-length o n (r ∷ rs) = ap suc (shown-length o n rs)
 
 -- ---- runs
 
@@ -125,7 +110,7 @@ said-most p x o n y ns most w = go x (sort-of p x) most
         let e = ap length (squeezed-records w o n h (packed (afterWhat p x) ns)) in
         let a = length-append (runShown w) (allShown o n (recordsOf p x) ++ squeezed noWait (packed (afterWhat p x) ns)) in
         let b = length-append (allShown o n (recordsOf p x)) (squeezed noWait (packed (afterWhat p x) ns)) in
-        let c = shown-length o n (recordsOf p x) in
+        let c = length-shown o n (recordsOf p x) in
         let d : length (squeezed noWait (packed (afterWhat p x) ns)) + length (afterWhat p x .libraries) ≤ 0 + y = most noWait in
         let f = records-length p x in
         omega arith

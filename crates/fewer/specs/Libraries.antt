@@ -14,15 +14,15 @@ use Rattle.format.specs.Rows.{blank, isClass, libraryRow}
 use Rattle.format.specs.Says.{textFrom, numberFrom, libraryName, classFrom}
 use Rattle.format.specs.Tidy.{Progress, nothing, numberIn, Libraries, entered, allEntered, classNeeds}
 use Rattle.same.specs.Laws.{same-refl}
+use Rattle.laws.specs.Tests.{pick-of, class-eq, class-refl, either}
+use Rattle.laws.specs.Numbers.{Counted, number-new, entered-new, entered-old, entered-counted, entered-more}
 use Rattle.marks.specs.Marks.{withSlot}
 use Rattle.meaning.specs.Stands.{Stands}
 use Rattle.meaning.specs.Marked.{classFields, arrayFields, All, none, both, nameAtField, namesOf, classFirst}
-use Rattle.meaning.specs.Tests.{pick-of, class-eq, class-refl}
 use Rattle.meaning.specs.Names.{NamesLibrary, class-at, array-at, class-names, array-names}
 use Rattle.meaning.specs.ClassBytes.{class-need}
 use Rattle.meaning.specs.ArrayBytes.{array-need}
-use Rattle.meaning.specs.Entered.{Counted, number-new, entered-new, entered-old, entered-counted, entered-more}
-use Rattle.meaning.specs.Orders.{either, afterRows, progressTo, progress-none, itemNeeds, isNew, rowNeeds, progress-libraries}
+use Rattle.meaning.specs.Orders.{afterRows, progressTo, progress-none, itemNeeds, isNew, rowNeeds, progress-libraries}
 use Rattle.meaning.specs.RowLibraries.{class-row-needs, other-row-needs}
 
 -- 1 for what has a number

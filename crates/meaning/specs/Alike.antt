@@ -16,9 +16,9 @@ use Rattle.fields.specs.Parts.{length-part, part-add}
 use Rattle.num.specs.Le.{Bytes}
 use Rattle.strings.specs.Laws.{string-moves, string-only, string-converse}
 use Rattle.same.specs.Laws.{SameParts, same-parts, parts-same, same-eq}
+use Rattle.laws.specs.Tests.{bool-ext, pick-of, pick-true, true-same}
 use Rattle.marks.specs.Marks.{sameBetween}
 use Rattle.meaning.specs.Stands.{StringStands}
-use Rattle.meaning.specs.Tests.{bool-ext, pick-of, pick-true, true-same}
 
 module _ (s : List ℕ) where
   -- ---- parts

@@ -19,6 +19,7 @@ use Rattle.num.specs.Le.{Bytes}
 use Rattle.num.specs.Read.{u32-says}
 use Rattle.prefix.specs.Both.{part-cons}
 use Rattle.types.specs.Keeps.{type-told}
+use Rattle.laws.specs.Fields.{length-numbers}
 use Rattle.put.specs.Out.{between, headOut}
 use Rattle.marks.specs.Marks.{itemType}
 use Rattle.writing.specs.Copy.{infoOut, itemsOut, bodyOut}
@@ -27,11 +28,6 @@ use Rattle.meaning.specs.Marked.{All, arrayFields, namesOf}
 use Rattle.meaning.specs.Bytes.{joined, number-there, between-none, info-place, type-is, same-type, needs-is, Numbered, field-of, info-is}
 
 -- ---- lengths
-
-pub numbers-count : (s : List ℕ) (n p : ℕ) → length (numbersFrom s n p) ≡ n
-unfolding numbersFrom
-numbers-count s zero p = refl
-numbers-count s (suc n) p = ap suc (numbers-count s n (p + 4))
 
 pub numbers-is : (s : List ℕ) → Bytes s → (n p e : ℕ) → e ≡ p + 4 * n → e ≤ length s → between s p e ≡ numbersBytes (numbersFrom s n p)
 unfolding numbersFrom
@@ -88,7 +84,7 @@ module _ (s : List ℕ) (byte : Bytes s) (rows rs : List Row) (ls : Libraries) w
       let item = detailBy ls (detailFrom s rows type (p + 1)) in
       let lengths = numbersBytes (numbersFrom s rank (o + 10)) in
       let b : type ≡ typeByte item = sym (same-type ls (detailFrom s rows type (p + 1)) ∙ type-is s rows type (p + 1) (w .0)) in
-      let k : rank ≡ length (numbersFrom s rank (o + 10)) = sym (numbers-count s rank (o + 10)) in
+      let k : rank ≡ length (numbersFrom s rank (o + 10)) = sym (length-numbers s rank (o + 10)) in
       ap₂ (λ (x y : List ℕ). 7 ∷ (leBytes 4 id ++ (x ++ (y ++ between s e end)))) (lengths-is s byte o rank p d (w .1) n)
       (info-is s byte rows rs ls type (p + 1) e (w .0) i f)
       ∙ ap (λ (l : List ℕ). 7 ∷ (leBytes 4 id ++ (getD s (o + 5) 0 ∷ l))) (joined (leBytes 4 rank) lengths (type ∷ []) (infoBytes item ++ between s e end))

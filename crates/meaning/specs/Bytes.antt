@@ -29,11 +29,13 @@ use Rattle.num.specs.Read.{u32-says}
 use Rattle.strings.specs.Laws.{string-told, string-moves, string-converse}
 use Rattle.types.specs.Codes.{number-primitive}
 use Rattle.types.specs.Keeps.{code-told, type-told, name-told, name-moves, library-told}
+use Rattle.laws.specs.Fields.{by-type}
 use Rattle.classes.specs.Moves.{known-moves}
 use Rattle.put.specs.Out.{between, textOut}
 use Rattle.writing.specs.Copy.{libraryNumber, infoOut, infosOut}
 use Rattle.meaning.specs.Stands.{StringStands}
 use Rattle.meaning.specs.Marked.{All, none, both, infoFields, nameAtField, namesOf}
+use Rattle.meaning.specs.Entered.{names-append}
 
 -- ---- texts, numbers and codes
 
@@ -147,15 +149,7 @@ module _ (s : List ℕ) (rows : List Row) where
 
   pub type-is : (type p : ℕ) → type ≤ 7 → typeByte (detailFrom s rows type p) ≡ type
   unfolding detailFrom
-  type-is zero p h = refl
-  type-is (suc zero) p h = refl
-  type-is (suc (suc zero)) p h = refl
-  type-is (suc (suc (suc zero))) p h = refl
-  type-is (suc (suc (suc (suc zero)))) p h = refl
-  type-is (suc (suc (suc (suc (suc zero))))) p h = refl
-  type-is (suc (suc (suc (suc (suc (suc zero)))))) p h = refl
-  type-is (suc (suc (suc (suc (suc (suc (suc zero))))))) p h = refl
-  type-is (suc (suc (suc (suc (suc (suc (suc (suc type)))))))) p h = absurd (omega arith)
+  type-is type p h = by-type (λ t. typeByte (detailFrom s rows t p) ≡ t) refl refl refl refl refl refl refl refl type h
 
   pub class-detail : (p e : ℕ) → ClassInfo s p e → detailFrom s rows 4 p ≡ class (textFrom s p) (nameAtField s rows (e - 4))
   unfolding detailFrom nameAtField
@@ -245,11 +239,6 @@ all-first P x xs (both p a) = p
 -- the one field of a detail of type 4
 pub field-of : (P : ℕ → Type 0) (type p : ℕ) → All P (pick (eqb type 4) (p ∷ []) []) → type ≡ 4 → P p
 field-of P type p a e = all-first P p [] (rw e at a)
-
-pub names-append : (s : List ℕ) (rows : List Row) (xs ys : List ℕ) → namesOf s rows (xs ++ ys) ≡ namesOf s rows xs ++ namesOf s rows ys
-unfolding namesOf
-names-append s rows [] ys = refl
-names-append s rows (x ∷ xs) ys = ap (λ (l : List (List ℕ)). nameAtField s rows x ∷ l) (names-append s rows xs ys)
 
 -- wherever the members' names stand
 pub infos-need : (s : List ℕ) (rows : List Row) (n types names p e t : ℕ) → infosAt s rows n types p ≡ F.End e → times (typeByteAt s) n types ≡ F.End t

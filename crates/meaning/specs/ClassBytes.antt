@@ -27,7 +27,8 @@ use Rattle.marks.specs.Marks.{word, typesPlace}
 use Rattle.writing.specs.Copy.{libraryNumber, infosOut, classOut, detailsOut}
 use Rattle.meaning.specs.Stands.{OwnStands, of-system, of-library, ClassStands}
 use Rattle.meaning.specs.Marked.{All, infoFields, classFields, nameAtField, namesOf}
-use Rattle.meaning.specs.Bytes.{joined, text-kept, number-is, name-stands, between-none, type-is, same-type, Numbered, all-left, all-right, all-first, names-append, infos-need, infos-is}
+use Rattle.meaning.specs.Bytes.{joined, text-kept, number-is, name-stands, between-none, type-is, same-type, Numbered, all-left, all-right, all-first, infos-need, infos-is}
+use Rattle.meaning.specs.Entered.{names-append}
 
 -- ---- names and type bytes
 

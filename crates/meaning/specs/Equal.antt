@@ -27,10 +27,11 @@ use Rattle.types.specs.Ends.{name-end}
 use Rattle.types.specs.Keeps.{name-told, name-moves}
 use Rattle.same.specs.Laws.{SameParts, same-eq}
 use Rattle.table.specs.Find.{find-hit}
+use Rattle.laws.specs.Tests.{bool-ext, both-of, both-true, apart, pick-of, pick-true, true-same, class-of, class-eq, true-class, class-refl}
+use Rattle.laws.specs.Firsts.{find-alike, find-some}
 use Rattle.marks.specs.Marks.{withId, withSlot, libraryAt, sameBetween, sameInfos, infosPlace, sameOwn, sameDetails, sameClassRow, firstClass}
 use Rattle.meaning.specs.Stands.{OwnStands, of-system, of-library, ClassStands, Stands}
 use Rattle.meaning.specs.Marked.{Placed, nameAtField, classFirst}
-use Rattle.meaning.specs.Tests.{bool-ext, both-of, both-true, apart, pick-of, pick-true, true-same, class-of, class-eq, true-class, class-refl, find-alike, find-some}
 use Rattle.meaning.specs.Alike.{parts-first, parts-last, parts-join, between-of, true-between, string-shift, string-same}
 use Rattle.meaning.specs.Names.{class-at, class-places, own-names, placed-class, placed-kind, same-library}
 use Rattle.meaning.specs.Members.{namesFrom, members-zipped, members-names, members-types, members-count, names-shift, names-same, Infos, details-of, details-same}

@@ -1,7 +1,6 @@
 -- The copy written from marked rows is the tidy copy of what the rows say.
 pub mod Stands
 pub mod Marked
-pub mod Tests
 pub mod Alike
 pub mod Names
 pub mod Members

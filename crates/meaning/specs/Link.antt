@@ -13,12 +13,14 @@ use Rattle.format.specs.Rows.{blank, isObject, isClass}
 use Rattle.format.specs.Contents.{Detail, Rec, header, classById, string, array, typedPrimitive, reference, end, primitiveArray, objectArray, stringArray, value, enc, encs}
 use Rattle.format.specs.Says.{Class, textFrom, codeFrom, classFrom, orderOf, whatFrom, isNulls, isSilent, says}
 use Rattle.format.specs.Tidy.{Progress, Libraries, numberIn, sameClass, allEntered, libraryRecords, classNeeds, detailNeeds, detailBy, classBy, objectBy, recordsOf, tidyOf}
+use Rattle.laws.specs.Tests.{pick-of, class-eq, class-refl, differ, either}
+use Rattle.laws.specs.Kinds.{class-kind, class-is-object}
+use Rattle.laws.specs.Runs.{encs-append}
 use Rattle.put.specs.Out.{between, headOut, byIdOut, headerOut}
 use Rattle.marks.specs.Marks.{rowAt, withId, itemType, numbered, placed, firsts, needed, marked, isFirst}
 use Rattle.writing.specs.Copy.{needClassOut, classOut, objectOut, arrayOut, bodyOut, needInfoOut, recordOut, copyOf}
 use Rattle.meaning.specs.Stands.{RowStands, the-header, by-id, a-class, a-string, an-array, a-primitive, a-reference, nulls, the-end, a-library, primitives, objects, texts, a-value, ArrayStands, Stands}
 use Rattle.meaning.specs.Marked.{Placed, Firsts, classFields, arrayFields, rowFields, fieldsFrom, All, classFirst}
-use Rattle.meaning.specs.Tests.{pick-of, class-eq, class-refl}
 use Rattle.meaning.specs.Names.{class-at, array-at}
 use Rattle.meaning.specs.Bytes.{Numbered}
 use Rattle.meaning.specs.ClassBytes.{class-is}
@@ -28,8 +30,8 @@ use Rattle.meaning.specs.Said.{records-by-id, records-system, records-cl
 use Rattle.meaning.specs.Passes.{object-not-library, placed-rows, firsts-rows}
 use Rattle.meaning.specs.Stamps.{Fields, needed-same}
 use Rattle.meaning.specs.LibrariesOut.{class-out, array-out, Spelled}
-use Rattle.meaning.specs.Orders.{either, differ, class-kind, class-is-object, order-object, progressTo, progress-count, itemNeeds, isNew, rowNeeds, class-of-id, first-order, first-before, class-known, class-later}
-use Rattle.meaning.specs.Runs.{encs-append, nulls-kind}
+use Rattle.meaning.specs.Orders.{order-object, progressTo, progress-count, itemNeeds, isNew, rowNeeds, class-of-id, first-order, first-before, class-known, class-later}
+use Rattle.meaning.specs.Runs.{nulls-kind}
 use Rattle.meaning.specs.Traversal.{recordAs, record-as, Writes, copied}
 use Rattle.meaning.specs.Rising.{fields-hold, fields-spelled}
 use Rattle.meaning.specs.Words.{first-kind, class-words, object-words, marked-kind, marked-kept, marked-other, target-id, first-id, class-id}

@@ -23,12 +23,14 @@ use Rattle.types.specs.Codes.{number-primitive}
 use Rattle.types.specs.Keeps.{code-told, type-told, name-told, name-moves}
 use Rattle.classes.specs.Moves.{names-there, info-known-moves}
 use Rattle.same.specs.Laws.{SameParts, same-eq}
+use Rattle.laws.specs.Tests.{both-of, both-true, pick-of, pick-true, true-same}
+use Rattle.laws.specs.Fields.{by-type}
 use Rattle.marks.specs.Marks.{libraryAt, sameBetween, sameInfo, sameInfos}
 use Rattle.meaning.specs.Stands.{Stands}
 use Rattle.meaning.specs.Marked.{Placed, nameAtField}
-use Rattle.meaning.specs.Tests.{both-of, both-true, pick-of, pick-true, true-same}
 use Rattle.meaning.specs.Alike.{parts-first, parts-last, parts-join, between-of, true-between, string-shift, string-same, same-strings}
-use Rattle.meaning.specs.Names.{info-end, after-info, class-info, same-library}
+use Rattle.meaning.specs.Bytes.{info-at, info-place, type-is}
+use Rattle.meaning.specs.Names.{class-info, same-library}
 
 -- ---- members: their names, and their types
 
@@ -177,21 +179,6 @@ module _ (s : List ℕ) where
             true-between s p m q k (omega (arith, c .3, d .3)) (rw e (byte-same p q (c .2) (d .2) g))),
       )
 
-by-type : (P : ℕ → Type 0) → P 0 → P 1 → P 2 → P 3 → P 4 → P 5 → P 6 → P 7 → (t : ℕ) → t ≤ 7 → P t
-by-type P a b c d e f g i zero h = a
-by-type P a b c d e f g i (suc zero) h = b
-by-type P a b c d e f g i (suc (suc zero)) h = c
-by-type P a b c d e f g i (suc (suc (suc zero))) h = d
-by-type P a b c d e f g i (suc (suc (suc (suc zero)))) h = e
-by-type P a b c d e f g i (suc (suc (suc (suc (suc zero))))) h = f
-by-type P a b c d e f g i (suc (suc (suc (suc (suc (suc zero)))))) h = g
-by-type P a b c d e f g i (suc (suc (suc (suc (suc (suc (suc zero))))))) h = i
-by-type P a b c d e f g i (suc (suc (suc (suc (suc (suc (suc (suc n)))))))) h = absurd (omega arith)
-
-pub detail-byte : (s : List ℕ) (rows : List Row) (p t : ℕ) → t ≤ 7 → typeByte (detailFrom s rows t p) ≡ t
-unfolding detailFrom
-detail-byte s rows p t h = by-type (λ t. typeByte (detailFrom s rows t p) ≡ t) refl refl refl refl refl refl refl refl t h
-
 -- ---- details
 
 -- the test of two details of type t is a test for equality
@@ -241,19 +228,19 @@ module _ (s : List ℕ) (rows ps : List Row) (st : Stands s rows) (pl : Placed s
   fair-primitive : Fair s rows ps 0
   unfolding sameInfo detailFrom infoAt
   fair-primitive a x b y h g p q =
-      let w = code-same s a b x y (info-end s rows 0 a x p) (info-end s rows 0 b y q) in
+      let w = code-same s a b x y (info-at s rows 0 a x p) (info-at s rows 0 b y q) in
       ((λ t. ap primitive (w .0 t)), (λ t. w .1 cc))
 
   fair-primitives : Fair s rows ps 7
   unfolding sameInfo detailFrom infoAt
   fair-primitives a x b y h g p q =
-      let w = code-same s a b x y (info-end s rows 7 a x p) (info-end s rows 7 b y q) in
+      let w = code-same s a b x y (info-at s rows 7 a x p) (info-at s rows 7 b y q) in
       ((λ t. ap primitives (w .0 t)), (λ t. w .1 cc))
 
   fair-system : Fair s rows ps 3
   unfolding sameInfo detailFrom infoAt
   fair-system a x b y h g p q =
-      let w = name-same s (st .bytes) a b x y (info-end s rows 3 a x p) (info-end s rows 3 b y q) in
+      let w = name-same s (st .bytes) a b x y (info-at s rows 3 a x p) (info-at s rows 3 b y q) in
       ((λ t. ap system (same-eq (textFrom s a) (textFrom s b) (sym w ∙ t))), (λ t. w ∙ true-same (textFrom s a) (textFrom s b) cc))
 
   -- a type without a detail
@@ -261,7 +248,7 @@ module _ (s : List ℕ) (rows ps : List Row) (st : Stands s rows) (pl : Placed s
       → ((a x b y : ℕ) → sameInfo s ps t a x b y ≡ sameBetween s a x b y) → Fair s rows ps t
   fair-none d t i f k a x b y h g p q = (
     (λ e. f a ∙ sym (f b)),
-    (λ e. k a x b y ∙ no-detail a x b y h g (sym (i a) ∙ info-end s rows t a x p) (sym (i b) ∙ info-end s rows t b y q)),
+    (λ e. k a x b y ∙ no-detail a x b y h g (sym (i a) ∙ info-at s rows t a x p) (sym (i b) ∙ info-at s rows t b y q)),
   )
 
   fair : (t : ℕ) → t ≤ 7 → Fair s rows ps t
@@ -333,8 +320,8 @@ module _ (s : List ℕ) (rows ps : List Row) (st : Stands s rows) (pl : Placed s
       let a2 = rw o at a in
       let c : b ≡ getD s u 0 = byte-of s t u (parts-first s t u 1 n a2) in
       let j : infoKnown s rows b q ≡ F.End k = subst (λ (z : ℕ). infoKnown s rows z q ≡ F.End k) (sym c) (y .info) in
-      let f = after-info s rows b p m (x .info) in
-      let g = after-info s rows b q k j in
+      let f = info-place s rows b p m (x .info) in
+      let g = info-place s rows b q k j in
       let h = both-of (sameInfo s ps b p m q k) (sameInfos s ps n (t + 1) m k) (rw (f, g) at e) in
       let i = fair s rows ps st pl b (x .type) p m q k (v .inside) (w .inside) (x .info) j .0 (h .0) in
       let r = details-of n (t + 1) (u + 1) m k (x .others) (y .others) (parts-last s t u 1 n a2) (h .1) in
@@ -358,12 +345,12 @@ module _ (s : List ℕ) (rows ps : List Row) (st : Stands s rows) (pl : Placed s
       let o : suc n ≡ 1 + n = omega arith in
       let d : detailFrom s rows b p ≡ detailFrom s rows (getD s u 0) q = cc in
       let l : detailsFrom s rows n (t + 1) (afterInfo s b p) ≡ detailsFrom s rows n (u + 1) (afterInfo s (getD s u 0) q) = cc in
-      let c : b ≡ getD s u 0 = sym (detail-byte s rows p b (x .type)) ∙ (ap typeByte d ∙ detail-byte s rows q (getD s u 0) (y .type)) in
+      let c : b ≡ getD s u 0 = sym (type-is s rows b p (x .type)) ∙ (ap typeByte d ∙ type-is s rows (getD s u 0) q (y .type)) in
       let j : infoKnown s rows b q ≡ F.End k = subst (λ (z : ℕ). infoKnown s rows z q ≡ F.End k) (sym c) (y .info) in
-      let f = after-info s rows b p m (x .info) in
-      let g = after-info s rows b q k j in
+      let f = info-place s rows b p m (x .info) in
+      let g = info-place s rows b q k j in
       let l2 : detailsFrom s rows n (t + 1) m ≡ detailsFrom s rows n (u + 1) k
-      = ap (detailsFrom s rows n (t + 1)) (sym f) ∙ (l ∙ ap (detailsFrom s rows n (u + 1)) (after-info s rows (getD s u 0) q k (y .info))) in
+      = ap (detailsFrom s rows n (t + 1)) (sym f) ∙ (l ∙ ap (detailsFrom s rows n (u + 1)) (info-place s rows (getD s u 0) q k (y .info))) in
       let i = fair s rows ps st pl b (x .type) p m q k (v .inside) (w .inside) (x .info) j .1
       (d ∙ ap (λ (z : ℕ). detailFrom s rows z q) (sym c)) in
       let r = details-same n (t + 1) (u + 1) m k (x .others) (y .others) l2 in (

@@ -2,7 +2,7 @@
 -- that a field leads to is the first library with the name that the field says.
 use Prim.Native.Nat.{ℕ, zero, suc, _+_, _-_, _*_, _≤_, _<_}
 use mathlib.Core.Path.{_≡_, refl, sym, ap, subst, _∙_}
-use mathlib.Core.Bool.{Bool, true, false, _&&_, _||_}
+use mathlib.Core.Bool.{Bool, true, false, _&&_}
 use mathlib.Core.List.{List, [], _∷_, _++_}
 use native.Mathlib.Omega.{arith}
 use native.Mathlib.Decide.{decLt}
@@ -13,7 +13,7 @@ use Rattle.format.specs.declared.Refusal.the-variants as R
 use Rattle.format.specs.declared.Field.the-variants as F
 use Rattle.format.specs.declared.Row.{Row}
 use Rattle.format.specs.Bytes.{pick, sameBytes, samePart}
-use Rattle.format.specs.Types.{nameAt, libraryIdAt, infoAt, placeOr}
+use Rattle.format.specs.Types.{nameAt, libraryIdAt, infoAt}
 use Rattle.format.specs.Values.{onEnd}
 use Rattle.format.specs.Rows.{blank, isObject, isClass, findFrom, libraryRow, withLink}
 use Rattle.format.specs.Records.{knownLibrary, infoKnown, infosAt, ownLibraryAt}
@@ -27,27 +27,22 @@ use Rattle.classes.specs.Moves.{names-there, types-there, infos-moves}
 use Rattle.same.specs.Laws.{same-eq}
 use Rattle.table.specs.Find.{find-hit, library-at}
 use Rattle.strings.specs.Laws.{string-moves}
+use Rattle.laws.specs.Tests.{bool-ext, both-of, both-true, apart, pick-of, true-same}
+use Rattle.laws.specs.Kinds.{class-kind}
+use Rattle.laws.specs.Firsts.{find-alike, find-some}
 use Rattle.marks.specs.Marks.{sameTail, sameName, firstLibrary, libraryAt, sameBetween, typesPlace, itemType, word, withId, withSlot, firstClass, isFirst}
 use Rattle.meaning.specs.Stands.{StringStands, OwnStands, of-system, of-library, ClassStands, ArrayStands, RowStands, the-header, by-id, a-class, a-string, an-array, a-primitive, a-reference, nulls, the-end, a-library, primitives, objects, texts, a-value, Stands}
 use Rattle.meaning.specs.Marked.{Placed, Firsts, infoFields, classFields, arrayFields, rowFields, fieldsFrom, All, none, both, nameAtField, libraryFirst}
-use Rattle.meaning.specs.Tests.{bool-ext, both-of, both-true, apart, pick-of, true-same, find-alike, find-some}
+use Rattle.meaning.specs.Bytes.{info-place}
 use Rattle.meaning.specs.Alike.{same-strings}
 
 -- ---- what stands at a row, by its kind
-
-pub by-class : (P : ℕ → Type 0) (k : ℕ) → isClass k ≡ true → P 4 → P 5 → P k
-by-class P k e p q = go (eqb k 4) (eqb k 5) refl refl e
-  where
-    go : (x y : Bool) → eqb k 4 ≡ x → eqb k 5 ≡ y → (x || y) ≡ true → P k
-    go true y f g e = rw (eqb-true k 4 f) p
-    go false true f g e = rw (eqb-true k 5 g) q
-    go false false f g e = apart e
 
 not-class : {A : Type 0} (k n : ℕ) → isClass k ≡ true → k ≡ n → isClass n ≡ false → A
 not-class k n c e f = apart (sym f ∙ (ap isClass (sym e) ∙ c))
 
 class-nulls : (k : ℕ) → isClass k ≡ true → isNulls k ≡ true → ⊥
-class-nulls k c = by-class (λ k. isNulls k ≡ true → ⊥) k c apart apart
+class-nulls k c = class-kind k c (λ k. isNulls k ≡ true → ⊥) apart apart
 
 module _ (s : List ℕ) (rows : List Row) (i : ℕ) (r : Row) where
   class-there : RowStands s rows i r → isClass (r .kind) ≡ true → ClassStands s rows r
@@ -181,20 +176,6 @@ module _ (s : List ℕ) (rows : List Row) where
       let x = through (knownLibrary s rows) (libraryIdAt s p) e q in
       id-names p (x .0) e (x .1) (x .2)
 
-  -- a detail that is known is the detail
-  pub info-end : (type p e : ℕ) → infoKnown s rows type p ≡ F.End e → infoAt s type p ≡ F.End e
-  unfolding infoKnown
-  info-end type p e q =
-      let x = through (λ end. pick (eqb type 4) (knownLibrary s rows end) (F.End end)) (infoAt s type p) e q in
-      x .1 ∙ ap F.End (go (x .0) (eqb type 4) (x .2))
-    where
-      go : (m : ℕ) (t : Bool) → pick t (knownLibrary s rows m) (F.End m) ≡ F.End e → m ≡ e
-      go m true q = sym (known-told m e q .0)
-      go m false q = cc
-
-  pub after-info : (type p e : ℕ) → infoKnown s rows type p ≡ F.End e → afterInfo s type p ≡ e
-  after-info type p e q = ap (placeOr p) (info-end type p e q)
-
   -- type 4: a name, and then the number of a library
   pub class-info : (p e : ℕ) → infoKnown s rows 4 p ≡ F.End e
       → NamesLibrary s rows (e - 4) × (m : ℕ) × (nameAt s p ≡ F.End m) × (e ≡ m + 4) × (e ≤ length s)
@@ -215,7 +196,7 @@ module _ (s : List ℕ) (rows : List Row) where
   infos-name zero types p e q = none
   infos-name (suc n) types p e q =
       let x = through (infosAt s rows n (types + 1)) (infoKnown s rows (getD s types 0) p) e q in
-      let a = after-info (getD s types 0) p (x .0) (x .1) in
+      let a = info-place s rows (getD s types 0) p (x .0) (x .1) in
       rw a (all-append (info-field (getD s types 0) p (x .0) (x .1)) (infos-name n (types + 1) (x .0) e (x .2)))
 
   module _ (r : Row) where
@@ -246,7 +227,7 @@ module _ (s : List ℕ) (rows : List Row) where
         let i : r .offset + 10 + 4 * numberFrom s (r .offset + 6) ≡ p = rw n in
         subst (λ (o : ℕ). All (NamesLibrary s rows) (fields (o + 10 + 4 * numberFrom s (o + 6)))) (sym e)
         (subst (λ (x : ℕ). All (NamesLibrary s rows) (fields x)) (sym i)
-        (rw (after-info (getD s p 0) (p + 1) (a .info-end) (a .info)) (info-field (getD s p 0) (p + 1) (a .info-end) (a .info))))
+        (rw (info-place s rows (getD s p 0) (p + 1) (a .info-end) (a .info)) (info-field (getD s p 0) (p + 1) (a .info-end) (a .info))))
       where
         fields : ℕ → List ℕ
         fields p = pick (eqb (getD s p 0) 4) ((afterInfo s (getD s p 0) (p + 1) - 4) ∷ []) []

@@ -15,30 +15,20 @@ use Rattle.format.specs.Rows.{blank, isObject, isClass, findFrom}
 use Rattle.format.specs.Says.{Class, What, anObject, aString, aPrimitive, aReference, aPrimitiveArray, anObjectArray, aStringArray, aValue, Node, node, textFrom, codeFrom, detailFrom, classFrom, arrayFrom, objectsIn, orderOf, whatFrom, spread, isNulls, isSilent, nodesOf, nodesFrom}
 use Rattle.format.specs.Tidy.{sameClass, numberIn, Progress, nothing, allEntered, detailNeeds, classNeeds, afterObject, counted, afterWhat, Standing, ownedBy, recordsOf, pack}
 use Rattle.table.specs.Find.{find-hit}
+use Rattle.laws.specs.Tests.{both-of, differ, either, neither}
+use Rattle.laws.specs.Kinds.{class-kind, class-is-object}
+use Rattle.laws.specs.Orders.{objects-append, order-next}
+use Rattle.laws.specs.Numbers.{afterNodes}
 use Rattle.marks.specs.Marks.{itemType}
 use Rattle.meaning.specs.Stands.{RowStands, the-header, by-id, a-class, a-string, an-array, a-primitive, a-reference, nulls, the-end, a-library, primitives, objects, texts, a-value, Stands}
 use Rattle.meaning.specs.Marked.{classFirst}
 
 -- ---- orders of objects
 
-pub objects-append : (a b : List Row) → objectsIn (a ++ b) ≡ objectsIn a + objectsIn b
-unfolding objectsIn
-objects-append [] b = omega arith
-objects-append (r ∷ a) b =
-    let h : objectsIn (a ++ b) ≡ objectsIn a + objectsIn b = objects-append a b in
-    omega arith
-
 module _ (rows : List Row) where
-  -- from one row to the next
-  pub order-next : (i : ℕ) → i < length rows → orderOf rows (suc i) ≡ orderOf rows i + pick (isObject (getD rows i blank .kind)) 1 0
-  unfolding orderOf objectsIn
-  order-next i h =
-      let e : objectsIn (take i rows ++ (getD rows i blank ∷ [])) ≡ objectsIn (take i rows) + objectsIn (getD rows i blank ∷ []) = objects-append (take i rows) (getD rows i blank ∷ []) in
-      ap objectsIn (take-suc rows i blank h) ∙ omega arith
-
   pub order-object : (i : ℕ) → i < length rows → isObject (getD rows i blank .kind) ≡ true → orderOf rows (suc i) ≡ suc (orderOf rows i)
   order-object i h o =
-      let e : orderOf rows (suc i) ≡ orderOf rows i + 1 = order-next i h ∙ ap (λ (t : Bool). orderOf rows i + pick t 1 0) o in
+      let e : orderOf rows (suc i) ≡ orderOf rows i + 1 = order-next rows i h ∙ ap (λ (t : Bool). orderOf rows i + pick t 1 0) o in
       omega arith
 
   pub order-le : (i j : ℕ) → i ≤ j → orderOf rows i ≤ orderOf rows j
@@ -84,10 +74,6 @@ module _ (s : List ℕ) (rows : List Row) (r : Row) where
   what-as k e = ap whatAs e
 
 -- ---- what was written once these nodes were
-
-unfoldable pub afterNodes : Progress → List Node → Progress
-afterNodes w [] = w
-afterNodes w (n ∷ ns) = afterNodes (afterWhat w (n .what)) ns
 
 pub after-append : (w : Progress) (a b : List Node) → afterNodes w (a ++ b) ≡ afterNodes (afterNodes w a) b
 unfolding afterNodes
@@ -177,30 +163,6 @@ module _ (s : List ℕ) (rows : List Row) where
       ∙ (pack-append nothing (nodesFrom s rows (take i rows)) (nodesFrom s rows (drop i rows))
       ∙ ap (λ (w : Progress). pack nothing (nodesFrom s rows (take i rows)) ++ pack w (nodesFrom s rows (drop i rows))) (after-rows nothing (take i rows))))
 
--- ---- kinds
-
-pub either : {X : Type 0} (t : Bool) → (t ≡ true → X) → (t ≡ false → X) → X
-either true f g = f refl
-either false f g = g refl
-
-neither : (p q : Bool) → (p || q) ≡ false → (p ≡ false) × (q ≡ false)
-neither true q e = (e, either q (λ f. f ∙ e) (λ f. f))
-neither false q e = (refl, e)
-
-pub differ : {X : Type 0} → true ≡ false → X
-differ e = absurd (let z : _≡_ {A = ℕ} 0 1 = cc in omega arith)
-
--- kind 4 or 5
-pub class-kind : (k : ℕ) → isClass k ≡ true → (P : ℕ → Type 0) → P 4 → P 5 → P k
-class-kind k e P four five =
-    either (eqb k 4) (λ a. subst P (sym (eqb-true k 4 a)) four)
-    (λ a. either (eqb k 5) (λ b. subst P (sym (eqb-true k 5 b)) five)
-    (λ b. differ (sym e ∙ rw (a, b))))
-
-pub class-is-object : (k : ℕ) → isClass k ≡ true → isObject k ≡ true
-class-is-object k e = class-kind k e (λ (n : ℕ). isObject n ≡ true) refl refl
-
--- a row that says something is no library's
 pub said-other : (k : ℕ) → isSilent k ≡ false → eqb k 12 ≡ false
 said-other k e = either (eqb k 12) (λ a. differ (sym (ap isSilent (eqb-true k 12 a)) ∙ e)) (λ a. a)
 
@@ -389,11 +351,6 @@ class-of-id s rows i r (objects k x y) e = absurd (omega arith)
 class-of-id s rows i r (texts k x y) e = absurd (omega arith)
 class-of-id s rows i r (a-value k x y) e = absurd (omega arith)
 
-both : (p q : Bool) → (p && q) ≡ true → (p ≡ true) × (q ≡ true)
-both true q e = (refl, e)
-both false true e = (e, refl)
-both false false e = (e, e)
-
 module _ (s : List ℕ) (rows : List Row) where
   -- the class of row i
   abbrev pub classAt : ℕ → Class
@@ -416,7 +373,7 @@ module _ (s : List ℕ) (rows : List Row) where
   unfolding classFirst
   first-row c i e =
       let h = find-hit (λ (r : Row). isClass (r .kind) && sameClass c (classFrom s rows r)) rows i e in
-      let b = both (isClass (getD rows i blank .kind)) (sameClass c (classAt i)) (h .1) in
+      let b = both-of (isClass (getD rows i blank .kind)) (sameClass c (classAt i)) (h .1) in
       (h .0, b .0, b .1)
 
   -- a class that has a row has a number above 0

@@ -2,17 +2,20 @@
 -- A pass sets words that its own tests do not look at, so each row gets what the rows before the pass say.
 use Prim.Native.Nat.{ℕ, zero, suc, _+_, _-_, _≤_, _<_}
 use mathlib.Core.Path.{_≡_, refl, sym, ap, _∙_}
-use mathlib.Core.Bool.{Bool, true, false, _&&_, _||_, true≢false}
-use mathlib.Core.List.{List, [], _∷_, _++_}
+use mathlib.Core.Bool.{Bool, true, false, _&&_, true≢false}
+use mathlib.Core.List.{List, [], _∷_}
 use native.Mathlib.Omega.{arith}
 use lib.ListN.{length, getD, take, set, length-set, List·getD-eq-default}
-use lib.Seq.{length-take-le, take-suc, getD-set-same, getD-set-other, set-getD}
+use lib.Seq.{length-take-le, getD-set-same, getD-set-other, set-getD}
 use lib.Dec.{eqb, leb}
 use borrow.Author.Tests.{eqb-true, eqb-false, eq-eqb, ne-eqb, leb-true, leb-false}
 use Rattle.format.specs.declared.Row.{Row}
 use Rattle.format.specs.Bytes.{pick}
 use Rattle.format.specs.Rows.{blank, isObject, isClass, findFrom, libraryRow, withLink}
 use Rattle.format.specs.Says.{objectsIn, orderOf, numberFrom, afterInfo}
+use Rattle.laws.specs.Kinds.{class-is-object}
+use Rattle.laws.specs.Firsts.{find-alike}
+use Rattle.laws.specs.Orders.{order-next}
 use Rattle.marks.specs.Marks.{Pass, pass, sweep, word, withId, withSlot, withCount, numberRow, numberOne, numbered, placed, firsts, sameName, sameTail, firstLibrary, typesPlace, placeOne, libraryAt, sameInfo, sameInfos, sameOwn, sameClassRow, firstClass, firstOne}
 use Rattle.meaning.specs.Marked.{Placed, Firsts}
 
@@ -73,26 +76,7 @@ module _ (new : ℕ → Row → Row) (rows : List Row) where
             ap frame (x ∙ sym y)
         go false p false q = ap frame (v .done j (leb-false i j p) (leb-false (length rows) j q)) ∙ keeps j (getD rows j blank)
 
--- a lookup by tests that agree
-pub find-alike : (p q : Row → Bool) (k : ℕ) (xs ys : List Row) → length xs ≡ length ys → ((j : ℕ) → p (getD xs j blank) ≡ q (getD ys j blank))
-    → findFrom p k xs ≡ findFrom q k ys
-unfolding findFrom
-find-alike p q k [] [] l f = refl
-find-alike p q k [] (y ∷ ys) l f = absurd (omega arith)
-find-alike p q k (x ∷ xs) [] l f = absurd (omega arith)
-find-alike p q k (x ∷ xs) (y ∷ ys) l f =
-    let e : p x ≡ q y = f 0 in
-    rw e (ap (pick (q y) (k + 1)) (find-alike p q (k + 1) xs ys (omega arith) (λ j. f (suc j))))
-
 -- ---- kinds
-
-class-object : (kind : ℕ) → isClass kind ≡ true → isObject kind ≡ true
-class-object kind h = go (eqb kind 4) (eqb kind 5) h refl refl
-  where
-    go : (a b : Bool) → (a || b) ≡ true → eqb kind 4 ≡ a → eqb kind 5 ≡ b → isObject kind ≡ true
-    go true b e p q = rw (eqb-true kind 4 p)
-    go false true e p q = rw (eqb-true kind 5 q)
-    go false false e p q = absurd (true≢false (sym e))
 
 pub object-not-library : (kind : ℕ) → isObject kind ≡ true → eqb kind 12 ≡ false
 object-not-library kind h = ne-eqb kind 12 (λ e. true≢false (sym h ∙ ap isObject e))
@@ -104,15 +88,10 @@ not-object : (kind : ℕ) → isObject kind ≡ false → isClass kind ≡ false
 not-object kind h = go (isClass kind) refl
   where
     go : (b : Bool) → isClass kind ≡ b → b ≡ false
-    go true e = sym (class-object kind e) ∙ h
+    go true e = sym (class-is-object kind e) ∙ h
     go false e = refl
 
 -- ---- objects are numbered
-
-objects-append : (xs ys : List Row) → objectsIn (xs ++ ys) ≡ objectsIn xs + objectsIn ys
-unfolding objectsIn
-objects-append [] ys = omega arith
-objects-append (x ∷ xs) ys = let e = objects-append xs ys in omega arith
 
 objects-le : (xs : List Row) → objectsIn xs ≤ length xs
 unfolding objectsIn
@@ -122,14 +101,6 @@ objects-le (x ∷ xs) = go (isObject (x .kind)) (objects-le xs)
     go : (b : Bool) → objectsIn xs ≤ length xs → pick b 1 0 + objectsIn xs ≤ suc (length xs)
     go true h = omega arith
     go false h = omega arith
-
--- the order of row i
-order-next : (rows : List Row) (i : ℕ) → i < length rows → orderOf rows (suc i) ≡ orderOf rows i + pick (isObject (getD rows i blank .kind)) 1 0
-unfolding orderOf objectsIn
-order-next rows i h =
-    let e : objectsIn (take (suc i) rows) ≡ objectsIn (take i rows) + objectsIn (getD rows i blank ∷ []) =
-    rw (take-suc rows i blank h) (objects-append (take i rows) (getD rows i blank ∷ [])) in
-    e ∙ omega arith
 
 unfoldable numberedRow : List Row → ℕ → Row → Row
 numberedRow rows i r = pick (isObject (r .kind)) (withId r (orderOf rows (suc i))) r
@@ -208,7 +179,7 @@ placed-unmarked s rows j r = go (eqb (r .kind) 12) (isClass (r .kind))
 library-alike : (s : List ℕ) (rs rows : List Row) (r : Row) → length rs ≡ length rows → ((j : ℕ) → unmarked (getD rs j blank) ≡ unmarked (getD rows j blank))
     → firstLibrary s rs r ≡ firstLibrary s rows r
 unfolding firstLibrary sameName sameTail
-library-alike s rs rows r l f = find-alike (sameName s r) (sameName s r) 0 rs rows l (λ j. ap (sameName s r) (f j))
+library-alike s rs rows r l f = find-alike (sameName s r) (sameName s r) 0 rs rows l (λ j h. ap (sameName s r) (f j))
 
 module _ (s : List ℕ) (rows : List Row) where
   place-step : (i : ℕ) (rs : List Row) → i < length rows → Half (placedRow s rows) rows i rs → Half (placedRow s rows) rows (i + 1) (placeOne s i rs)
@@ -265,7 +236,7 @@ placed-rows s rows few =
     record {
       size = P .size ∙ N .size;
       class = λ i l c.
-          let o = class-object (getD rows i blank .kind) c in
+          let o = class-is-object (getD rows i blank .kind) c in
           at i l
           ∙ (ap (placedRow s ns i) (numbered-object rows i (getD rows i blank) o)
           ∙ (placed-class s ns i (withId (getD rows i blank) (orderOf rows (suc i))) (object-not-library (getD rows i blank .kind) o) c
@@ -352,7 +323,7 @@ unfolding libraryAt libraryRow
 at-alike s rs rows l f p =
     let id : ℕ = numberFrom s p in
     let e : findFrom (isNumbered id) 0 rs ≡ findFrom (isNumbered id) 0 rows =
-    find-alike (isNumbered id) (isNumbered id) 0 rs rows l (λ j. ap (isNumbered id) (f j)) in
+    find-alike (isNumbered id) (isNumbered id) 0 rs rows l (λ j h. ap (isNumbered id) (f j)) in
     ap (λ (x : ℕ). getD rs (x - 1) blank .count) e ∙ ap (λ (r : Row). r .count) (f (findFrom (isNumbered id) 0 rows - 1))
 
 unlinked-alike : (s : List ℕ) (rows : List Row) (a b c : Row) → unlinked b ≡ unlinked c → sameClassRow s rows a b ≡ sameClassRow s rows a c
@@ -366,7 +337,7 @@ module _ (s : List ℕ) (rows : List Row) where
   first-alike rs r l f =
       let a = at-alike s rs rows l (λ j. ap looked (f j)) in
       find-alike (sameClassRow s rs r) (sameClassRow s rows r) 0 rs rows l
-      (λ j. class-alike s rs rows a r (getD rs j blank) ∙ unlinked-alike s rows r (getD rs j blank) (getD rows j blank) (f j))
+      (λ j h. class-alike s rs rows a r (getD rs j blank) ∙ unlinked-alike s rows r (getD rs j blank) (getD rows j blank) (f j))
 
   first-step : (i : ℕ) (rs : List Row) → i < length rows → Half (firstedRow s rows) rows i rs → Half (firstedRow s rows) rows (i + 1) (firstOne s i rs)
   unfolding firstOne firstedRow

@@ -19,12 +19,13 @@ use Rattle.num.specs.Read.{u32-says}
 use Rattle.fields.specs.Judged.{picked}
 use Rattle.fields.specs.Sequence.{through}
 use Rattle.types.specs.Keeps.{type-told, name-moves}
+use Rattle.laws.specs.Tests.{pick-of}
 use Rattle.classes.specs.Moves.{info-known-moves}
 use Rattle.marks.specs.Marks.{rowAt, libraryAt, itemType, isFirst}
 use Rattle.meaning.specs.Stands.{OwnStands, of-system, of-library, ClassStands, ArrayStands, Stands}
 use Rattle.meaning.specs.Marked.{Placed, Firsts, infoFields, classFields, arrayFields, rowFields, fieldsFrom, All}
-use Rattle.meaning.specs.Tests.{pick-of}
-use Rattle.meaning.specs.Names.{class-at, library-row, array-at, NamesLibrary, own-names, after-info, class-places, library-first, firsts-word, firsts-library, fields-name}
+use Rattle.meaning.specs.Bytes.{info-place}
+use Rattle.meaning.specs.Names.{class-at, library-row, array-at, NamesLibrary, own-names, class-places, library-first, firsts-word, firsts-library, fields-name}
 use Rattle.meaning.specs.Bytes.{class-info}
 use Rattle.meaning.specs.RecordBytes.{library-is}
 use Rattle.meaning.specs.Needs.{all-so}
@@ -58,7 +59,7 @@ module _ (s : List ℕ) (rows : List Row) where
       let type = getD s types 0 in
       let x = through (infosAt s rows n (types + 1)) (infoKnown s rows type p) e q in
       let m = info-known-moves s rows type p (x .0) h (x .1) in
-      rw (after-info s rows type p (x .0) (x .1))
+      rw (info-place s rows type p (x .0) (x .1))
       (rising-append e (x .0) p (pick (eqb type 4) ((x .0 - 4) ∷ []) []) (infoFields s n (types + 1) (x .0))
       (info-rising type p (x .0) h (x .1)) (infos-rising n (types + 1) (x .0) e (omega arith) (x .2)))
 
@@ -103,7 +104,7 @@ module _ (s : List ℕ) (rows : List Row) where
         let y : Rising (r .end) (p + 1) (fields ++ []) = rising-append (r .end) (a .info-end) (p + 1) fields [] x (no-field (r .end) (a .info-end) l) in
         subst (λ (o : ℕ). Rising (r .end) (r .offset) (at (o + 10 + 4 * numberFrom s (o + 6)))) (sym e)
         (subst (λ (z : ℕ). Rising (r .end) (r .offset) (at z)) (sym i)
-        (rw (after-info s rows (getD s p 0) (p + 1) (a .info-end) (a .info))
+        (rw (info-place s rows (getD s p 0) (p + 1) (a .info-end) (a .info))
         (rising-from (r .end) (r .offset) (p + 1) fields (omega arith) (rw (append-nil fields) at y))))
       where
         at : ℕ → List ℕ

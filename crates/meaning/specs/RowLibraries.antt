@@ -14,10 +14,10 @@ use Rattle.format.specs.Rows.{blank, isObject, isClass}
 use Rattle.format.specs.Contents.{end, encs}
 use Rattle.format.specs.Says.{classFrom}
 use Rattle.format.specs.Tidy.{Progress, Libraries, allEntered, libraryRecords, classNeeds}
+use Rattle.laws.specs.Tests.{pick-of, class-eq, class-refl, either}
 use Rattle.marks.specs.Marks.{needed, isFirst}
 use Rattle.meaning.specs.Stands.{Stands}
 use Rattle.meaning.specs.Marked.{Placed, Firsts, classFields, arrayFields, rowFields, fieldsFrom, All, namesOf, classFirst}
-use Rattle.meaning.specs.Tests.{pick-of, class-eq, class-refl}
 use Rattle.meaning.specs.Names.{class-at, array-at}
 use Rattle.meaning.specs.Bytes.{Numbered}
 use Rattle.meaning.specs.ClassBytes.{class-need}
@@ -25,7 +25,7 @@ use Rattle.meaning.specs.ArrayBytes.{array-need}
 use Rattle.meaning.specs.Entered.{librariesFor, libraries-append}
 use Rattle.meaning.specs.Stamps.{Fields}
 use Rattle.meaning.specs.LibrariesOut.{needsOut, Spelled, stretch-numbers, stretch-out}
-use Rattle.meaning.specs.Orders.{either, progressTo, progress-none, itemNeeds, isNew, rowNeeds, progress-libraries}
+use Rattle.meaning.specs.Orders.{progressTo, progress-none, itemNeeds, isNew, rowNeeds, progress-libraries}
 use Rattle.meaning.specs.Words.{first-kind, class-words, object-words}
 
 -- ---- the fields of the rows before a row, of the row, and of those after it

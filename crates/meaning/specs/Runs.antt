@@ -3,22 +3,23 @@
 use Prim.Native.Nat.{ℕ, zero, suc, _+_, _≤_, _<_}
 use mathlib.Core.Path.{_≡_, refl, sym, ap, subst, _∙_}
 use mathlib.Core.Bool.{Bool, true, false}
-use mathlib.Core.List.{List, [], _∷_, _++_, append-assoc}
+use mathlib.Core.List.{List, [], _∷_, _++_}
 use native.Mathlib.Omega.{arith}
-use lib.ListN.{length}
 use lib.Dec.{eqb, ltb}
 use borrow.Author.Tests.{eqb-true, eq-eqb, ne-eqb, ltb-true, ltb-false}
 use Rattle.format.specs.declared.Row.{Row}
-use Rattle.format.specs.Bytes.{pick, sameBytes}
-use Rattle.format.specs.Contents.{Rec, null, library, enc, encs}
-use Rattle.format.specs.Says.{Class, From, theSystem, theLibrary, What, anObject, aString, anArray, aPrimitive, aReference, aNull, aPrimitiveArray, anObjectArray, aStringArray, aValue, Node, arrayFrom, orderOf, objectsIn, whatFrom, spread, isNulls, isSilent, nodesOf}
-use Rattle.format.specs.Tidy.{sameClass, numberIn, Progress, Libraries, libraryRecords, allEntered, entered, classNeeds, detailNeeds, classBy, objectBy, recordsOf, afterWhat, Standing, ownedBy, pack, runOf, isNull, Run, noRun, written, waiting, squeeze}
+use Rattle.format.specs.Bytes.{pick}
+use Rattle.format.specs.Contents.{Rec, null, encs}
+use Rattle.format.specs.Says.{What, anObject, aString, anArray, aPrimitive, aReference, aNull, aPrimitiveArray, anObjectArray, aStringArray, aValue, Node, arrayFrom, orderOf, objectsIn, whatFrom, spread, isNulls, isSilent, nodesOf}
+use Rattle.format.specs.Tidy.{Progress, recordsOf, afterWhat, Standing, pack, runOf, Run, noRun, written, waiting, squeeze}
 use Rattle.fields.specs.Judged.{picked}
+use Rattle.laws.specs.Tests.{differ, either}
+use Rattle.laws.specs.Runs.{encs-append, Plain, Sort, a-null, plain, sort-of, squeeze-records}
 use Rattle.put.specs.Out.{runOut}
 use Rattle.writing.specs.declared.Gathered.{Gathered}
 use Rattle.writing.specs.Copy.{noneYet, isPassed, beforeOut, runAfter}
 use Rattle.meaning.specs.Stands.{Owner, no-owner, owned}
-use Rattle.meaning.specs.Orders.{either, differ, order-object, order-le, nodes-silent, nodes-nulls, nodes-one, said-other}
+use Rattle.meaning.specs.Orders.{order-object, order-le, nodes-silent, nodes-nulls, nodes-one, said-other}
 
 -- ---- owners
 
@@ -52,38 +53,7 @@ module _ (rows : List Row) where
       let e : a ≡ b = omega arith in
       eq-eqb (orderOf rows a) (orderOf rows b) (ap (orderOf rows) e) ∙ sym (eq-eqb a b e)))
 
--- ---- records in a row
-
-pub encs-append : (a b : List Rec) → encs (a ++ b) ≡ encs a ++ encs b
-unfolding encs
-encs-append [] b = refl
-encs-append (r ∷ a) b = ap (λ (x : List ℕ). enc r ++ x) (encs-append a b) ∙ sym (append-assoc (enc r) (encs a) (encs b))
-
--- records, at least one and none of them a null
-pub data Plain : List Rec → Type 0 where
-  just : {r : Rec} → isNull r ≡ false → Plain (r ∷ [])
-  more : {r : Rec} {rs : List Rec} → isNull r ≡ false → Plain rs → Plain (r ∷ rs)
-
--- library records may stand before them
-plain-libraries : (ns : List (List ℕ)) (ls : Libraries) (rs : List Rec) → Plain rs → Plain (libraryRecords ns ls ++ rs)
-unfolding libraryRecords
-plain-libraries [] ls rs p = p
-plain-libraries (n ∷ ns) ls rs p = go (eqb (numberIn (sameBytes n) ls) 0) (plain-libraries ns (entered n ls) rs p)
-  where
-    go : (b : Bool) → Plain (libraryRecords ns (entered n ls) ++ rs)
-        → Plain ((pick b (library (suc (length ls)) n ∷ []) [] ++ libraryRecords ns (entered n ls)) ++ rs)
-    go true q = more refl q
-    go false q = q
-
-plain-class : (ls : Libraries) (id : ℕ) (c : Class) (from : From) → Plain (classBy ls id c from ∷ [])
-plain-class ls id c theSystem = just refl
-plain-class ls id c (theLibrary n) = just refl
-
-plain-object : (n : ℕ) (w : Progress) (c : Class) → Plain (objectBy n w c)
-plain-object zero w c =
-    let ls : Libraries = allEntered (classNeeds c) (w .libraries) in
-    plain-libraries (classNeeds c) (w .libraries) (classBy ls (suc (w .count)) c (c .from) ∷ []) (plain-class ls (suc (w .count)) c (c .from))
-plain-object (suc n) w c = just refl
+-- ---- records of everything but a null
 
 -- a null
 abbrev pub isNothing : What → Bool
@@ -100,17 +70,11 @@ isNothing (aValue v) = false
 
 -- the records of everything but a null
 pub records-plain : (w : Progress) (a : What) → isNothing a ≡ false → Plain (recordsOf w a)
-unfolding recordsOf
-records-plain w (anObject c) h = plain-object (numberIn (sameClass c) (w .classes)) w c
-records-plain w (aString t) h = just refl
-records-plain w (anArray type lengths item items) h = plain-libraries (detailNeeds item) (w .libraries) _ (just refl)
-records-plain w (aPrimitive code v) h = just refl
-records-plain w (aReference target) h = just refl
-records-plain w aNull h = differ h
-records-plain w (aPrimitiveArray n code items) h = just refl
-records-plain w (anObjectArray n) h = just refl
-records-plain w (aStringArray n) h = just refl
-records-plain w (aValue v) h = just refl
+records-plain w a h = go a (sort-of w a) h
+  where
+    go : (x : What) → Sort w x → isNothing x ≡ false → Plain (recordsOf w x)
+    go x a-null e = differ e
+    go x (plain p) e = p
 
 -- only a row of nulls says a null
 pub what-some : (s : List ℕ) (rows : List Row) (r : Row) → isNothing (whatFrom s rows r) ≡ false
@@ -162,15 +126,6 @@ squeeze-run w k o rest = go (eqb o (w .owner))
     go false =
         let e : 1 + k ≡ suc k = omega arith in
         ap (λ (x : List Rec). runOf (w .count) ++ x) (squeeze-more 1 k o rest ∙ ap (λ (m : ℕ). squeeze (runBy o m) rest) e)
-
--- any other record ends a run
-pub squeeze-records : (w : Run) (o : ℕ) {rs : List Rec} → Plain rs → (rest : List Standing)
-    → squeeze w (ownedBy o rs ++ rest) ≡ runOf (w .count) ++ (rs ++ squeeze noRun rest)
-unfolding squeeze written waiting runOf
-squeeze-records w o (just {r = r} e) rest = rw e (append-assoc (runOf (w .count)) (r ∷ []) (squeeze noRun rest))
-squeeze-records w o (more {r = r} {rs = rs} e p) rest =
-    rw e (append-assoc (runOf (w .count)) (r ∷ []) (squeeze noRun (ownedBy o rs ++ rest))
-    ∙ ap (λ (x : List Rec). runOf (w .count) ++ r ∷ x) (squeeze-records noRun o p rest))
 
 pub pack-nulls : (w : Progress) (n o slot : ℕ) (ns : List Node) → pack w (spread n o slot ++ ns) ≡ nullsOf n o ++ pack w ns
 unfolding pack spread recordsOf afterWhat

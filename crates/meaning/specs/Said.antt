@@ -3,84 +3,64 @@ use Prim.Native.Nat.{ℕ, suc, _+_, _-_}
 use mathlib.Core.Path.{_≡_, ap, _∙_}
 use mathlib.Core.List.{List, [], _∷_, _++_}
 use lib.ListN.{getD}
-use lib.Dec.{eqb}
 use Rattle.format.specs.declared.Row.{Row}
-use Rattle.format.specs.Bytes.{pick, part}
+use Rattle.format.specs.Bytes.{part}
 use Rattle.format.specs.Rows.{blank}
 use Rattle.format.specs.Contents.{string, array, typedPrimitive, reference, primitiveArray, objectArray, stringArray, value}
-use Rattle.format.specs.Says.{What, anObject, aString, aPrimitive, aReference, aPrimitiveArray, anObjectArray, aStringArray, aValue, textFrom, codeFrom, classFrom, arrayFrom, orderOf, whatFrom}
+use Rattle.format.specs.Says.{textFrom, codeFrom, classFrom, orderOf, whatFrom}
 use Rattle.format.specs.Tidy.{Progress, numberIn, sameClass, allEntered, libraryRecords, detailNeeds, detailBy, objectBy, recordsOf}
 use Rattle.put.specs.Out.{between}
 use Rattle.meaning.specs.ArrayBytes.{arrayItem, itemsPlace, arrayLengths, array-from}
-
--- what a row would say if it had this kind
-abbrev pub whatBy : List ℕ → List Row → Row → ℕ → What
-whatBy s rows r kind =
-    pick (eqb kind 1) (anObject (classFrom s rows (getD rows (r .link - 1) blank)))
-    (pick (eqb kind 4) (anObject (classFrom s rows r))
-    (pick (eqb kind 5) (anObject (classFrom s rows r))
-    (pick (eqb kind 6) (aString (textFrom s (r .offset + 5)))
-    (pick (eqb kind 7) (arrayFrom s rows r)
-    (pick (eqb kind 8) (aPrimitive (codeFrom s (r .offset + 1)) (part s (r .offset + 2) (r .end - (r .offset + 2))))
-    (pick (eqb kind 9) (aReference (orderOf rows (r .link)))
-    (pick (eqb kind 15) (aPrimitiveArray (r .count) (codeFrom s (r .offset + 9)) (part s (r .offset + 10) (r .end - (r .offset + 10))))
-    (pick (eqb kind 16) (anObjectArray (r .count))
-    (pick (eqb kind 17) (aStringArray (r .count))
-    (aValue (part s (r .offset) (r .end - r .offset))))))))))))
+use Rattle.meaning.specs.Orders.{what-as}
 
 module _ (s : List ℕ) (rows : List Row) (r : Row) where
-  -- with a numeral for the kind, the right side computes
-  pub what-is : (kind : ℕ) → r .kind ≡ kind → whatFrom s rows r ≡ whatBy s rows r kind
-  unfolding whatFrom
-  what-is kind k = ap (whatBy s rows r) k
-
   module _ (w : Progress) where
     pub records-by-id : r .kind ≡ 1 → recordsOf w (whatFrom s rows r)
         ≡ objectBy (numberIn (sameClass (classFrom s rows (getD rows (r .link - 1) blank))) (w .classes)) w (classFrom s rows (getD rows (r .link - 1) blank))
     unfolding recordsOf
-    records-by-id k = ap (recordsOf w) (what-is 1 k)
+    records-by-id k = ap (recordsOf w) (what-as s rows r 1 k)
 
     pub records-system : r .kind ≡ 4 → recordsOf w (whatFrom s rows r) ≡ objectBy (numberIn (sameClass (classFrom s rows r)) (w .classes)) w (classFrom s rows r)
     unfolding recordsOf
-    records-system k = ap (recordsOf w) (what-is 4 k)
+    records-system k = ap (recordsOf w) (what-as s rows r 4 k)
 
     pub records-class : r .kind ≡ 5 → recordsOf w (whatFrom s rows r) ≡ objectBy (numberIn (sameClass (classFrom s rows r)) (w .classes)) w (classFrom s rows r)
     unfolding recordsOf
-    records-class k = ap (recordsOf w) (what-is 5 k)
+    records-class k = ap (recordsOf w) (what-as s rows r 5 k)
 
     pub records-string : r .kind ≡ 6 → recordsOf w (whatFrom s rows r) ≡ string (suc (w .count)) (textFrom s (r .offset + 5)) ∷ []
     unfolding recordsOf
-    records-string k = ap (recordsOf w) (what-is 6 k)
+    records-string k = ap (recordsOf w) (what-as s rows r 6 k)
 
     pub records-array : r .kind ≡ 7 → recordsOf w (whatFrom s rows r)
         ≡ libraryRecords (detailNeeds (arrayItem s rows r)) (w .libraries)
         ++ (array (suc (w .count)) (getD s (r .offset + 5) 0) (arrayLengths s r)
         (detailBy (allEntered (detailNeeds (arrayItem s rows r)) (w .libraries)) (arrayItem s rows r)) (between s (itemsPlace s r) (r .end)) ∷ [])
     unfolding recordsOf
-    records-array k = ap (recordsOf w) (what-is 7 k ∙ array-from s rows r)
+    records-array k = ap (recordsOf w) (what-as s rows r 7 k ∙ array-from s rows r)
 
     pub records-typed : r .kind ≡ 8 → recordsOf w (whatFrom s rows r)
         ≡ typedPrimitive (codeFrom s (r .offset + 1)) (part s (r .offset + 2) (r .end - (r .offset + 2))) ∷ []
     unfolding recordsOf
-    records-typed k = ap (recordsOf w) (what-is 8 k)
+    records-typed k = ap (recordsOf w) (what-as s rows r 8 k)
 
     pub records-reference : r .kind ≡ 9 → recordsOf w (whatFrom s rows r) ≡ reference (orderOf rows (r .link)) ∷ []
     unfolding recordsOf
-    records-reference k = ap (recordsOf w) (what-is 9 k)
+    records-reference k = ap (recordsOf w) (what-as s rows r 9 k)
 
     pub records-primitives : r .kind ≡ 15 → recordsOf w (whatFrom s rows r)
         ≡ primitiveArray (suc (w .count)) (r .count) (codeFrom s (r .offset + 9)) (part s (r .offset + 10) (r .end - (r .offset + 10))) ∷ []
     unfolding recordsOf
-    records-primitives k = ap (recordsOf w) (what-is 15 k)
+    records-primitives k = ap (recordsOf w) (what-as s rows r 15 k)
 
     pub records-objects : r .kind ≡ 16 → recordsOf w (whatFrom s rows r) ≡ objectArray (suc (w .count)) (r .count) ∷ []
     unfolding recordsOf
-    records-objects k = ap (recordsOf w) (what-is 16 k)
+    records-objects k = ap (recordsOf w) (what-as s rows r 16 k)
 
     pub records-texts : r .kind ≡ 17 → recordsOf w (whatFrom s rows r) ≡ stringArray (suc (w .count)) (r .count) ∷ []
     unfolding recordsOf
-    records-texts k = ap (recordsOf w) (what-is 17 k)
+    records-texts k = ap (recordsOf w) (what-as s rows r 17 k)
 
     pub records-value : r .kind ≡ 32 → recordsOf w (whatFrom s rows r) ≡ value (part s (r .offset) (r .end - r .offset)) ∷ []
     unfolding recordsOf
-    records-value k = ap (recordsOf w) (what-is 32 k)
+    records-value k = ap (recordsOf w) (what-as s rows r 32 k)

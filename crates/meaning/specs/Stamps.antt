@@ -15,9 +15,11 @@ use Rattle.format.specs.Says.{textFrom}
 use Rattle.format.specs.Tidy.{numberIn, Libraries, entered, allEntered}
 use Rattle.same.specs.Laws.{same-eq, same-refl}
 use Rattle.table.specs.Find.{find-hit}
+use Rattle.laws.specs.Tests.{both-of}
+use Rattle.laws.specs.Numbers.{Counted, counted-more, number-new, number-other, entered-new, entered-old, entered-has, all-more}
 use Rattle.marks.specs.Marks.{Pass, pass, word, rowAt, withSlot, libraryAt, need, needed}
 use Rattle.meaning.specs.Marked.{nameAtField, namesOf, libraryFirst, fieldsFrom, All, none, both}
-use Rattle.meaning.specs.Entered.{Counted, counted-more, number-new, number-other, entered-new, entered-old, entered-has, librariesFor, all-more}
+use Rattle.meaning.specs.Entered.{librariesFor}
 use Rattle.meaning.specs.Needs.{Like, Aimed, like-self, like-at, entering, need-is, need-like, needAll, all-needs, all-keeps, all-left, all-right, all-first, needed-fields, needed-like}
 
 -- ---- premises
@@ -71,11 +73,7 @@ unfolding libraryFirst
 first-name s rows n j e =
     let h = find-hit (λ (r : Row). eqb (r .kind) 12 && sameBytes n (textFrom s (r .offset + 5))) rows j e in
     same-eq n (textFrom s (getD rows j blank .offset + 5))
-    (right (eqb (getD rows j blank .kind) 12) (sameBytes n (textFrom s (getD rows j blank .offset + 5))) (h .1))
-  where
-    right : (a b : Bool) → (a && b) ≡ true → b ≡ true
-    right true b h = h
-    right false b h = absurd (true≢false (sym h))
+    (both-of (eqb (getD rows j blank .kind) 12) (sameBytes n (textFrom s (getD rows j blank .offset + 5))) (h .1) .1)
 
 pub one-name : (s : List ℕ) (rows : List Row) (n m : List ℕ) (j : ℕ) → libraryFirst s rows n ≡ suc j → libraryFirst s rows m ≡ suc j → n ≡ m
 one-name s rows n m j e f = first-name s rows n j e ∙ sym (first-name s rows m j f)

@@ -15,13 +15,15 @@ use Rattle.format.specs.Rows.{blank, isClass}
 use Rattle.format.specs.Contents.{Rec, header, end, enc, encs}
 use Rattle.format.specs.Says.{Node, orderOf, whatFrom, isNulls, isSilent, nodesOf, nodesFrom, says}
 use Rattle.format.specs.Tidy.{Progress, nothing, recordsOf, afterWhat, pack, Run, noRun, runOf, squeeze, tidyRecords, tidyOf}
+use Rattle.laws.specs.Tests.{differ, either}
+use Rattle.laws.specs.Runs.{encs-append}
 use Rattle.put.specs.Out.{between, headOut, byIdOut, headerOut, runOut}
 use Rattle.marks.specs.Marks.{rowAt}
 use Rattle.writing.specs.declared.Gathered.{Gathered}
 use Rattle.writing.specs.Copy.{objectOut, arrayOut, keptOut, stringOut, recordOut, noneYet, isPassed, beforeOut, runAfter, rowOut, copyFrom, copyOf}
 use Rattle.meaning.specs.Stands.{RowStands, the-header, by-id, a-class, a-string, an-array, a-primitive, a-reference, nulls, the-end, a-library, primitives, objects, texts, a-value, Stands}
-use Rattle.meaning.specs.Orders.{either, differ, said-other, nodes-silent, after-silent, after-run, after-said, progressTo, progress-none, progress-next}
-use Rattle.meaning.specs.Runs.{encs-append, Match, match-none, nulls-kind, nulls-speak, nodes-passed, passed-library, before-passed, run-passed, before-other, run-other, nullsAfter, null-match, null-row, end-row, other-row}
+use Rattle.meaning.specs.Orders.{said-other, nodes-silent, after-silent, after-run, after-said, progressTo, progress-none, progress-next}
+use Rattle.meaning.specs.Runs.{Match, match-none, nulls-kind, nulls-speak, nodes-passed, passed-library, before-passed, run-passed, before-other, run-other, nullsAfter, null-match, null-row, end-row, other-row}
 
 -- ---- where the header and the end stand
 

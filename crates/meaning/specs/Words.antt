@@ -10,6 +10,8 @@ use lib.Dec.{eqb}
 use Rattle.format.specs.declared.Row.{Row}
 use Rattle.format.specs.Rows.{blank, isObject, isClass, withLink}
 use Rattle.format.specs.Says.{orderOf, classFrom}
+use Rattle.laws.specs.Tests.{differ, either}
+use Rattle.laws.specs.Kinds.{class-is-object}
 use Rattle.marks.specs.Marks.{rowAt, withId, withSlot, firstClass}
 use Rattle.meaning.specs.Stands.{Target, Stands}
 use Rattle.meaning.specs.Marked.{Placed, Firsts, classFirst}
@@ -17,7 +19,6 @@ use Rattle.meaning.specs.Passes.{object-not-library}
 use Rattle.meaning.specs.Names.{class-at, placed-class, placed-kind, firsts-word}
 use Rattle.meaning.specs.Equal.{class-first}
 use Rattle.meaning.specs.Needs.{Like}
-use Rattle.meaning.specs.Orders.{either, differ, class-is-object}
 
 module _ (s : List ℕ) (rows ps fs : List Row) (st : Stands s rows) (pl : Placed s rows ps) (fi : Firsts s rows ps fs) where
   -- ---- before libraries are numbered

@@ -1,6 +1,6 @@
 -- LibraryIds and the details of types at a place (01, Records; 2.1.2.2): those that the grammar takes are those that end, and a detail read
 -- at a place is one written there. Its library is given by number.
-use Prim.Native.Nat.{ℕ, zero, suc, _+_, _-_, _≤_}
+use Prim.Native.Nat.{ℕ, _+_, _-_, _≤_}
 use mathlib.Core.Path.{_≡_, refl, sym, ap, _∙_, subst}
 use mathlib.Core.Bool.{Bool, true, false}
 use mathlib.Core.List.{List, [], _++_}
@@ -26,10 +26,11 @@ use Rattle.fields.specs.Sequence.{through}
 use Rattle.num.specs.Le.{Bytes}
 use Rattle.types.specs.Ends.{library-end}
 use Rattle.types.specs.Keeps.{library-told}
+use Rattle.laws.specs.Fields.{by-type, positive-bits}
 use Rattle.classes.specs.Moves.{known-moves}
 use Rattle.places.specs.Env.{envOf, library-id, library-id-good}
 use Rattle.places.specs.Stand.{Stand, stand-size, stand-none, stand-then, stand-split}
-use Rattle.places.specs.Fields.{Number, number-size, number-there, number-back, number-from, positive-bits, name-there, name-text, name-after, name-back, code-there, code-from, code-back}
+use Rattle.places.specs.Fields.{Number, number-size, number-there, number-back, number-from, name-there, name-text, name-after, name-back, code-there, code-from, code-back}
 
 -- ---- LibraryIds
 
@@ -129,18 +130,6 @@ byte-small (class n l) = omega arith
 byte-small objects = omega arith
 byte-small texts = omega arith
 byte-small (primitives c) = omega arith
-
--- the eight type bytes
-by-type : (P : ℕ → Type 0) → P 0 → P 1 → P 2 → P 3 → P 4 → P 5 → P 6 → P 7 → (b : ℕ) → b ≤ 7 → P b
-by-type P p0 p1 p2 p3 p4 p5 p6 p7 zero h = p0
-by-type P p0 p1 p2 p3 p4 p5 p6 p7 (suc zero) h = p1
-by-type P p0 p1 p2 p3 p4 p5 p6 p7 (suc (suc zero)) h = p2
-by-type P p0 p1 p2 p3 p4 p5 p6 p7 (suc (suc (suc zero))) h = p3
-by-type P p0 p1 p2 p3 p4 p5 p6 p7 (suc (suc (suc (suc zero)))) h = p4
-by-type P p0 p1 p2 p3 p4 p5 p6 p7 (suc (suc (suc (suc (suc zero))))) h = p5
-by-type P p0 p1 p2 p3 p4 p5 p6 p7 (suc (suc (suc (suc (suc (suc zero)))))) h = p6
-by-type P p0 p1 p2 p3 p4 p5 p6 p7 (suc (suc (suc (suc (suc (suc (suc zero))))))) h = p7
-by-type P p0 p1 p2 p3 p4 p5 p6 p7 (suc (suc (suc (suc (suc (suc (suc (suc n)))))))) h = absurd (omega arith)
 
 module _ (s : List ℕ) (p : ℕ) where
   pub detail-byte : (b : ℕ) → b ≤ 7 → typeByte (detailIn s b p) ≡ b

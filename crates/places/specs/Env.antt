@@ -18,6 +18,7 @@ use Rattle.format.specs.Types.{typedAt, moved, positive}
 use Rattle.format.specs.Rows.{blank, isObject, isClass, findFrom, objectRow, classRow, libraryRow}
 use Rattle.format.specs.Records.{within, goodClassId, goodId}
 use Rattle.format.specs.Grammar.{Entry, aClass, another, aLibrary, used, known, Classed, classed, unknown, classOf, ClassId, ObjectId, LibraryId}
+use Rattle.laws.specs.Tests.{both-of}
 
 -- ---- the environment
 
@@ -184,15 +185,10 @@ module _ (s : List ℕ) (rows : List Row) where
 
 -- ---- the tests of a record's numbers are those of the grammar
 
-pub both : (a b : Bool) → (a && b) ≡ true → (a ≡ true) × (b ≡ true)
-both true b e = (refl, e)
-both false true e = (e, refl)
-both false false e = (e, e)
-
 module _ (s : List ℕ) (rows : List Row) (i : ℕ) where
   pub class-id : goodClassId rows i ≡ true → i < 4294967296 → ClassId i (envOf s rows)
   class-id e h =
-      let w = both (not (eqb i 0)) (eqb (objectRow i rows) 0) e in
+      let w = both-of (not (eqb i 0)) (eqb (objectRow i rows) 0) e in
       record { apart = not-true (eqb i 0) (w .0); bits = h; fresh = used-is s i rows ∙ rw (w .1) }
 
   pub class-id-good : ClassId i (envOf s rows) → goodClassId rows i ≡ true
@@ -200,7 +196,7 @@ module _ (s : List ℕ) (rows : List Row) (i : ℕ) where
 
   pub object-id : goodId rows i ≡ true → ObjectId i (envOf s rows)
   object-id e =
-      let w = both (positive i) (eqb (objectRow i rows) 0) e in
+      let w = both-of (positive i) (eqb (objectRow i rows) 0) e in
       record { sign = w .0; fresh = used-is s i rows ∙ rw (w .1) }
 
   pub object-id-good : ObjectId i (envOf s rows) → goodId rows i ≡ true
@@ -215,7 +211,7 @@ module _ (s : List ℕ) (rows : List Row) (i : ℕ) where
   -- the LibraryId of a library record is new
   pub library-new : (positive i && eqb (libraryRow i rows) 0) ≡ true → (positive i ≡ true) × (known i (envOf s rows) ≡ false)
   library-new e =
-      let w = both (positive i) (eqb (libraryRow i rows) 0) e in
+      let w = both-of (positive i) (eqb (libraryRow i rows) 0) e in
       (w .0, known-is s i rows ∙ rw (w .1))
 
   pub library-new-good : positive i ≡ true → known i (envOf s rows) ≡ false → (positive i && eqb (libraryRow i rows) 0) ≡ true

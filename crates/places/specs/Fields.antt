@@ -74,14 +74,6 @@ not-negative n h = lt-leb 2147483648 n h
 pub below-negative : (n : ℕ) → negative n ≡ false → n < 2147483648
 below-negative n e = leb-false 2147483648 n e
 
-pub positive-bits : (n : ℕ) → positive n ≡ true → n < 4294967296
-positive-bits n e = go (eqb n 0) (negative n) refl e
-  where
-    go : (a b : Bool) → negative n ≡ b → (not a && not b) ≡ true → n < 4294967296
-    go a false h e = let z = below-negative n h in omega arith
-    go true true h e = absurd (let z : _≡_ {A = ℕ} 0 1 = cc in omega arith)
-    go false true h e = absurd (let z : _≡_ {A = ℕ} 0 1 = cc in omega arith)
-
 -- ---- names
 
 module _ (s t : List ℕ) (p e : ℕ) (n : Name t) (w : Stand s (stringBytes t) p e) where

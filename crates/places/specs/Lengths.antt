@@ -6,7 +6,7 @@ use mathlib.Core.Bool.{Bool, true, false}
 use mathlib.Core.List.{List, [], _∷_}
 use native.Mathlib.Omega.{arith}
 use native.Mathlib.Nat.{mul-assoc}
-use lib.ListN.{length, length-append}
+use lib.ListN.{length}
 use lib.Dec.{leb}
 use borrow.Author.Tests.{le-leb, leb-true, eqb-true}
 use Rattle.format.specs.declared.Refusal.{Refusal}
@@ -21,8 +21,8 @@ use Rattle.format.specs.Contents.{numbersBytes}
 use Rattle.format.specs.Says.{numberFrom, numbersFrom}
 use Rattle.format.specs.Grammar.{product, Lengths, no-length, length-of, Ranked, single, jagged, rectangular}
 use Rattle.fields.specs.Judged.{told}
-use Rattle.num.specs.Le.{Bytes, length-leBytes}
-use Rattle.places.specs.Env.{both}
+use Rattle.num.specs.Le.{Bytes}
+use Rattle.laws.specs.Tests.{both-of}
 use Rattle.places.specs.Stand.{Stand, stand-size, stand-none, stand-then, stand-split}
 use Rattle.places.specs.Fields.{number-size, number-there, number-back, number-from, not-negative, below-negative}
 
@@ -37,7 +37,7 @@ pub ranked-back : (type rank : ℕ) → type ≤ 2 → goodRank type rank ≡ tr
 ranked-back zero rank h e = subst (λ (n : ℕ). Ranked 0 n) (sym (eqb-true rank 1 e)) single
 ranked-back (suc zero) rank h e = subst (λ (n : ℕ). Ranked 1 n) (sym (eqb-true rank 1 e)) jagged
 ranked-back (suc (suc zero)) rank h e =
-    let w = both (leb 2 rank) (leb rank 32) e in
+    let w = both-of (leb 2 rank) (leb rank 32) e in
     rectangular (leb-true 2 rank (w .0)) (leb-true rank 32 (w .1))
 ranked-back (suc (suc (suc n))) rank h e = absurd (omega arith)
 
@@ -50,18 +50,6 @@ ranked-small type rank (rectangular h g) = (omega arith, g)
 
 no-product : {A : Type 0} (f : Refusal) (m e : ℕ) → L.Fault f ≡ L.Product m e → A
 no-product f m e q = absurd (let z : _≡_ {A = ℕ} 0 1 = cc in omega arith)
-
-pub length-numbers : (s : List ℕ) (n p : ℕ) → length (numbersFrom s n p) ≡ n
-unfolding numbersFrom
-length-numbers s zero p = refl
-length-numbers s (suc n) p = ap suc (length-numbers s n (p + 4))
-
-pub length-numbers-bytes : (ns : List ℕ) → length (numbersBytes ns) ≡ 4 * length ns
-length-numbers-bytes [] = refl
-length-numbers-bytes (n ∷ ns) =
-    let a = length-leBytes 4 n in
-    let b = length-numbers-bytes ns in
-    length-append (leBytes 4 n) (numbersBytes ns) ∙ omega arith
 
 module _ (s : List ℕ) where
   -- over the product k of the lengths before

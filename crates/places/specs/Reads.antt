@@ -16,9 +16,10 @@ use Rattle.format.specs.Rows.{isClass}
 use Rattle.format.specs.Records.{headerAt, stringRecordAt, typedPrimitiveAt, referenceAt, nullsAt, longNullsAt, libraryAt, headingAt}
 use Rattle.format.specs.Contents.{Rec, header, string, typedPrimitive, reference, null, nulls, manyNulls, end, library, enc}
 use Rattle.format.specs.Grammar.{Name, Value, ObjectId, known}
+use Rattle.laws.specs.Fields.{positive-bits}
 use Rattle.places.specs.Env.{envOf, entryOf, object-id-good, library-new-good}
 use Rattle.places.specs.Stand.{Stand, stand-size, stand-split, stand-inside, stand-here, stand-after}
-use Rattle.places.specs.Fields.{number-there, positive-bits, name-there, code-there, code-from}
+use Rattle.places.specs.Fields.{number-there, name-there, code-there, code-from}
 use Rattle.places.specs.Values.{value-there}
 use Rattle.places.specs.Recs.{entryFor, rowWith, There, plainHead, plain-told}
 

@@ -21,9 +21,10 @@ use Rattle.format.specs.Records.{slotArrayAt, primitiveArrayAt, lengthsAt, item
 use Rattle.format.specs.Contents.{Detail, typeByte, infoBytes, slotFor, Rec, array, primitive, primitiveArray, objectArray, stringArray, numbersBytes, enc}
 use Rattle.format.specs.Grammar.{GoodDetail, ObjectId, Values, Shape, product, Array, of-objects, of-strings, of-primitives, of-any, of-values}
 use Rattle.types.specs.Ends.{type-end}
+use Rattle.laws.specs.Fields.{positive-bits}
 use Rattle.places.specs.Env.{envOf, entryOf, object-id-good}
 use Rattle.places.specs.Stand.{Stand, stand-size, stand-split, stand-inside, stand-here, stand-after}
-use Rattle.places.specs.Fields.{number-there, not-negative, positive-bits, code-there, code-from}
+use Rattle.places.specs.Fields.{number-there, not-negative, code-there, code-from}
 use Rattle.places.specs.Values.{items-there}
 use Rattle.places.specs.Details.{detail-there, detail-in, detail-slot, byte-small}
 use Rattle.places.specs.Lengths.{ranked-there, ranked-small, lengths-there}

@@ -24,12 +24,13 @@ use Rattle.format.specs.Says.{codeFrom, numbersFrom}
 use Rattle.format.specs.Grammar.{GoodDetail, ObjectId, Shape, product, Array, of-objects, of-strings, of-primitives, of-any, of-values}
 use Rattle.num.specs.Le.{Bytes}
 use Rattle.types.specs.Keeps.{type-told}
+use Rattle.laws.specs.Fields.{length-numbers}
 use Rattle.places.specs.Env.{envOf, entryOf, object-id}
 use Rattle.places.specs.Stand.{Stand, stand-none, stand-byte, stand-is, stand-then}
 use Rattle.places.specs.Fields.{number-back, below-negative, code-back}
 use Rattle.places.specs.Values.{items-back}
 use Rattle.places.specs.Details.{detailIn, detail-byte, detail-slot, detail-back}
-use Rattle.places.specs.Lengths.{ranked-back, length-numbers, LengthsAt, lengths-back}
+use Rattle.places.specs.Lengths.{ranked-back, LengthsAt, lengths-back}
 use Rattle.places.specs.Recs.{is-array, entryFor, rowWith, Back, slottedHead, slotted-told}
 use Rattle.places.specs.Tells.{Said, said-number, said-field, said-slots, said-if, plain-back}
 

@@ -21,14 +21,15 @@ use Rattle.format.specs.Contents.{Rec, header, string, typedPrimitive, referenc
 use Rattle.format.specs.Grammar.{Entry, another, aLibrary, Value, typesOf, Cur, cur, size, rowOf, Object, system-class, library-class, class-by-id, Body, hollow, Slots, full, member-value, an-object, a-string, a-typed-primitive, a-reference, a-null, a-run, a-long-run, a-library, Array, of-objects, of-strings, of-primitives, of-any, of-values, Objects, the-end, one-object, one-string, one-array, one-library, Reading}
 use Rattle.format.specs.Grammar as G
 use Rattle.format.specs.Machine.{Open, State, Outcome, accepted, go, ended, close, filledBy, filled, opened, rowIn, valueHead, step, finish, onward, run, start, begin, readOf}
-use Rattle.num.specs.Le.{length-leBytes}
 use Rattle.table.specs.Links.{length-linked}
 use Rattle.values.specs.Keeps.{value-moves}
+use Rattle.laws.specs.Fields.{size-header}
+use Rattle.laws.specs.Ids.{Shown, objects-shown, id-there}
 use Rattle.places.specs.Env.{slotsFrom, envFrom, entryOf, envOf, env-more}
 use Rattle.places.specs.Stand.{Stand, stand-of, stand-rest}
 use Rattle.places.specs.Recs.{Good, is-header, is-class-by-id, is-system-class, is-library-class, is-string, is-typed-primitive, is-reference, is-null, is-end, is-library, is-nulls, is-many-nulls, is-array, entryFor, rowWith}
 use Rattle.places.specs.Read.{member-read}
-use Rattle.readings.specs.Rows.{bare, bare-more, first-id, linked-bare, row-bare, Shown, shown-bare, objects-shown, id-there, none-lost}
+use Rattle.readings.specs.Rows.{bare, bare-more, first-id, linked-bare, row-bare, shown-bare, none-lost}
 use Rattle.readings.specs.Frames.{openAt, still-open, shut, filled-is, left-slots, number-on, frameOf, spent, Nearest, next-slot, Passing, run-law, opened-is, takes-strings, class-slot, class-top, allows, allows-any, allows-object, typed-primitive-slot, array-kinds, allows-top, top-kinds}
 use Rattle.readings.specs.Steps.{stateAt, Allows, Taken, record-taken, fillsOne, isRun, value-goes, hollow-goes, object-goes, fills-goes, run-goes, library-goes, end-goes, top-filled, header-goes}
 
@@ -68,10 +69,6 @@ size-nulls k = refl
 size-value : (v : List ℕ) → size (value v) ≡ length v
 unfolding enc
 size-value v = refl
-
-size-header : (root h : ℕ) → size (header root h) ≡ 17
-unfolding enc
-size-header root h = simp (length-append, length-leBytes)
 
 encs-first : (r : Rec) (rs : List Rec) → encs (r ∷ rs) ≡ enc r ++ encs rs
 unfolding encs

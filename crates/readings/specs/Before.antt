@@ -18,12 +18,13 @@ use Rattle.format.specs.Records.{allowed}
 use Rattle.format.specs.Contents.{Rec}
 use Rattle.format.specs.Grammar.{Entry, Cur, cur, rowOf, Body, Objects}
 use Rattle.format.specs.Machine.{filledBy, whereIn}
+use Rattle.laws.specs.Tests.{apart}
 use Rattle.places.specs.Recs.{Good}
 use Rattle.readings.specs.Steps.{whereOf}
 use Rattle.readings.specs.Frames.{spent}
 use Rattle.readings.specs.Shape.{Ran, Sound, Based, Tight}
 use Rattle.readings.specs.Rest.{Rest, fill-one, fill-none, fill-run}
-use Rattle.readings.specs.Fills.{no-way, after, top-object, slot-object, top-library, slot-library, slot-run, slot-long-run, slot-plain, top-plain}
+use Rattle.readings.specs.Fills.{after, top-object, slot-object, top-library, slot-library, slot-run, slot-long-run, slot-plain, top-plain}
 
 module _ (s : List ℕ) (f : Frame) (at row : ℕ) (rs : List Rec) (is : List Row) {es : List Entry} where
   pub object-rest : (gs : List Frame) {k id count class : ℕ} {r : Rec} {ts : List SlotType} (c : Cur) → Good es k r id count class ts → isObject k ≡ true
@@ -66,4 +67,4 @@ module _ (s : List ℕ) (f : Frame) (at row : ℕ) (rs : List Rec) (is : List Ro
           at-kind 13 (eqb-true k 13 x) (λ g. fill-run s f h gs b t _ _ count u l n (λ us vs c₂ i j m x. slot-run (f .typed .slot) us vs g p (omega arith) j m x) q)
       by-kind false x true y e =
           at-kind 14 (eqb-true k 14 y) (λ g. fill-run s f h gs b t _ _ count u l n (λ us vs c₂ i j m x. slot-long-run (f .typed .slot) us vs g p (omega arith) j m x) q)
-      by-kind false x false y e = no-way e
+      by-kind false x false y e = apart e

@@ -5,7 +5,7 @@ use mathlib.Core.Path.{_≡_, refl, sym, ap, _∙_, subst}
 use mathlib.Core.Bool.{false}
 use mathlib.Core.List.{List, [], _∷_, _++_, map}
 use native.Mathlib.Omega.{arith}
-use lib.ListN.{length, getD, length-append}
+use lib.ListN.{length, getD}
 use lib.Dec.{ltb, eqb}
 use borrow.Author.Tests.{ltb-false, eqb-true}
 use Rattle.format.specs.declared.Refusal.{Refusal}
@@ -22,23 +22,25 @@ use Rattle.format.specs.declared.Frame.{Frame}
 use Rattle.format.specs.Rows.{blank, objectRow, findFrom, isLost, linked}
 use Rattle.format.specs.Records.{allowed, kindAt, headingAt}
 use Rattle.format.specs.Contents.{Rec, header, enc}
-use Rattle.format.specs.Grammar.{Reading, Entry, cur, rowOf, size, Objects}
+use Rattle.format.specs.Grammar.{Reading, Entry, cur, rowOf, Objects}
 use Rattle.format.specs.Machine.{State, Next, go, ended, refuse, close, filled, add, act, onKind, recordStep, topLevel, step, Outcome, accepted, refused, finish, onward, run, start, begin, readOf}
 use Rattle.fields.specs.Judged.{picked}
-use Rattle.num.specs.Le.{Bytes, length-leBytes}
+use Rattle.num.specs.Le.{Bytes}
 use Rattle.table.specs.Links.{length-linked}
+use Rattle.laws.specs.Tests.{apart}
+use Rattle.laws.specs.Fields.{size-header}
+use Rattle.laws.specs.Ids.{shown-more, objects-shown, id-back}
 use Rattle.records.specs.Kinds.{kind-byte}
 use Rattle.places.specs.Env.{envFrom}
 use Rattle.places.specs.Recs.{Good, is-header, Told, Back, rowWith, told-env, told-end}
 use Rattle.places.specs.Tell.{record-told}
 use Rattle.readings.specs.Steps.{stateAt}
 use Rattle.readings.specs.Frames.{openAt}
-use Rattle.readings.specs.Rows.{bare, row-bare, linked-bare, shown-bare, shown-more, objects-shown, id-back, targets-back}
+use Rattle.readings.specs.Rows.{bare, row-bare, linked-bare, shown-bare, targets-back}
 use Rattle.readings.specs.Shape.{based-spent}
 use Rattle.readings.specs.Goal.{Goal, same-cur}
 use Rattle.readings.specs.Said.{Between, NextSaid}
 use Rattle.readings.specs.StepSaid.{step-said}
-use Rattle.readings.specs.Fills.{no-way}
 
 -- ---- after the end record
 
@@ -130,10 +132,6 @@ module _ (s : List ℕ) (byte : Bytes s) (room : ℕ) (rows : List Row) where
 
   -- ---- the whole stream
 
-  size-header : (root h : ℕ) → size (header root h) ≡ 17
-  unfolding enc
-  size-header root h = simp (length-append, length-leBytes)
-
   reading-of : length s ≤ 16777216 → (h : Head) {es : List Entry} {id count class : ℕ} {r : Rec} {ts : List SlotType} → Good es 0 r id count class ts
       → Told s 0 0 h r id count class ts → Comes s room (headed h) rows → Reading s rows × (length rows ≤ room)
   unfolding envFrom
@@ -167,7 +165,7 @@ module _ (s : List ℕ) (byte : Bytes s) (room : ℕ) (rows : List Row) where
       )
 
   begun : (h : Head) → Between (headed h)
-  begun h = record { later = (λ t. no-way t, tt); shaped = record { tight = tt; based = refl } }
+  begun h = record { later = (λ t. apart t, tt); shaped = record { tight = tt; based = refl } }
 
 -- a stream that is accepted has a reading with these rows, and they fit the table
 pub accepted-reading : (s : List ℕ) → Bytes s → (room : ℕ) (rows : List Row) → readOf s room ≡ accepted rows → Reading s rows × (length rows ≤ room)

@@ -18,14 +18,12 @@ use Rattle.format.specs.Records.{allowed}
 use Rattle.format.specs.Contents.{Rec, enc}
 use Rattle.format.specs.Grammar as G
 use Rattle.format.specs.Grammar.{Entry, another, Cur, cur, rowOf, size, takesObjects, takesStrings, somePrimitive, system-class, library-class, class-by-id, Body, hollow, Slots, an-object, a-string, a-typed-primitive, a-reference, a-null, a-run, a-long-run, a-library, Array, of-objects, of-strings, of-primitives, of-any, of-values, Objects, the-end, one-object, one-string, one-array, one-library}
+use Rattle.laws.specs.Tests.{apart}
 use Rattle.places.specs.Recs.{Good, is-header, is-class-by-id, is-system-class, is-library-class, is-string, is-typed-primitive, is-reference, is-null, is-end, is-library, is-nulls, is-many-nulls, is-array, entryFor}
 use Rattle.readings.specs.Steps.{whereOf}
 use Rattle.readings.specs.Frames.{array-kinds}
 
 -- ---- what may stand in a slot
-
-pub no-way : {A : Type 0} → false ≡ true → A
-no-way e = absurd (let z : _≡_ {A = ℕ} 0 1 = cc in omega arith)
 
 pub in-slots : (P : Where → Type 0) → P W.StringSlot → P W.ObjectSlot → P W.ArraySlot → (t : SlotType) → P (whereOf t)
 in-slots P a b c (S.Primitive x) = c
@@ -39,24 +37,24 @@ in-slots P a b c (S.PrimitiveArray x) = c
 
 -- a kind that stands in slots of objects alone
 takes-objects : (t : SlotType) (k : ℕ) → allowed W.StringSlot k ≡ false → allowed W.ArraySlot k ≡ false → allowed (whereOf t) k ≡ true → takesObjects t ≡ true
-takes-objects (S.Primitive x) k a b e = no-way (sym b ∙ e)
-takes-objects S.Text k a b e = no-way (sym a ∙ e)
+takes-objects (S.Primitive x) k a b e = apart (sym b ∙ e)
+takes-objects S.Text k a b e = apart (sym a ∙ e)
 takes-objects S.Object k a b e = refl
 takes-objects S.SystemClass k a b e = refl
 takes-objects S.Class k a b e = refl
-takes-objects S.ObjectArray k a b e = no-way (sym b ∙ e)
-takes-objects S.StringArray k a b e = no-way (sym b ∙ e)
-takes-objects (S.PrimitiveArray x) k a b e = no-way (sym b ∙ e)
+takes-objects S.ObjectArray k a b e = apart (sym b ∙ e)
+takes-objects S.StringArray k a b e = apart (sym b ∙ e)
+takes-objects (S.PrimitiveArray x) k a b e = apart (sym b ∙ e)
 
 takes-strings : (t : SlotType) (k : ℕ) → allowed W.ArraySlot k ≡ false → allowed (whereOf t) k ≡ true → takesStrings t ≡ true
-takes-strings (S.Primitive x) k b e = no-way (sym b ∙ e)
+takes-strings (S.Primitive x) k b e = apart (sym b ∙ e)
 takes-strings S.Text k b e = refl
 takes-strings S.Object k b e = refl
 takes-strings S.SystemClass k b e = refl
 takes-strings S.Class k b e = refl
-takes-strings S.ObjectArray k b e = no-way (sym b ∙ e)
-takes-strings S.StringArray k b e = no-way (sym b ∙ e)
-takes-strings (S.PrimitiveArray x) k b e = no-way (sym b ∙ e)
+takes-strings S.ObjectArray k b e = apart (sym b ∙ e)
+takes-strings S.StringArray k b e = apart (sym b ∙ e)
+takes-strings (S.PrimitiveArray x) k b e = apart (sym b ∙ e)
 
 -- arrays stand at the top level alone
 array-slot : {es : List Entry} {r : Rec} {k i n : ℕ} {ts : List SlotType} → Array es r k i n ts → (t : SlotType) → allowed (whereOf t) k ≡ false
@@ -99,18 +97,18 @@ module _ {at row : ℕ} {es : List Entry} {rs : List Rec} {is : List Row} where
   -- an object, at the top level
   pub top-object : {k id count class : ℕ} {r : Rec} {ts : List SlotType} {c : Cur} → Good es k r id count class ts → isObject k ≡ true
       → Body 64 (suc row) ts (after at row es r rs is) c → Objects c → Objects (cur at row es (r ∷ rs) (rowOf k at r id 0 0 class count ∷ is))
-  top-object (is-header a b) o d k = no-way o
+  top-object (is-header a b) o d k = apart o
   top-object (is-class-by-id a b e) o d k = one-object (class-by-id a b e refl d) k
   top-object (is-system-class a b) o d k = one-object (system-class a b refl d) k
   top-object (is-library-class a b e) o d k = one-object (library-class a b e refl d) k
   top-object (is-string a b) o d k = one-string a b refl (subst Objects (sym (no-body d)) k)
-  top-object (is-typed-primitive a) o d k = no-way o
-  top-object (is-reference a) o d k = no-way o
-  top-object is-null o d k = no-way o
-  top-object is-end o d k = no-way o
-  top-object (is-library a b e) o d k = no-way o
-  top-object (is-nulls a) o d k = no-way o
-  top-object (is-many-nulls a) o d k = no-way o
+  top-object (is-typed-primitive a) o d k = apart o
+  top-object (is-reference a) o d k = apart o
+  top-object is-null o d k = apart o
+  top-object is-end o d k = apart o
+  top-object (is-library a b e) o d k = apart o
+  top-object (is-nulls a) o d k = apart o
+  top-object (is-many-nulls a) o d k = apart o
   top-object {r = r} {ts = ts} {c = c} (is-array a b) o d k =
       one-array a b refl (subst (λ (x : List Entry). Body 64 (suc row) ts (cur (at + size r) (suc row) (es ++ x) rs is) c) (array-entry (suc row) b) d) k
 
@@ -119,20 +117,20 @@ module _ {at row : ℕ} {es : List Entry} {rs : List Rec} {is : List Row} where
       → allowed (whereOf t) k ≡ true → Body room (suc row) ts (after at row es r rs is) c → Slots room own (slot + 1) us c c₁
       → Slots room own slot (t ∷ us) (cur at row es (r ∷ rs) (rowOf k at r id own slot class count ∷ is)) c₁
   unfolding allowed
-  slot-object t us (is-header a b) o w d k = no-way o
+  slot-object t us (is-header a b) o w d k = apart o
   slot-object t us (is-class-by-id a b e) o w d k = an-object (takes-objects t 1 refl refl w) (class-by-id a b e refl d) k
   slot-object t us (is-system-class a b) o w d k = an-object (takes-objects t 4 refl refl w) (system-class a b refl d) k
   slot-object t us (is-library-class a b e) o w d k = an-object (takes-objects t 5 refl refl w) (library-class a b e refl d) k
   slot-object {room} {own} {slot} {c₁ = c₁} t us (is-string a b) o w d k =
       a-string (takes-strings t 6 refl w) a b refl (subst (λ (x : Cur). Slots room own (slot + 1) us x c₁) (sym (no-body d)) k)
-  slot-object t us (is-typed-primitive a) o w d k = no-way o
-  slot-object t us (is-reference a) o w d k = no-way o
-  slot-object t us is-null o w d k = no-way o
-  slot-object t us is-end o w d k = no-way o
-  slot-object t us (is-library a b e) o w d k = no-way o
-  slot-object t us (is-nulls a) o w d k = no-way o
-  slot-object t us (is-many-nulls a) o w d k = no-way o
-  slot-object t us (is-array a b) o w d k = no-way (sym (array-slot b t) ∙ w)
+  slot-object t us (is-typed-primitive a) o w d k = apart o
+  slot-object t us (is-reference a) o w d k = apart o
+  slot-object t us is-null o w d k = apart o
+  slot-object t us is-end o w d k = apart o
+  slot-object t us (is-library a b e) o w d k = apart o
+  slot-object t us (is-nulls a) o w d k = apart o
+  slot-object t us (is-many-nulls a) o w d k = apart o
+  slot-object t us (is-array a b) o w d k = apart (sym (array-slot b t) ∙ w)
 
   -- a library
   pub top-library : {id count class : ℕ} {r : Rec} {ts : List SlotType} → Good es 12 r id count class ts
@@ -166,22 +164,22 @@ module _ {at row : ℕ} {es : List Entry} {rs : List Rec} {is : List Row} where
       → Slots room own (slot + 1) us (after at row es r rs is) c
       → Slots room own slot (t ∷ us) (cur at row es (r ∷ rs) (rowOf k at r id own slot class count ∷ is)) c
   unfolding allowed enc
-  slot-plain t us (is-header a b) o n l e w p k = no-way (sym (in-slots (λ (w : Where). allowed w 0 ≡ false) refl refl refl t) ∙ w)
-  slot-plain t us (is-class-by-id a b f) o n l e w p k = no-way (sym o)
-  slot-plain t us (is-system-class a b) o n l e w p k = no-way (sym o)
-  slot-plain t us (is-library-class a b f) o n l e w p k = no-way (sym o)
-  slot-plain t us (is-string a b) o n l e w p k = no-way (sym o)
+  slot-plain t us (is-header a b) o n l e w p k = apart (sym (in-slots (λ (w : Where). allowed w 0 ≡ false) refl refl refl t) ∙ w)
+  slot-plain t us (is-class-by-id a b f) o n l e w p k = apart (sym o)
+  slot-plain t us (is-system-class a b) o n l e w p k = apart (sym o)
+  slot-plain t us (is-library-class a b f) o n l e w p k = apart (sym o)
+  slot-plain t us (is-string a b) o n l e w p k = apart (sym o)
   slot-plain {room} {own} {slot} {r = r} {c = c} t us (is-typed-primitive a) o n l e w p k =
       a-typed-primitive (takes-objects t 8 refl refl w) a refl (subst (λ (x : List Entry). Slots room own (slot + 1) us (cur (at + size r) (suc row) x rs is) c) (append-nil es) k)
   slot-plain {room} {own} {slot} {r = r} {c = c} t us (is-reference a) o n l e w p k =
       a-reference p a refl (subst (λ (x : List Entry). Slots room own (slot + 1) us (cur (at + size r) (suc row) x rs is) c) (append-nil es) k)
   slot-plain {room} {own} {slot} {c = c} t us is-null o n l e w p k =
       a-null p refl (subst (λ (x : List Entry). Slots room own (slot + 1) us (cur (at + 1) (suc row) x rs is) c) (append-nil es) k)
-  slot-plain t us is-end o n l e w p k = no-way (sym e)
-  slot-plain t us (is-library a b f) o n l e w p k = no-way (sym l)
-  slot-plain t us (is-nulls a) o n l e w p k = no-way (sym n)
-  slot-plain t us (is-many-nulls a) o n l e w p k = no-way (sym n)
-  slot-plain t us (is-array a b) o n l e w p k = no-way (sym o ∙ array-kinds b .0)
+  slot-plain t us is-end o n l e w p k = apart (sym e)
+  slot-plain t us (is-library a b f) o n l e w p k = apart (sym l)
+  slot-plain t us (is-nulls a) o n l e w p k = apart (sym n)
+  slot-plain t us (is-many-nulls a) o n l e w p k = apart (sym n)
+  slot-plain t us (is-array a b) o n l e w p k = apart (sym o ∙ array-kinds b .0)
 
 -- the end record
 pub top-end : {at row : ℕ} {es : List Entry} {id count class : ℕ} {r : Rec} {ts : List SlotType} → Good es 11 r id count class ts
@@ -192,16 +190,16 @@ top-end is-end = the-end refl
 pub top-plain : {es : List Entry} {k id count class : ℕ} {r : Rec} {ts : List SlotType} → Good es k r id count class ts
     → isObject k ≡ false → eqb k 12 ≡ false → eqb k 11 ≡ false → allowed W.Top k ≡ true → ⊥
 unfolding allowed
-top-plain (is-header a b) o l e w = no-way w
-top-plain (is-class-by-id a b f) o l e w = no-way (sym o)
-top-plain (is-system-class a b) o l e w = no-way (sym o)
-top-plain (is-library-class a b f) o l e w = no-way (sym o)
-top-plain (is-string a b) o l e w = no-way (sym o)
-top-plain (is-typed-primitive a) o l e w = no-way w
-top-plain (is-reference a) o l e w = no-way w
-top-plain is-null o l e w = no-way w
-top-plain is-end o l e w = no-way (sym e)
-top-plain (is-library a b f) o l e w = no-way (sym l)
-top-plain (is-nulls a) o l e w = no-way w
-top-plain (is-many-nulls a) o l e w = no-way w
-top-plain (is-array a b) o l e w = no-way (sym o ∙ array-kinds b .0)
+top-plain (is-header a b) o l e w = apart w
+top-plain (is-class-by-id a b f) o l e w = apart (sym o)
+top-plain (is-system-class a b) o l e w = apart (sym o)
+top-plain (is-library-class a b f) o l e w = apart (sym o)
+top-plain (is-string a b) o l e w = apart (sym o)
+top-plain (is-typed-primitive a) o l e w = apart w
+top-plain (is-reference a) o l e w = apart w
+top-plain is-null o l e w = apart w
+top-plain is-end o l e w = apart (sym e)
+top-plain (is-library a b f) o l e w = apart (sym l)
+top-plain (is-nulls a) o l e w = apart w
+top-plain (is-many-nulls a) o l e w = apart w
+top-plain (is-array a b) o l e w = apart (sym o ∙ array-kinds b .0)

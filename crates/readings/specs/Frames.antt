@@ -25,6 +25,7 @@ use Rattle.format.specs.Contents.{Rec}
 use Rattle.format.specs.Grammar.{Entry, takesObjects, takesStrings, somePrimitive, Array, of-objects, of-strings, of-primitives, of-any, of-values}
 use Rattle.format.specs.Machine.{Open, close, filledBy, filled, opened, start}
 use Rattle.types.specs.Slots.{moved-alike, passed-alike, passed-walk}
+use Rattle.laws.specs.Tests.{or-right}
 use Rattle.places.specs.Env.{slotsFrom}
 use Rattle.places.specs.Recs.{length-slots}
 use Rattle.readings.specs.Steps.{whereOf, Allows}
@@ -153,20 +154,16 @@ module _ (s : List ℕ) where
 
 -- ---- what a slot's type takes
 
-either : (a b : Bool) → b ≡ true → (a || b) ≡ true
-either true b e = refl
-either false b e = e
-
 object-slot : (k : ℕ) → inSlot k ≡ true → allowed W.ObjectSlot k ≡ true
 unfolding allowed
 object-slot k e =
-    either (isClassKind k) (eqb k 6 || (eqb k 8 || inSlot k)) (either (eqb k 6) (eqb k 8 || inSlot k) (either (eqb k 8) (inSlot k) e))
+    or-right (isClassKind k) (eqb k 6 || (eqb k 8 || inSlot k)) (or-right (eqb k 6) (eqb k 8 || inSlot k) (or-right (eqb k 8) (inSlot k) e))
 
 -- references, nulls and libraries
 in-slot : (t : SlotType) (k : ℕ) → isPrimitive t ≡ false → inSlot k ≡ true → allowed (whereOf t) k ≡ true
 unfolding allowed
 in-slot (S.Primitive c) k n e = e
-in-slot S.Text k n e = either (eqb k 6) (inSlot k) e
+in-slot S.Text k n e = or-right (eqb k 6) (inSlot k) e
 in-slot S.Object k n e = object-slot k e
 in-slot S.SystemClass k n e = object-slot k e
 in-slot S.Class k n e = object-slot k e

@@ -2,19 +2,21 @@
 -- linking sets to 0. The numbers and the references of the rows are those of the records.
 use Prim.Native.Nat.{ℕ, suc, _+_}
 use mathlib.Core.Path.{_≡_, refl, sym, ap, _∙_}
-use mathlib.Core.Bool.{Bool, true, false, _&&_, _||_, not}
+use mathlib.Core.Bool.{Bool, true, false, _&&_, _||_}
 use mathlib.Core.List.{List, [], _∷_, _++_, map}
 use native.Mathlib.Omega.{arith}
 use lib.ListN.{length, getD}
 use lib.Dec.{eqb}
-use borrow.Author.Tests.{eqb-true, eqb-false, eq-eqb, ne-eqb, not-true}
+use borrow.Author.Tests.{eqb-true, eq-eqb}
 use Rattle.format.specs.declared.SlotType.{SlotType}
 use Rattle.format.specs.declared.Head.{Head}
 use Rattle.format.specs.declared.Row.{Row}
 use Rattle.format.specs.Bytes.{pick}
 use Rattle.format.specs.Rows.{blank, isObject, isClass, findFrom, objectRow, classRow, libraryRow, withLink, linkOf, linked, isLost}
 use Rattle.format.specs.Contents.{Rec}
-use Rattle.format.specs.Grammar.{Entry, Cur, cur, rowOf, Object, system-class, library-class, class-by-id, Body, hollow, filled, Slots, full, member-value, an-object, a-string, a-typed-primitive, a-reference, a-null, a-run, a-long-run, a-library, Array, of-objects, of-strings, of-primitives, of-any, of-values, Objects, the-end, one-object, one-string, one-array, one-library, idOf, refOf, idsOf, refsOf, among}
+use Rattle.format.specs.Grammar.{Entry, rowOf, idOf, refOf, idsOf, refsOf, among}
+use Rattle.laws.specs.Tests.{or-right}
+use Rattle.laws.specs.Ids.{rowIds, rowRefs, Shown, array-shown, id-there, id-back}
 use Rattle.places.specs.Recs.{Good, is-header, is-class-by-id, is-system-class, is-library-class, is-string, is-typed-primitive, is-reference, is-null, is-end, is-library, is-nulls, is-many-nulls, is-array, Told, told-end, rowWith}
 
 -- ---- without the links of classes
@@ -86,19 +88,6 @@ row-bare t owner slot = same-row (told-end t) (t .id-is) (t .link-is) (t .count-
 
 -- ---- numbers and references
 
-abbrev pub rowIds : List Row → List ℕ
-rowIds [] = []
-rowIds (r ∷ rows) = pick (isObject (r .kind)) (r .id ∷ []) [] ++ rowIds rows
-
-abbrev pub rowRefs : List Row → List ℕ
-rowRefs [] = []
-rowRefs (r ∷ rows) = pick (eqb (r .kind) 9) (r .id ∷ []) [] ++ rowRefs rows
-
--- rows show the ObjectIds and the IdRefs of records
-pub record Shown (rs : List Rec) (rows : List Row) : Type 0 where
-  pub ids : idsOf rs ≡ rowIds rows
-  pub refs : refsOf rs ≡ rowRefs rows
-
 pub shown-bare : (rs : List Rec) (rows : List Row) → Shown rs (map bare rows) → Shown rs rows
 shown-bare rs rows w = record { ids = w .ids ∙ same-ids rows; refs = w .refs ∙ same-refs rows }
   where
@@ -109,19 +98,6 @@ shown-bare rs rows w = record { ids = w .ids ∙ same-ids rows; refs = w .refs �
     same-refs : (rows : List Row) → rowRefs (map bare rows) ≡ rowRefs rows
     same-refs [] = refl
     same-refs (r ∷ rows) = rw (same-refs rows)
-
--- one record more
-pub shown-more : {rs : List Rec} {rows : List Row} (it : Row) (r : Rec) (kind at id own slot link count : ℕ) → it ≡ rowOf kind at r id own slot link count
-    → idOf r ≡ pick (isObject kind) (id ∷ []) [] → refOf r ≡ pick (eqb kind 9) (id ∷ []) [] → Shown rs rows → Shown (r ∷ rs) (it ∷ rows)
-shown-more it r kind at id own slot link count e i f w = record { ids = rw (e, i, w .ids); refs = rw (e, f, w .refs) }
-
-array-shown : {es : List Entry} {k id n : ℕ} {r : Rec} {ts : List SlotType} → Array es r k id n ts
-    → (idOf r ≡ pick (isObject k) (id ∷ []) []) × (refOf r ≡ pick (eqb k 9) (id ∷ []) [])
-array-shown (of-objects a) = (refl, refl)
-array-shown (of-strings a) = (refl, refl)
-array-shown (of-primitives a b) = (refl, refl)
-array-shown (of-any a b c d e) = (refl, refl)
-array-shown (of-values a b c) = (refl, refl)
 
 pub good-shown : {es : List Entry} {k id count class : ℕ} {r : Rec} {ts : List SlotType} → Good es k r id count class ts
     → (idOf r ≡ pick (isObject k) (id ∷ []) []) × (refOf r ≡ pick (eqb k 9) (id ∷ []) [])
@@ -139,72 +115,9 @@ good-shown (is-nulls a) = (refl, refl)
 good-shown (is-many-nulls a) = (refl, refl)
 good-shown (is-array a b) = array-shown b
 
--- ---- along a derivation
-
-abbrev ShownIn : Cur → Type 0
-ShownIn (cur at row es rs is) = Shown rs is
-
-mutual
-  object-shown : {room own slot : ℕ} {c c₁ : Cur} → Object room own slot c c₁ → ShownIn c₁ → ShownIn c
-  object-shown (system-class a b q d) k = shown-more _ _ 4 _ _ _ _ _ _ q refl refl (body-shown d k)
-  object-shown (library-class a b l q d) k = shown-more _ _ 5 _ _ _ _ _ _ q refl refl (body-shown d k)
-  object-shown (class-by-id a b f q d) k = shown-more _ _ 1 _ _ _ _ _ _ q refl refl (body-shown d k)
-
-  body-shown : {room row : ℕ} {ts : List SlotType} {c c₁ : Cur} → Body room row ts c c₁ → ShownIn c₁ → ShownIn c
-  body-shown hollow k = k
-  body-shown (filled d) k = slots-shown d k
-
-  slots-shown : {room own slot : ℕ} {ts : List SlotType} {c c₁ : Cur} → Slots room own slot ts c c₁ → ShownIn c₁ → ShownIn c
-  slots-shown full k = k
-  slots-shown (member-value a q d) k = shown-more _ _ 32 _ _ _ _ _ _ q refl refl (slots-shown d k)
-  slots-shown (an-object t a d) k = object-shown a (slots-shown d k)
-  slots-shown (a-string t a b q d) k = shown-more _ _ 6 _ _ _ _ _ _ q refl refl (slots-shown d k)
-  slots-shown (a-typed-primitive t a q d) k = shown-more _ _ 8 _ _ _ _ _ _ q refl refl (slots-shown d k)
-  slots-shown (a-reference t a q d) k = shown-more _ _ 9 _ _ _ _ _ _ q refl refl (slots-shown d k)
-  slots-shown (a-null t q d) k = shown-more _ _ 10 _ _ _ _ _ _ q refl refl (slots-shown d k)
-  slots-shown (a-run t a b e u q d) k = shown-more _ _ 13 _ _ _ _ _ _ q refl refl (slots-shown d k)
-  slots-shown (a-long-run t a b e u q d) k = shown-more _ _ 14 _ _ _ _ _ _ q refl refl (slots-shown d k)
-  slots-shown (a-library t a b n q d) k = shown-more _ _ 12 _ _ _ _ _ _ q refl refl (slots-shown d k)
-
-pub objects-shown : {c : Cur} → Objects c → ShownIn c
-objects-shown (the-end q) = shown-more _ _ 11 _ _ _ _ _ _ q refl refl (record { ids = refl; refs = refl })
-objects-shown (one-object a d) = object-shown a (objects-shown d)
-objects-shown (one-string a b q d) = shown-more _ _ 6 _ _ _ _ _ _ q refl refl (objects-shown d)
-objects-shown (one-array {kind = kind} a b q d f) =
-    let w = array-shown b in
-    shown-more _ _ kind _ _ _ _ _ _ q (w .0) (w .1) (body-shown d (objects-shown f))
-objects-shown (one-library a b n q d) = shown-more _ _ 12 _ _ _ _ _ _ q refl refl (objects-shown d)
-
 -- ---- the root and the targets: lookups among the rows against the ids of the records
 
--- the rows may be counted from any number
-among-from : (id k : ℕ) (rows : List Row) → among id (rowIds rows) ≡ not (eqb (findFrom (λ (r : Row). isObject (r .kind) && eqb (r .id) id) k rows) 0)
-unfolding findFrom
-among-from id k [] = refl
-among-from id k (r ∷ rows) = go (isObject (r .kind)) (eqb (r .id) id) refl (among-from id (k + 1) rows)
-  where
-    turned : (d : Bool) → eqb (r .id) id ≡ d → eqb id (r .id) ≡ d
-    turned true e = eq-eqb id (r .id) (sym (eqb-true (r .id) id e))
-    turned false e = ne-eqb id (r .id) (λ f. eqb-false (r .id) id e (sym f))
-
-    go : (o d : Bool) → eqb (r .id) id ≡ d → among id (rowIds rows) ≡ not (eqb (findFrom (λ (r : Row). isObject (r .kind) && eqb (r .id) id) (k + 1) rows) 0)
-        → among id (pick o (r .id ∷ []) [] ++ rowIds rows)
-        ≡ not (eqb (pick (o && d) (k + 1) (findFrom (λ (r : Row). isObject (r .kind) && eqb (r .id) id) (k + 1) rows)) 0)
-    go true true e h = rw (turned true e, ne-eqb (k + 1) 0 (λ f. omega arith))
-    go true false e h = rw (turned false e) h
-    go false d e h = h
-
-among-object : (id : ℕ) (rows : List Row) → among id (rowIds rows) ≡ not (eqb (objectRow id rows) 0)
-unfolding objectRow
-among-object id rows = among-from id 0 rows
-
 module _ (rs : List Rec) (rows : List Row) (w : Shown rs rows) where
-  pub id-there : (i : ℕ) → among i (idsOf rs) ≡ true → eqb (objectRow i rows) 0 ≡ false
-  id-there i e = not-true (eqb (objectRow i rows) 0) (sym (among-object i rows) ∙ (ap (among i) (sym (w .ids)) ∙ e))
-
-  pub id-back : (i : ℕ) → eqb (objectRow i rows) 0 ≡ false → among i (idsOf rs) ≡ true
-  id-back i e = ap (among i) (w .ids) ∙ (among-object i rows ∙ rw e)
-
   none-lost-from : (k : ℕ) (xs : List Row) → ((i : ℕ) → among i (rowRefs xs) ≡ true → eqb (objectRow i rows) 0 ≡ false) → findFrom (isLost rows) k xs ≡ 0
   unfolding findFrom
   none-lost-from k [] f = refl
@@ -213,15 +126,11 @@ module _ (rs : List Rec) (rows : List Row) (w : Shown rs rows) where
       go : (t : Bool) → ((i : ℕ) → among i (pick t (r .id ∷ []) [] ++ rowRefs xs) ≡ true → eqb (objectRow i rows) 0 ≡ false)
           → (((i : ℕ) → among i (rowRefs xs) ≡ true → eqb (objectRow i rows) 0 ≡ false) → findFrom (isLost rows) (k + 1) xs ≡ 0)
           → pick (t && eqb (objectRow (r .id) rows) 0) (k + 1) (findFrom (isLost rows) (k + 1) xs) ≡ 0
-      go true f h = rw (f (r .id) (rw (eq-eqb (r .id) (r .id) refl))) (h (λ i e. f i (either (eqb i (r .id)) e)))
-        where
-          either : (a : Bool) {b : Bool} → b ≡ true → (a || b) ≡ true
-          either true e = refl
-          either false e = e
+      go true f h = rw (f (r .id) (rw (eq-eqb (r .id) (r .id) refl))) (h (λ i e. f i (or-right (eqb i (r .id)) (among i (rowRefs xs)) e)))
       go false f h = h f
 
   pub none-lost : ((i : ℕ) → among i (refsOf rs) ≡ true → among i (idsOf rs) ≡ true) → findFrom (isLost rows) 0 rows ≡ 0
-  none-lost f = none-lost-from 0 rows (λ i e. id-there i (f i (ap (among i) (w .refs) ∙ e)))
+  none-lost f = none-lost-from 0 rows (λ i e. id-there rs rows w i (f i (ap (among i) (w .refs) ∙ e)))
 
   lost-back : (k : ℕ) (xs : List Row) → findFrom (isLost rows) k xs ≡ 0 → (i : ℕ) → among i (rowRefs xs) ≡ true → eqb (objectRow i rows) 0 ≡ false
   unfolding findFrom
@@ -241,4 +150,4 @@ module _ (rs : List Rec) (rows : List Row) (w : Shown rs rows) where
       go false o q e m h = h e i m
 
   pub targets-back : findFrom (isLost rows) 0 rows ≡ 0 → (i : ℕ) → among i (refsOf rs) ≡ true → among i (idsOf rs) ≡ true
-  targets-back e i m = id-back i (lost-back 0 rows e i (ap (among i) (sym (w .refs)) ∙ m))
+  targets-back e i m = id-back rs rows w i (lost-back 0 rows e i (ap (among i) (sym (w .refs)) ∙ m))

@@ -29,6 +29,7 @@ use Rattle.format.specs.Grammar.{Cur, cur, rowOf, size, Body, Slots, member-val
 use Rattle.format.specs.Machine.{Open, State, Next, go, ended, refuse, close, filledBy, filled, opened, rowIn, rowApart, add, object, runOver, nullRun, ending, valueHead, onValue, valueStep, whereIn}
 use Rattle.fields.specs.Judged.{picked}
 use Rattle.num.specs.Le.{Bytes}
+use Rattle.laws.specs.Tests.{apart}
 use Rattle.places.specs.Env.{envOf, env-same}
 use Rattle.places.specs.Stand.{stand-size}
 use Rattle.places.specs.Recs.{Back, told-slots}
@@ -41,7 +42,7 @@ use Rattle.readings.specs.Firsts.{Later, AllLater, later-more, First}
 use Rattle.readings.specs.Rest.{Rest, RestOf, rest-close, fill-one}
 use Rattle.readings.specs.Before.{object-rest, library-rest, plain-rest, run-rest}
 use Rattle.readings.specs.Goal.{Goal, goal-more, back-more}
-use Rattle.readings.specs.Fills.{no-way, in-slots, hollow-body, open-body, after, top-end, top-plain}
+use Rattle.readings.specs.Fills.{in-slots, hollow-body, open-body, after, top-end, top-plain}
 
 -- what holds between two steps
 pub record Between (st : State) : Type 0 where
@@ -119,7 +120,7 @@ module _ (s : List ℕ) (room at : ℕ) (rows : List Row) (f : Frame) (gs : List
   -- a library
   pub library-said : (h : Head) → Back s rows 12 at h → isPrimitive (f .typed .slot) ≡ false → NextSaid room s st (add room st (rowApart st 12 h) (st .stack))
   library-said h d p =
-      add-said (rowApart st 12 h) (st .stack) (λ t. no-way t) (b .shaped) (back-more s at rows f gs (st .stack) 12 h d 0 0 (λ rs is r.
+      add-said (rowApart st 12 h) (st .stack) (λ t. apart t) (b .shaped) (back-more s at rows f gs (st .stack) 12 h d 0 0 (λ rs is r.
       library-rest s f at (length rows) rs is gs (d .good) p (b .shaped .tight) (b .shaped .based) r))
 
 -- ---- null runs, the end record and member values: by the objects that are open
@@ -131,7 +132,7 @@ run-not k n a b e = go (eqb k 13) refl (eqb k 14) refl e
     go : (x : Bool) → eqb k 13 ≡ x → (y : Bool) → eqb k 14 ≡ y → (x || y) ≡ true → eqb k n ≡ false
     go true p y q e = rw (eqb-true k 13 p) a
     go false p true q e = rw (eqb-true k 14 q) b
-    go false p false q e = no-way e
+    go false p false q e = apart e
 
 module _ (s : List ℕ) (room at : ℕ) (rows : List Row) (f : Frame) where
   abbrev with-open : List Frame → State
@@ -184,12 +185,12 @@ module _ (s : List ℕ) (room at : ℕ) (rows : List Row) (f : Frame) where
       own-row =
           row-bare (d .told) (f .owner) (f .count - f .left)
           ∙ ap (λ (x : Frame). rowOf 11 at (d .rec) (d .id) (x .owner) (x .count - x .left) (d .class) (d .count)) (b .shaped .based)
-  end-said (g ∷ gs) b h d w = no-way (sym (in-slots (λ (w : Where). allowed w 11 ≡ false) refl refl refl (f .typed .slot)) ∙ w)
+  end-said (g ∷ gs) b h d w = apart (sym (in-slots (λ (w : Where). allowed w 11 ≡ false) refl refl refl (f .typed .slot)) ∙ w)
 
   pub value-said : Bytes s → (gs : List Frame) → Between (with-open gs) → (c : PrimitiveCode) → f .typed .slot ≡ S.Primitive c
       → NextSaid room s (with-open gs) (valueStep s room (with-open gs) c)
   unfolding valueStep filled enc
-  value-said byte [] b c e = no-way (ap isPrimitive (sym (ap (λ (x : Frame). x .typed .slot) (b .shaped .based)) ∙ e))
+  value-said byte [] b c e = apart (ap isPrimitive (sym (ap (λ (x : Frame). x .typed .slot) (b .shaped .based)) ∙ e))
   value-said byte (g ∷ gs) b c e = by-value (valueAt s c at) refl
     where
       value-row : {end : ℕ} (v : List ℕ) → end ≡ at + size (value v)
@@ -202,7 +203,7 @@ module _ (s : List ℕ) (room at : ℕ) (rows : List Row) (f : Frame) where
           let m = member-told s c at end byte q in
           let row = rowIn (with-open (g ∷ gs)) 32 (valueHead end) in
           let it = rowOf 32 at (value v) 0 (f .owner) (f .count - f .left) 0 0 in
-          add-said s room at rows f (g ∷ gs) b row (close (spent s f) (g ∷ gs)) (λ t. no-way t)
+          add-said s room at rows f (g ∷ gs) b row (close (spent s f) (g ∷ gs)) (λ t. apart t)
           (close-shaped (spent s f) (g ∷ gs) (based-spent s f (g ∷ gs) (b .shaped .based)))
           (goal-more s at rows f (g ∷ gs) (close (spent s f) (g ∷ gs)) end row it (value v) (envOf s rows) (value-row v (stand-size (m .1))) (m .1)
           (env-same s rows row refl) (λ rs is r.

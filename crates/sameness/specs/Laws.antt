@@ -21,8 +21,7 @@ use Rattle.format.specs.Tidy.{tidyOf, fits, tidyAnswer, tidyOutput, tidyTable}
 use Rattle.fields.specs.Judged.{told}
 use Rattle.num.specs.Le.{Bytes}
 use Rattle.same.specs.Laws.{same-eq, same-refl}
-use Rattle.meaning.specs.Tests.{both-of}
-use Rattle.meaning.specs.Orders.{differ}
+use Rattle.laws.specs.Tests.{both-of, differ}
 use Rattle.demands.specs.Readings.{accepted-exactly}
 use Rattle.demands.specs.Copies.{same-exactly}
 use Rattle.sameness.specs.declared.Sameness.{Sameness}

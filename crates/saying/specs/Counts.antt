@@ -13,9 +13,10 @@ use Rattle.format.specs.Contents.{Rec, header, classById, systemClass, libraryC
 use Rattle.format.specs.Grammar.{Entry, aClass, another, aLibrary, used, known, classed, classOf, typesOf}
 use Rattle.format.specs.Says.{Class}
 use Rattle.format.specs.Tidy.{sameClass, numberIn}
+use Rattle.laws.specs.Tests.{class-eq}
+use Rattle.laws.specs.Numbers.{number-more, number-none}
 use Rattle.saying.specs.Good.{slotsOf}
-use Rattle.saying.specs.Tests.{class-eq}
-use Rattle.saying.specs.Numbers.{Within, number-more, number-none}
+use Rattle.saying.specs.Numbers.{Within, within-counted}
 
 -- what a record makes known; row is the number of its row plus 1
 abbrev pub madeKnown : ℕ → Rec → List Entry
@@ -175,7 +176,7 @@ module _ (es : List Entry) (count : ℕ) (cs : List (ℕ × Class)) (m : ℕ) (h
 
       of-class : (d : Class) (k n : ℕ) → numberIn (sameClass d) cs ≡ n → numberIn (sameClass d) (cs ++ ((suc count, c) ∷ [])) ≡ suc k
           → (row : ℕ) × (classOf (suc k) (es ++ ds) ≡ classed row (slotsOf (d .members)))
-      of-class d k zero q e = is-new d k (sameClass d c) refl (sym (number-none (sameClass d) 0 count cs ((suc count, c) ∷ []) w q) ∙ e)
+      of-class d k zero q e = is-new d k (sameClass d c) refl (sym (number-none (sameClass d) cs ((suc count, c) ∷ []) (within-counted 0 count cs w) q) ∙ e)
       of-class d k (suc n) q e =
           let f : suc n ≡ suc k = sym (number-more (sameClass d) cs ((suc count, c) ∷ []) n q) ∙ e in
           let r = h .class-is d k (q ∙ f) in

@@ -7,43 +7,28 @@ use mathlib.Core.List.{List, [], _∷_, _++_}
 use native.Mathlib.Omega.{arith}
 use lib.ListN.{length, length-append}
 use lib.Dec.{eqb}
-use borrow.Author.Tests.{eqb-true, eqb-false, eq-eqb, ne-eqb}
+use borrow.Author.Tests.{eqb-true, eqb-false}
 use Rattle.format.specs.declared.SlotType.{SlotType}
-use Rattle.format.specs.Bytes.{pick, sameBytes}
+use Rattle.format.specs.Bytes.{pick}
 use Rattle.format.specs.Types.{positive}
 use Rattle.format.specs.Rows.{isObject}
-use Rattle.format.specs.Contents.{Rec, array, end, library}
+use Rattle.format.specs.Contents.{Rec, array, end}
 use Rattle.format.specs.Grammar.{Entry, Array, of-objects, of-strings, of-primitives, of-any, of-values, idOf, refOf, idsOf, refsOf, among}
 use Rattle.format.specs.Says.{Class, What, anObject, aString, anArray, aPrimitive, aReference, aNull, aPrimitiveArray, anObjectArray, aStringArray, aValue, Node}
-use Rattle.format.specs.Tidy.{sameClass, numberIn, Progress, nothing, Libraries, libraryRecords, entered, allEntered, detailNeeds, classNeeds, detailBy, classBy, objectBy, afterObject, recordsOf, afterWhat}
-use Rattle.saying.specs.Good.{Place, countOf, openAfter, Fits, the-end, a-node}
+use Rattle.format.specs.Tidy.{sameClass, numberIn, Progress, nothing, Libraries, libraryRecords, allEntered, detailNeeds, classNeeds, detailBy, classBy, objectBy, afterObject, recordsOf, afterWhat}
+use Rattle.laws.specs.Tests.{apart}
+use Rattle.laws.specs.Numbers.{afterNodes}
+use Rattle.laws.specs.Runs.{libraries-length, Sort, a-null, plain, sort-of}
+use Rattle.laws.specs.Ids.{among-right}
+use Rattle.saying.specs.Good.{Place, openAfter, Fits, the-end, a-node}
 use Rattle.saying.specs.There.{kindOf}
-use Rattle.saying.specs.Tests.{apart}
-use Rattle.saying.specs.Numbers.{entered-new, entered-old, afterNodes}
-use Rattle.saying.specs.Shown.{Shown, shown, allShown, packed, Wait, wait, noWait, runShown, oneMore, squeezed, Sort, a-null, plain, sort-of, squeezed-null, squeezed-records, recsOf}
+use Rattle.saying.specs.Shown.{Shown, allShown, packed, Wait, noWait, runShown, oneMore, squeezed, squeezed-null, squeezed-records, recsOf}
 use Rattle.saying.specs.Legal.{Takes, class-by-id, system-class, library-class, a-string, an-array, a-primitive, a-reference, some-nulls, many-nulls, a-library, a-value, Legal, all-shown, a-record}
 use Rattle.saying.specs.Legal as L
 use Rattle.saying.specs.Limits.{what-count}
 use Rattle.saying.specs.Written.{legal}
 
 -- ---- how many records
-
-library-records : (names : List (List ℕ)) (ls : Libraries) → length (libraryRecords names ls) + length ls ≡ length (allEntered names ls)
-unfolding libraryRecords allEntered
-library-records [] ls = omega arith
-library-records (x ∷ names) ls = go (numberIn (sameBytes x) ls) refl (library-records names (entered x ls))
-  where
-    go : (m : ℕ) → numberIn (sameBytes x) ls ≡ m → length (libraryRecords names (entered x ls)) + length (entered x ls) ≡ length (allEntered names (entered x ls))
-        → length (pick (eqb (numberIn (sameBytes x) ls) 0) (library (suc (length ls)) x ∷ []) [] ++ libraryRecords names (entered x ls)) + length ls
-        ≡ length (allEntered names (entered x ls))
-    go zero e h =
-        let l : length (entered x ls) ≡ suc (length ls) = ap length (entered-new x ls e) ∙ (length-append ls ((suc (length ls), x) ∷ []) ∙ omega arith) in
-        let k : suc (length (libraryRecords names (entered x ls))) + length ls ≡ length (allEntered names (entered x ls)) = omega arith in
-        rw (eq-eqb (numberIn (sameBytes x) ls) 0 e) k
-    go (suc m) e h =
-        let l : length (entered x ls) ≡ length ls = ap length (entered-old x ls m e) in
-        let k : length (libraryRecords names (entered x ls)) + length ls ≡ length (allEntered names (entered x ls)) = omega arith in
-        rw (ne-eqb (numberIn (sameBytes x) ls) 0 (λ z. omega arith)) k
 
 -- objects and libraries
 abbrev pub numbersIn : Progress → ℕ
@@ -52,7 +37,7 @@ numbersIn p = length (p .libraries) + p .count
 object-enough : (k : ℕ) (p : Progress) (c : Class) → numbersIn (afterObject k p c) ≤ numbersIn p + length (objectBy k p c)
 object-enough zero p c =
     let ls : Libraries = allEntered (classNeeds c) (p .libraries) in
-    let a = library-records (classNeeds c) (p .libraries) in
+    let a = libraries-length (classNeeds c) (p .libraries) in
     let b = length-append (libraryRecords (classNeeds c) (p .libraries)) (classBy ls (suc (p .count)) c (c .from) ∷ []) in
     omega arith
 object-enough (suc k) p c = omega arith
@@ -62,7 +47,7 @@ unfolding afterWhat recordsOf
 what-enough p (anObject c) = object-enough (numberIn (sameClass c) (p .classes)) p c
 what-enough p (aString t) = omega arith
 what-enough p (anArray type ns d vs) =
-    let a = library-records (detailNeeds d) (p .libraries) in
+    let a = libraries-length (detailNeeds d) (p .libraries) in
     let r : Rec = array (suc (p .count)) type ns (detailBy (allEntered (detailNeeds d) (p .libraries)) d) vs in
     let b = length-append (libraryRecords (detailNeeds d) (p .libraries)) (r ∷ []) in
     omega arith
@@ -74,7 +59,7 @@ what-enough p (anObjectArray n) = omega arith
 what-enough p (aStringArray n) = omega arith
 what-enough p (aValue v) = omega arith
 
-length-shown : (o n : ℕ) (rs : List Rec) → length (allShown o n rs) ≡ length rs
+pub length-shown : (o n : ℕ) (rs : List Rec) → length (allShown o n rs) ≡ length rs
 length-shown o n [] = refl
 length-shown o n (r ∷ rs) = ap suc (length-shown o n rs)
 
@@ -124,14 +109,6 @@ among-left i (j ∷ a) b e = go (eqb i j) (among-left i a b) e
     go : (t : Bool) → (among i a ≡ true → among i (a ++ b) ≡ true) → (t || among i a) ≡ true → (t || among i (a ++ b)) ≡ true
     go true again e = refl
     go false again e = again e
-
-among-right : (i : ℕ) (a b : List ℕ) → among i b ≡ true → among i (a ++ b) ≡ true
-among-right i [] b e = e
-among-right i (j ∷ a) b e = go (eqb i j) (among-right i a b e)
-  where
-    go : (t : Bool) → among i (a ++ b) ≡ true → (t || among i (a ++ b)) ≡ true
-    go true again = refl
-    go false again = again
 
 among-either : {X : Type 0} (i : ℕ) (a b : List ℕ) → among i (a ++ b) ≡ true → (among i a ≡ true → X) → (among i b ≡ true → X) → X
 among-either i [] b e f g = g e

@@ -1,7 +1,7 @@
 -- What may be said: nodes that fill the slots of open objects in order, each with what its slot's type allows. Nothing here is about ids,
 -- places, libraries' numbers or packing.
 use Prim.Native.Nat.{ℕ, zero, suc, _+_, _≤_, _<_}
-use mathlib.Core.Path.{_≡_}
+use mathlib.Core.Path.{_≡_, refl}
 use mathlib.Core.Bool.{true, false}
 use mathlib.Core.List.{List, [], _∷_}
 use lib.ListN.{length, replicate}
@@ -83,6 +83,10 @@ filledOne (f ∷ fs) = place (f .owner) (f .slot + 1) (tailOf (f .types)) ∷ fs
 -- the object of this number opens in the next slot
 abbrev pub openedIn : ℕ → List SlotType → List Place → List Place
 openedIn o ts fs = shut (place o 0 ts ∷ filledOne fs)
+
+pub length-filled : (fs : List Place) → length (filledOne fs) ≡ length fs
+length-filled [] = refl
+length-filled (f ∷ fs) = refl
 
 -- ---- what may stand where; total is how many objects there are
 

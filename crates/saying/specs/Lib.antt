@@ -3,10 +3,8 @@ pub mod Order
 pub mod Said
 pub mod Good
 pub mod There
-pub mod Ids
 pub mod Known
 pub mod SaidGood
-pub mod Tests
 pub mod Numbers
 pub mod Shown
 pub mod Round

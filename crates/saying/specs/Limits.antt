@@ -17,8 +17,9 @@ use Rattle.format.specs.Grammar.{Entry, LibraryId, GoodDetail, Members, Name, C
 use Rattle.format.specs.Grammar as G
 use Rattle.format.specs.Says.{From, theSystem, theLibrary, Class, What, anObject, aString, anArray, aPrimitive, aReference, aNull, aPrimitiveArray, anObjectArray, aStringArray, aValue, Node}
 use Rattle.format.specs.Tidy.{sameClass, numberIn, Progress, Libraries, entered, allEntered, detailNeeds, membersNeed, fromNeeds, classNeeds, detailBy, membersBy, afterObject, afterWhat}
+use Rattle.laws.specs.Numbers.{afterNodes}
 use Rattle.saying.specs.Good.{GoodType, GoodMembers, no-more, member, GoodFrom, of-library, GoodClass, slotsOf, Place, place, shutBy, shut, filledOne, openedIn, Allowed, top-object, top-string, top-objects, top-strings, top-primitives, top-array, top-values, in-object, in-string, in-primitive, in-reference, in-null, in-value, countOf, itemSlots, openAfter, Fits, the-end, a-node}
-use Rattle.saying.specs.Numbers.{Listed, number-within, Each, no-name, a-name, each-left, each-right, Has, afterNodes}
+use Rattle.saying.specs.Numbers.{Listed, number-within, Each, no-name, a-name, each-left, each-right, Has}
 use Rattle.saying.specs.Counts.{Knows}
 
 -- ---- numbers

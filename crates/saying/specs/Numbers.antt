@@ -11,8 +11,9 @@ use borrow.Author.Tests.{eq-eqb, ne-eqb}
 use Rattle.format.specs.Bytes.{pick, sameBytes}
 use Rattle.format.specs.Says.{theSystem, Class, What, anObject, aString, anArray, aPrimitive, aReference, aNull, aPrimitiveArray, anObjectArray, aStringArray, aValue, Node}
 use Rattle.format.specs.Tidy.{sameClass, numberIn, Progress, nothing, Libraries, entered, allEntered, detailNeeds, classNeeds, afterObject, counted, afterWhat}
-use Rattle.same.specs.Laws.{same-eq, same-refl}
-use Rattle.saying.specs.Tests.{class-eq}
+use Rattle.same.specs.Laws.{same-eq}
+use Rattle.laws.specs.Tests.{class-eq}
+use Rattle.laws.specs.Numbers.{Counted, number-more, entered-so, entered-has, all-so, all-more, afterNodes}
 
 -- ---- any table
 
@@ -39,31 +40,12 @@ module _ {K : Type 0} where
   within-last b m k [] h = (omega arith, omega arith)
   within-last b m k (e ∷ t) h = (h .0, within-last (e .0) m k t (h .1))
 
+  -- none of them is 0
+  pub within-counted : (b m : ℕ) (t : List (ℕ × K)) → Within b m t → Counted t
+  within-counted b m [] h = tt
+  within-counted b m (e ∷ t) h = let i = h .0 in (omega arith, within-counted (e .0) m t (h .1))
+
   module _ (f : K → Bool) where
-    pub number-more : (t u : List (ℕ × K)) (m : ℕ) → numberIn f t ≡ suc m → numberIn f (t ++ u) ≡ suc m
-    unfolding numberIn
-    number-more [] u m h = absurd (omega arith)
-    number-more (e ∷ t) u m h = go (number-more t u m) (f (e .1)) h
-      where
-        go : (numberIn f t ≡ suc m → numberIn f (t ++ u) ≡ suc m) → (b : Bool) → pick b (e .0) (numberIn f t) ≡ suc m → pick b (e .0) (numberIn f (t ++ u)) ≡ suc m
-        go again true q = q
-        go again false q = again q
-
-    -- what had no number may have one in what follows
-    pub number-none : (b m : ℕ) (t u : List (ℕ × K)) → Within b m t → numberIn f t ≡ 0 → numberIn f (t ++ u) ≡ numberIn f u
-    unfolding numberIn
-    number-none b m [] u w z = refl
-    number-none b m (e ∷ t) u w z = go (number-none (e .0) m t u (w .1)) (f (e .1)) z
-      where
-        go : (numberIn f t ≡ 0 → numberIn f (t ++ u) ≡ numberIn f u) → (x : Bool) → pick x (e .0) (numberIn f t) ≡ 0
-            → pick x (e .0) (numberIn f (t ++ u)) ≡ numberIn f u
-        go again true q = let p = w .0 in absurd (omega arith)
-        go again false q = again q
-
-    pub number-new : (b m n : ℕ) (k : K) (t : List (ℕ × K)) → Within b m t → f k ≡ true → numberIn f t ≡ 0 → numberIn f (t ++ ((n, k) ∷ [])) ≡ n
-    unfolding numberIn
-    number-new b m n k t w h z = number-none b m t ((n, k) ∷ []) w z ∙ rw h
-
     -- a number that was given lies in the table's bounds
     pub number-within : (b m k : ℕ) (t : List (ℕ × K)) → Within b m t → numberIn f t ≡ suc k → (b < suc k) × (suc k ≤ m)
     unfolding numberIn
@@ -94,52 +76,17 @@ module _ {K : Type 0} where
 abbrev pub Listed : Libraries → Type 0
 Listed ls = Within 0 (length ls) ls
 
-module _ (name : List ℕ) (ls : Libraries) where
-  pub entered-new : numberIn (sameBytes name) ls ≡ 0 → entered name ls ≡ ls ++ ((suc (length ls), name) ∷ [])
-  unfolding entered
-  entered-new e = rw (eq-eqb (numberIn (sameBytes name) ls) 0 e)
+pub listed-counted : (ls : Libraries) → Listed ls → Counted ls
+listed-counted ls = within-counted 0 (length ls) ls
 
-  pub entered-old : (m : ℕ) → numberIn (sameBytes name) ls ≡ suc m → entered name ls ≡ ls
-  unfolding entered
-  entered-old m e = rw (ne-eqb (numberIn (sameBytes name) ls) 0 (λ q. omega arith))
-
-  pub entered-listed : Listed ls → Listed (entered name ls)
-  unfolding entered
-  entered-listed h = go (eqb (numberIn (sameBytes name) ls) 0)
-    where
-      go : (b : Bool) → Listed (pick b (ls ++ ((suc (length ls), name) ∷ [])) ls)
-      go true =
-          let last : Libraries = (suc (length ls), name) ∷ [] in
-          let l : length (ls ++ last) ≡ suc (length ls) = length-append ls last ∙ omega arith in
-          rw l (within-last 0 (length ls) name ls h)
-      go false = h
-
-  -- what is there stays
-  pub entered-more : (f : List ℕ → Bool) (m : ℕ) → numberIn f ls ≡ suc m → numberIn f (entered name ls) ≡ suc m
-  unfolding entered
-  entered-more f m e = go (eqb (numberIn (sameBytes name) ls) 0)
-    where
-      go : (b : Bool) → numberIn f (pick b (ls ++ ((suc (length ls), name) ∷ [])) ls) ≡ suc m
-      go true = number-more f ls ((suc (length ls), name) ∷ []) m e
-      go false = e
-
-  -- it is there afterwards
-  pub entered-has : Listed ls → (m : ℕ) × (numberIn (sameBytes name) (entered name ls) ≡ suc m)
-  entered-has w = go (numberIn (sameBytes name) ls) refl
-    where
-      go : (x : ℕ) → numberIn (sameBytes name) ls ≡ x → (m : ℕ) × (numberIn (sameBytes name) (entered name ls) ≡ suc m)
-      go zero e = (length ls, rw (entered-new e) (number-new (sameBytes name) 0 (length ls) (suc (length ls)) name ls w (same-refl name) e))
-      go (suc m) e = (m, entered-more (sameBytes name) m e)
-
-pub all-more : (names : List (List ℕ)) (ls : Libraries) (f : List ℕ → Bool) (m : ℕ) → numberIn f ls ≡ suc m → numberIn f (allEntered names ls) ≡ suc m
-unfolding allEntered
-all-more [] ls f m e = e
-all-more (n ∷ names) ls f m e = all-more names (entered n ls) f m (entered-more n ls f m e)
+pub entered-listed : (name : List ℕ) (ls : Libraries) → Listed ls → Listed (entered name ls)
+entered-listed name ls h =
+    let last : Libraries = (suc (length ls), name) ∷ [] in
+    let l : length (ls ++ last) ≡ suc (length ls) = length-append ls last ∙ omega arith in
+    entered-so name ls Listed (rw l (within-last 0 (length ls) name ls h)) h
 
 pub all-listed : (names : List (List ℕ)) (ls : Libraries) → Listed ls → Listed (allEntered names ls)
-unfolding allEntered
-all-listed [] ls w = w
-all-listed (n ∷ names) ls w = all-listed names (entered n ls) (entered-listed n ls w)
+all-listed = all-so Listed entered-listed
 
 -- something holds of each of these names
 pub data Each (P : List ℕ → Type 0) : List (List ℕ) → Type 0 where
@@ -167,15 +114,10 @@ pub all-have : (names : List (List ℕ)) (ls : Libraries) → Listed ls → Each
 unfolding allEntered
 all-have [] ls w = no-name
 all-have (n ∷ names) ls w =
-    let h = entered-has n ls w in
+    let h = entered-has n ls (listed-counted ls w) in
     a-name (h .0, all-more names (entered n ls) (sameBytes n) (h .0) (h .1)) (all-have names (entered n ls) (entered-listed n ls w))
 
 -- ---- what was written
-
--- once these nodes were
-unfoldable pub afterNodes : Progress → List Node → Progress
-afterNodes w [] = w
-afterNodes w (n ∷ ns) = afterNodes (afterWhat w (n .what)) ns
 
 -- numbers in both tables rise: of classes, to at most the number of objects; of libraries, to at most their own number
 pub record Numbered (w : Progress) : Type 0 where

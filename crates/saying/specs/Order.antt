@@ -14,6 +14,7 @@ use Rattle.format.specs.Rows.{blank, isObject, objectRow, linked}
 use Rattle.format.specs.Says.{objectsIn, orderOf, nodesOf, nodesFrom}
 use Rattle.table.specs.Find.{object-at}
 use Rattle.table.specs.Links.{object-linked}
+use Rattle.laws.specs.Orders.{objects-append, order-next}
 
 -- ---- a list from a place on
 
@@ -36,13 +37,6 @@ module _ {A : Type 0} (xs ys : List A) (x : A) (j : ℕ) (e : drop j xs ≡ x �
 
 -- ---- how many objects
 
-objects-append : (xs ys : List Row) → objectsIn (xs ++ ys) ≡ objectsIn xs + objectsIn ys
-unfolding objectsIn
-objects-append [] ys = omega arith
-objects-append (r ∷ xs) ys =
-    let h : objectsIn (xs ++ ys) ≡ objectsIn xs + objectsIn ys = objects-append xs ys in
-    omega arith
-
 pub order-le : (rows : List Row) (n : ℕ) → orderOf rows n ≤ objectsIn rows
 unfolding orderOf
 order-le rows n =
@@ -52,11 +46,9 @@ order-le rows n =
 
 module _ (rows is : List Row) (w : Row) (row : ℕ) (e : drop row rows ≡ w ∷ is) where
   pub order-more : orderOf rows (suc row) ≡ orderOf rows row + pick (isObject (w .kind)) 1 0
-  unfolding orderOf objectsIn
   order-more =
-      let h : objectsIn (take row rows ++ (w ∷ [])) ≡ objectsIn (take row rows) + objectsIn (w ∷ []) = objects-append (take row rows) (w ∷ []) in
-      let g : objectsIn (take (suc row) rows) ≡ objectsIn (take row rows ++ (w ∷ [])) = ap objectsIn (taken-more rows is w row e) in
-      omega arith
+      order-next rows row (place-inside rows is w row e)
+      ∙ ap (λ (y : Row). orderOf rows row + pick (isObject (y .kind)) 1 0) (item-there rows is w row e blank)
 
   pub nodes-more : (s : List ℕ) → nodesFrom s rows (drop row rows) ≡ nodesOf s rows w ++ nodesFrom s rows (drop (suc row) rows)
   unfolding nodesFrom

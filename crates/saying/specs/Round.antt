@@ -14,11 +14,13 @@ use Rattle.format.specs.Contents.{Detail, primitive, text, object, system, clas
 use Rattle.format.specs.Says.{From, theSystem, theLibrary, Class, What, anObject, aString, anArray, aPrimitive, aReference, aNull, aPrimitiveArray, anObjectArray, aStringArray, aValue, Node, node, spread}
 use Rattle.format.specs.Tidy.{sameClass, numberIn, Progress, nothing, Libraries, libraryRecords, allEntered, entered, detailNeeds, membersNeed, fromNeeds, classNeeds, detailBy, membersBy, classBy, objectBy, afterObject, recordsOf, afterWhat, runOf}
 use Rattle.fields.specs.Judged.{picked}
+use Rattle.laws.specs.Tests.{class-of}
+use Rattle.laws.specs.Numbers.{afterNodes}
+use Rattle.laws.specs.Runs.{Plain, Sort, a-null, plain, sort-of}
 use Rattle.saying.specs.Said.{named, namedAll, classOfAll, saidBy}
 use Rattle.saying.specs.Good.{Place, place, shutBy, shut, ownerOf, slotOf, filledOne, openedIn, Allowed, in-null, countOf, openAfter, Fits, a-node}
-use Rattle.saying.specs.Tests.{class-of}
-use Rattle.saying.specs.Numbers.{Each, no-name, a-name, each-left, each-right, each-so, all-have, afterNodes, Numbered, numbered-none, numbered-what, numbered-nodes, Later, later-nodes, nameIn, classIn, name-back, class-back}
-use Rattle.saying.specs.Shown.{Shown, shown, allShown, packed, Wait, wait, noWait, runShown, oneMore, squeezed, saidNodes, saidAll, Plain, Sort, a-null, plain, sort-of, squeezed-null, squeezed-records}
+use Rattle.saying.specs.Numbers.{Each, no-name, a-name, each-left, each-right, each-so, all-have, Numbered, numbered-none, numbered-what, numbered-nodes, Later, later-nodes, nameIn, classIn, name-back, class-back}
+use Rattle.saying.specs.Shown.{Shown, shown, allShown, packed, Wait, wait, noWait, runShown, oneMore, squeezed, saidNodes, saidAll, squeezed-null, squeezed-records}
 
 -- ---- what shown records say
 

@@ -9,7 +9,8 @@ use Rattle.format.specs.Bytes.{pick}
 use Rattle.format.specs.Contents.{Rec, header, classById, systemClass, libraryClass, string, array, typedPrimitive, reference, null, nulls, manyNulls, end, library, primitiveArray, objectArray, stringArray, value, enc}
 use Rattle.format.specs.Grammar.{Entry}
 use Rattle.format.specs.Says.{Class, libraryName, orderOf, spread, isNulls, nodesOf}
-use Rattle.saying.specs.There.{own-members, own-array, positive-bits, kindOf, CountIs, RowOf, GoodRec, LinkIs, nodes-there}
+use Rattle.laws.specs.Fields.{positive-bits}
+use Rattle.saying.specs.There.{own-members, own-array, kindOf, CountIs, RowOf, GoodRec, LinkIs, nodes-there}
 use Rattle.saying.specs.Shown.{shown, saidIn, saidAt, saidNodes}
 use Rattle.saying.specs.Legal.{Takes, class-by-id, system-class, library-class, a-string, an-array, a-primitive, a-reference, a-null, some-nulls, many-nulls, a-library, a-value}
 

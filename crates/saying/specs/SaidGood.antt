@@ -1,10 +1,10 @@
 -- What an accepted list says is good: along the grammar's derivation each record says what its slot allows, and opens what its class or shape asks.
 use Prim.Native.Nat.{ℕ, zero, suc, _+_, _-_, _≤_, _<_}
 use mathlib.Core.Path.{_≡_, refl, sym, ap, subst, _∙_}
-use mathlib.Core.Bool.{Bool, true, false, _||_}
+use mathlib.Core.Bool.{Bool, true, false}
 use mathlib.Core.List.{List, [], _∷_, _++_, map}
 use native.Mathlib.Omega.{arith}
-use lib.ListN.{length, getD, take, drop, replicate, length-append}
+use lib.ListN.{length, getD, take, drop, replicate}
 use lib.Dec.{eqb}
 use borrow.Author.Tests.{eq-eqb}
 use Rattle.format.specs.declared.PrimitiveCode.{PrimitiveCode}
@@ -17,13 +17,13 @@ use Rattle.format.specs.Rows.{blank, isObject, findFrom, objectRow, withLink, l
 use Rattle.format.specs.Contents.{Detail, primitive, text, object, system, class, objects, texts, primitives, Member, slotFor, Rec, header, classById, systemClass, libraryClass, string, typedPrimitive, reference, null, nulls, manyNulls, end, library, value, enc, encs}
 use Rattle.format.specs.Grammar.{Name, Values, ClassInfo, LibraryId, typesOf, classed, classOf, product, Array, of-objects, of-strings, of-primitives, of-any, of-values, Object, system-class, library-class, class-by-id, Body, hollow, filled, Slots, full, member-value, an-object, a-string, a-typed-primitive, a-reference, a-null, a-run, a-long-run, a-library, Objects, the-end, one-object, one-string, one-array, one-library, Entry, aClass, another, aLibrary, known, Cur, cur, size, rowOf, somePrimitive, refOf, refsOf, idsOf, among, Reading}
 use Rattle.format.specs.Says.{theSystem, theLibrary, Class, What, anObject, aString, anArray, aPrimitive, aReference, aNull, aPrimitiveArray, anObjectArray, aStringArray, aValue, Node, node, libraryName, classFrom, objectsIn, orderOf, spread, isNulls, nodesOf, nodesFrom, says}
-use Rattle.num.specs.Le.{length-leBytes}
+use Rattle.laws.specs.Fields.{size-header, positive-bits}
+use Rattle.laws.specs.Ids.{among-right, shown-more, objects-shown, id-there}
 use Rattle.saying.specs.Said.{named, classOfAll, saidBy}
-use Rattle.saying.specs.Good.{GoodClass, slotsOf, Place, place, shut, ownerOf, slotOf, filledOne, openedIn, Deep, never-open, one-more, Allowed, in-null, countOf, itemSlots, openAfter, Fits, a-node, Good}
+use Rattle.saying.specs.Good.{length-filled, GoodClass, slotsOf, Place, place, shut, ownerOf, slotOf, filledOne, openedIn, Deep, never-open, one-more, Allowed, in-null, countOf, itemSlots, openAfter, Fits, a-node, Good}
 use Rattle.saying.specs.Good as G
-use Rattle.saying.specs.There.{rest-there, positive-bits, own-detail, system-class-from, library-class-from, kindOf, CountIs, row-of, row-linked, GoodRec, LinkIs, inSlot, run, library-said, nodes-there, slot-same, slots-same, own-members}
+use Rattle.saying.specs.There.{rest-there, own-detail, system-class-from, library-class-from, kindOf, CountIs, row-of, row-linked, GoodRec, LinkIs, inSlot, run, library-said, nodes-there, slot-same, slots-same, own-members}
 use Rattle.saying.specs.Order.{item-there, items-after, order-more, order-end, nodes-more, Ordered, target-ordered}
-use Rattle.saying.specs.Ids.{objects-found, object-there}
 use Rattle.saying.specs.Known.{classAt, no-entry, Knows, library-known, class-known, type-good, class-good, knows-same, knows-another, knows-class, knows-library}
 
 -- ---- nulls
@@ -53,16 +53,6 @@ module _ (total count o : ℕ) (fs : List Place) (ns : List Node) where
       go false q e again =
           let f = again e (subst (λ (n : ℕ). Fits total count (shut (place o n (drop k ts) ∷ fs)) ns) a w) in
           a-node (in-null q) refl refl (subst (λ (n : ℕ). Fits total n (shut (place o (slot + 1) ts ∷ fs)) (spread k o (slot + 1) ++ ns)) b f)
-
--- ---- references
-
-among-right : (i : ℕ) (xs ys : List ℕ) → among i ys ≡ true → among i (xs ++ ys) ≡ true
-among-right i [] ys e = e
-among-right i (x ∷ xs) ys e = either (eqb i x) (among-right i xs ys e)
-  where
-    either : (a : Bool) {b : Bool} → b ≡ true → (a || b) ≡ true
-    either true e = refl
-    either false e = e
 
 -- ---- along the rows
 
@@ -444,10 +434,6 @@ module _ (s : List ℕ) (raw : List Row) where
 
   -- ---- along a derivation
 
-  length-filled : (fs : List Place) → length (filledOne fs) ≡ length fs
-  length-filled [] = refl
-  length-filled (f ∷ fs) = refl
-
   -- there is room for the slots of an object
   body-deep : {room row : ℕ} {ts : List SlotType} {c c₁ : Cur} (fs : List Place) → Body room row ts c c₁ → room + length fs ≡ 64 → Deep ts fs
   body-deep fs hollow h = never-open
@@ -504,10 +490,6 @@ module _ (s : List ℕ) (raw : List Row) where
 
 -- ---- the whole stream
 
-header-size : (root h : ℕ) → size (header root h) ≡ 17
-unfolding enc
-header-size root h = simp (length-append, length-leBytes)
-
 module _ (s : List ℕ) (root h : ℕ) (rs : List Rec) (is : List Row) where
   abbrev first : Row
   first = rowOf 0 0 (header root h) root 0 0 0 0
@@ -521,7 +503,7 @@ module _ (s : List ℕ) (root h : ℕ) (rs : List Rec) (is : List Row) where
   begins e t =
       record {
         rows-there = refl;
-        bytes-there = rest-there s (enc (header root h)) (encs rs) 0 17 (omega (arith, header-size root h)) e;
+        bytes-there = rest-there s (enc (header root h)) (encs rs) 0 17 (omega (arith, size-header root h)) e;
         targets = λ i m. target-ordered raw i (t i m);
         knows = record { good = no-entry; fresh = λ i n. refl };
       }
@@ -553,10 +535,11 @@ module _ (s : List ℕ) (root h : ℕ) (rs : List Rec) (is : List Row) where
 -- what an accepted list says is good
 pub said-good : (s : List ℕ) (rows : List Row) → Reading s rows → Good (says s rows)
 said-good s rows r =
-    let f = objects-found (r .objects-are) in
     let all = raw s (r .root) (r .header-id) (r .rs) (r .is) in
+    let it = first s (r .root) (r .header-id) (r .rs) (r .is) in
+    let w = shown-more it (header (r .root) (r .header-id)) 0 0 (r .root) 0 0 0 0 refl refl refl (objects-shown (r .objects-are)) in
     let there : (i : ℕ) → among i (idsOf (r .rs)) ≡ true → eqb (objectRow i all) 0 ≡ false =
-    λ i m. object-there (r .rs) (r .is) (first s (r .root) (r .header-id) (r .rs) (r .is)) i refl f m in
+    id-there (header (r .root) (r .header-id) ∷ r .rs) all w in
     subst (λ (x : List Row). Good (says s x)) (sym (r .rows-are))
     (good-linked s (r .root) (r .header-id) (r .rs) (r .is) (target-ordered all (r .root) (there (r .root) (r .rooted)))
     (begins s (r .root) (r .header-id) (r .rs) (r .is) (r .bytes-are) (λ i m. there i (r .targets i m))) (r .objects-are))

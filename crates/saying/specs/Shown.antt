@@ -1,15 +1,15 @@
 -- The records of the tidy copy, each with the place where it stands: the object whose slot it fills, by order, and the slot, the first one for a
 -- run of nulls. A library fills no slot and has owner 0 and slot 0. Without the places they are the records of format's Tidy.
-use Prim.Native.Nat.{ℕ, zero, suc}
+use Prim.Native.Nat.{ℕ, suc}
 use mathlib.Core.Path.{_≡_, refl, ap, _∙_}
 use mathlib.Core.Bool.{Bool, true, false}
 use mathlib.Core.List.{List, [], _∷_, _++_, map, append-assoc}
-use lib.ListN.{length}
 use lib.Dec.{eqb}
-use Rattle.format.specs.Bytes.{pick, sameBytes}
+use Rattle.format.specs.Bytes.{pick}
 use Rattle.format.specs.Contents.{Rec, header, classById, systemClass, libraryClass, string, array, typedPrimitive, reference, null, nulls, manyNulls, end, library, primitiveArray, objectArray, stringArray, value}
-use Rattle.format.specs.Says.{From, theSystem, theLibrary, Class, What, anObject, aString, anArray, aPrimitive, aReference, aNull, aPrimitiveArray, anObjectArray, aStringArray, aValue, Node, node, spread}
-use Rattle.format.specs.Tidy.{sameClass, numberIn, Progress, Libraries, libraryRecords, allEntered, entered, classNeeds, detailNeeds, classBy, objectBy, recordsOf, afterWhat, Standing, ownedBy, pack, runOf, isNull, Run, noRun, written, waiting, squeeze}
+use Rattle.format.specs.Says.{Class, What, Node, node, spread}
+use Rattle.format.specs.Tidy.{Progress, recordsOf, afterWhat, Standing, ownedBy, pack, runOf, isNull, Run, noRun, written, waiting, squeeze}
+use Rattle.laws.specs.Runs.{Plain, just, more, Sort, a-null, plain, sort-of, squeeze-records}
 use Rattle.saying.specs.Said.{saidBy}
 use Rattle.saying.specs.There.{kindOf}
 
@@ -102,52 +102,6 @@ module _ (name : ℕ → List ℕ) (of : ℕ → Class) (order : ℕ → ℕ) wh
   saidAll [] = []
   saidAll (x ∷ xs) = saidNodes x ++ saidAll xs
 
--- ---- records of everything but a null
-
--- records, at least one and none of them a null
-pub data Plain : List Rec → Type 0 where
-  just : {r : Rec} → isNull r ≡ false → Plain (r ∷ [])
-  more : {r : Rec} {rs : List Rec} → isNull r ≡ false → Plain rs → Plain (r ∷ rs)
-
--- library records may stand before them
-plain-libraries : (ns : List (List ℕ)) (ls : Libraries) (rs : List Rec) → Plain rs → Plain (libraryRecords ns ls ++ rs)
-unfolding libraryRecords
-plain-libraries [] ls rs p = p
-plain-libraries (n ∷ ns) ls rs p = go (eqb (numberIn (sameBytes n) ls) 0) (plain-libraries ns (entered n ls) rs p)
-  where
-    go : (b : Bool) → Plain (libraryRecords ns (entered n ls) ++ rs)
-        → Plain ((pick b (library (suc (length ls)) n ∷ []) [] ++ libraryRecords ns (entered n ls)) ++ rs)
-    go true q = more refl q
-    go false q = q
-
-plain-class : (ls : Libraries) (id : ℕ) (c : Class) (from : From) → Plain (classBy ls id c from ∷ [])
-plain-class ls id c theSystem = just refl
-plain-class ls id c (theLibrary n) = just refl
-
-plain-object : (n : ℕ) (w : Progress) (c : Class) → Plain (objectBy n w c)
-plain-object zero w c =
-    let ls : Libraries = allEntered (classNeeds c) (w .libraries) in
-    plain-libraries (classNeeds c) (w .libraries) (classBy ls (suc (w .count)) c (c .from) ∷ []) (plain-class ls (suc (w .count)) c (c .from))
-plain-object (suc n) w c = just refl
-
--- a null, or records that are none
-pub data Sort (w : Progress) : What → Type 0 where
-  a-null : Sort w aNull
-  plain : {x : What} → Plain (recordsOf w x) → Sort w x
-
-pub sort-of : (w : Progress) (x : What) → Sort w x
-unfolding recordsOf
-sort-of w (anObject c) = plain (plain-object (numberIn (sameClass c) (w .classes)) w c)
-sort-of w (aString t) = plain (just refl)
-sort-of w (anArray type lengths item items) = plain (plain-libraries (detailNeeds item) (w .libraries) _ (just refl))
-sort-of w (aPrimitive code v) = plain (just refl)
-sort-of w (aReference target) = plain (just refl)
-sort-of w aNull = a-null
-sort-of w (aPrimitiveArray n code items) = plain (just refl)
-sort-of w (anObjectArray n) = plain (just refl)
-sort-of w (aStringArray n) = plain (just refl)
-sort-of w (aValue v) = plain (just refl)
-
 -- ---- one null, and records that are none
 
 pub squeezed-null : (w : Wait) (o n : ℕ) (rest : List Shown)
@@ -163,14 +117,6 @@ squeezed-records w o n (just {r = r} e) rest = rw e (append-assoc (runShown w) (
 squeezed-records w o n (more {r = r} {rs = rs} e p) rest =
     rw e (append-assoc (runShown w) (shownIn o n r ∷ []) (squeezed noWait (allShown o n rs ++ rest))
     ∙ ap (λ (x : List Shown). runShown w ++ shownIn o n r ∷ x) (squeezed-records noWait o n p rest))
-
-squeeze-records : (w : Run) (o : ℕ) {rs : List Rec} → Plain rs → (rest : List Standing)
-    → squeeze w (ownedBy o rs ++ rest) ≡ runOf (w .count) ++ (rs ++ squeeze noRun rest)
-unfolding squeeze written waiting runOf
-squeeze-records w o (just {r = r} e) rest = rw e (append-assoc (runOf (w .count)) (r ∷ []) (squeeze noRun rest))
-squeeze-records w o (more {r = r} {rs = rs} e p) rest =
-    rw e (append-assoc (runOf (w .count)) (r ∷ []) (squeeze noRun (ownedBy o rs ++ rest))
-    ∙ ap (λ (x : List Rec). runOf (w .count) ++ r ∷ x) (squeeze-records noRun o p rest))
 
 -- ---- the records of the tidy copy
 

@@ -2,13 +2,12 @@
 -- record of each kind. Its bytes are those of the encoder, and nothing is asked of the stream after them.
 use Prim.Native.Nat.{ℕ, suc, _+_, _-_, _*_, _<_}
 use mathlib.Core.Path.{_≡_, refl, sym, ap, _∙_}
-use mathlib.Core.Bool.{Bool, true, false, not, _&&_}
+use mathlib.Core.Bool.{true}
 use mathlib.Core.List.{List, [], _∷_, _++_, map, append-assoc}
 use native.Mathlib.Omega.{arith}
 use lib.ListN.{length, getD, drop, length-append}
 use lib.Dec.{eqb}
 use lib.Seq.{drop-drop, take-at, drop-at}
-use borrow.Author.Tests.{leb-false}
 use Rattle.format.specs.declared.PrimitiveCode.{PrimitiveCode}
 use Rattle.format.specs.declared.Coded.the-variants as D
 use Rattle.format.specs.declared.Text.the-variants as T
@@ -16,7 +15,7 @@ use Rattle.format.specs.declared.Field.the-variants as F
 use Rattle.format.specs.declared.SlotType.{SlotType}
 use Rattle.format.specs.declared.Row.{Row}
 use Rattle.format.specs.Bytes.{pick, part}
-use Rattle.format.specs.Numbers.{leBytes, negative}
+use Rattle.format.specs.Numbers.{leBytes}
 use Rattle.format.specs.Prefix.{prefixBytes}
 use Rattle.format.specs.Text.{stringAt, stringBytes}
 use Rattle.format.specs.Types.{codeNumber, primitiveOf, codeAt, nameAt, positive, infoAt}
@@ -30,6 +29,7 @@ use Rattle.num.specs.Read.{says-written, u32-written}
 use Rattle.strings.specs.Laws.{string-round}
 use Rattle.types.specs.Codes.{primitive-number}
 use Rattle.types.specs.Ends.{code-end, name-end, library-end}
+use Rattle.laws.specs.Fields.{positive-bits, length-numbers-bytes}
 use Rattle.saying.specs.Said.{named, namedAll, classOfAll, saidBy}
 use Rattle.saying.specs.Good.{slotsOf}
 use Rattle.saying.specs.Order.{place-inside, item-there}
@@ -62,14 +62,6 @@ module _ (s q : List ℕ) (n p : ℕ) (d : drop p s ≡ leBytes 4 n ++ q) where
 
   pub number-rest : drop (p + 4) s ≡ q
   number-rest = rest-there s (leBytes 4 n) q p (p + 4) (rw length-leBytes) d
-
-pub positive-bits : (n : ℕ) → positive n ≡ true → n < 4294967296
-positive-bits n e = go (eqb n 0) (negative n) refl e
-  where
-    go : (a b : Bool) → negative n ≡ b → (not a && not b) ≡ true → n < 4294967296
-    go a false h e = let z = leb-false 2147483648 n h in omega arith
-    go true true h e = absurd (let z : _≡_ {A = ℕ} 0 1 = cc in omega arith)
-    go false true h e = absurd (let z : _≡_ {A = ℕ} 0 1 = cc in omega arith)
 
 -- ---- texts
 
@@ -215,10 +207,6 @@ slots-same name [] = refl
 slots-same name (m ∷ ms) = rw (slot-same name (m .type), slots-same name ms)
 
 -- ---- lengths
-
-pub length-numbers : (ns : List ℕ) → length (numbersBytes ns) ≡ 4 * length ns
-length-numbers [] = refl
-length-numbers (n ∷ ns) = simp (length-append, length-leBytes) (omega (arith, length-numbers ns))
 
 pub numbers-there : (s : List ℕ) (ns q : List ℕ) (p : ℕ) → Lengths ns → drop p s ≡ numbersBytes ns ++ q → numbersFrom s (length ns) p ≡ ns
 unfolding numbersFrom
@@ -464,7 +452,7 @@ module _ (s : List ℕ) (rows : List Row) (w : Row) (at : ℕ) (q : List ℕ) wh
       let rank = leBytes 4 (length ns) in
       let e = at + length (enc (array i t ns x vs)) in
       let l : length rank ≡ 4 = length-leBytes 4 (length ns) in
-      let n = length-numbers ns in
+      let n = length-numbers-bytes ns in
       let k : length (leBytes 4 i ++ (t ∷ (rank ++ (numbersBytes ns ++ item)))) ≡ 10 + 4 * length ns + length (infoBytes x) + length vs =
       simp (length-append, length-leBytes) (omega arith) in
       let a = after-id s q at 7 i (t ∷ (rank ++ (numbersBytes ns ++ item))) d in

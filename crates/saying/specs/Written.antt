@@ -20,10 +20,12 @@ use Rattle.format.specs.Grammar as G
 use Rattle.format.specs.Says.{From, theSystem, theLibrary, Class, What, anObject, aString, anArray, aPrimitive, aReference, aNull, aPrimitiveArray, anObjectArray, aStringArray, aValue, Node}
 use Rattle.format.specs.Tidy.{sameClass, numberIn, Progress, nothing, Libraries, libraryRecords, entered, allEntered, detailNeeds, membersNeed, fromNeeds, classNeeds, detailBy, membersBy, classBy, objectBy, afterObject, recordsOf, afterWhat, runOf}
 use Rattle.fields.specs.Judged.{picked}
+use Rattle.laws.specs.Numbers.{entered-new, entered-old, afterNodes}
+use Rattle.laws.specs.Runs.{Sort, a-null, plain, sort-of}
 use Rattle.saying.specs.Good.{GoodClass, slotsOf, Place, place, shut, ownerOf, slotOf, openedIn, Allowed, top-object, top-string, top-objects, top-strings, top-primitives, top-array, top-values, in-object, in-string, in-primitive, in-reference, in-null, in-value, countOf, itemSlots, openAfter, Fits, the-end, a-node}
 use Rattle.saying.specs.There.{kindOf}
-use Rattle.saying.specs.Numbers.{Listed, number-within, entered-new, entered-old, entered-listed, all-listed, Each, a-name, no-name, each-right, Has, all-have, afterNodes, Numbered, numbered-none, numbered-what}
-use Rattle.saying.specs.Shown.{Shown, shown, allShown, packed, Wait, wait, noWait, runShown, squeezed, Sort, a-null, plain, sort-of, squeezed-null, squeezed-records}
+use Rattle.saying.specs.Numbers.{Listed, number-within, entered-listed, all-listed, Each, a-name, no-name, each-right, Has, all-have, Numbered, numbered-none, numbered-what}
+use Rattle.saying.specs.Shown.{Shown, shown, allShown, packed, Wait, wait, noWait, runShown, squeezed, squeezed-null, squeezed-records}
 use Rattle.saying.specs.Round.{Under, under-shut, owner-below, under-after}
 use Rattle.saying.specs.Counts.{Knows, knows-none, knows-another, knows-library, knows-class}
 use Rattle.saying.specs.Legal.{Takes, class-by-id, system-class, library-class, an-array, some-nulls, many-nulls, Nulls, one, some, many, ofClass, Stands, top-library, in-library, in-nulls, Legal, all-shown, a-record}

@@ -1,6 +1,6 @@
 -- The tidy job from its parts: what an accepted reading says of the table, that the copy written from marked rows is the tidy copy, and the table
 -- at the end.
-use Prim.Native.Nat.{ℕ, _+_, _-_, _*_, _/_, _≤_, _<_}
+use Prim.Native.Nat.{ℕ, _-_, _≤_, _<_}
 use mathlib.Core.Path.{_≡_, refl, sym, ap, ap₂, _∙_}
 use mathlib.Core.Bool.{Bool, true, false}
 use mathlib.Core.List.{List}
@@ -13,12 +13,13 @@ use Rattle.format.specs.declared.TidyAnswer.{TidyAnswer}
 use Rattle.format.specs.declared.TidyAnswer.the-variants as Q
 use Rattle.format.specs.declared.Row.{Row}
 use Rattle.format.specs.Bytes.{pick}
-use Rattle.format.specs.Rows.{roomOf, rowsOf, words}
+use Rattle.format.specs.Rows.{roomOf, rowsOf}
 use Rattle.format.specs.Machine.{Outcome, accepted, refused, readOf, readAnswer, tableWords}
 use Rattle.format.specs.Says.{says}
 use Rattle.format.specs.Tidy.{tidyOf, fits, answerBy, outBy, tidyAnswer, tidyOutput, tidyTable}
 use Rattle.table.specs.Rows.{rowsOf-words, length-rowsOf, room-kept}
 use Rattle.table.specs.Links.{length-linked}
+use Rattle.laws.specs.Answers.{accepted-of, refused-of}
 use Rattle.standing.specs.Accepted.{accepted-stands}
 use Rattle.marks.specs.Marks.{marked}
 use Rattle.writing.specs.Copy.{copyOf}
@@ -52,11 +53,6 @@ pub record Read (s t u : List ℕ) (n : ℕ) : Type 0 where
   pub few : n ≤ 16777216
   pub roomy : n ≤ roomOf u
 
-accepted-of : (o : Outcome) (n : ℕ) → A.Accepted n ≡ readAnswer o → (rows : List Row) × (o ≡ accepted rows) × (n ≡ length rows)
-unfolding readAnswer
-accepted-of (accepted rows) n e = (rows, refl, cc)
-accepted-of (refused r p) n e = absurd (let z : _≡_ {A = ℕ} 0 1 = cc in omega arith)
-
 pub read-of : (s t u : List ℕ) (a : ReadAnswer) (n : ℕ) → a ≡ A.Accepted n → a ≡ readAnswer (readOf s (roomOf t)) → u ≡ tableWords (length t) (readOf s (roomOf t))
     → length u ≡ length t → Read s t u n
 unfolding tableWords
@@ -74,7 +70,7 @@ read-of s t u a n k e w l =
     record {
       rows = rows;
       reads = x .1;
-      rows-are = ap (λ (m : ℕ). rowsOf m u) (x .2) ∙ (ap (rowsOf (length rows)) z ∙ rowsOf-words rows _);
+      rows-are = ap (λ (m : ℕ). rowsOf m u) (sym (x .2)) ∙ (ap (rowsOf (length rows)) z ∙ rowsOf-words rows _);
       few = omega arith;
       roomy = omega arith;
     }
@@ -133,13 +129,8 @@ module _ (s t u v : List ℕ) (n : ℕ) (byte : (i : ℕ) → getD s i 0 < 256) 
 
 module _ (s t u d : List ℕ) (a : ReadAnswer) (r : Refusal) (p : ℕ) (k : a ≡ A.Refused r p) (e : a ≡ readAnswer (readOf s (roomOf t)))
     (w : u ≡ tableWords (length t) (readOf s (roomOf t))) where
-  refused-of : (o : Outcome) → A.Refused r p ≡ readAnswer o → o ≡ refused r p
-  unfolding readAnswer
-  refused-of (accepted rows) h = absurd (let z : _≡_ {A = ℕ} 0 1 = cc in omega arith)
-  refused-of (refused x y) h = cc
-
   outcome : readOf s (roomOf t) ≡ refused r p
-  outcome = refused-of (readOf s (roomOf t)) (sym k ∙ e)
+  outcome = refused-of (readOf s (roomOf t)) r p (sym k ∙ e)
 
   refused-answer : Q.Refused r p ≡ tidyAnswer s d (readOf s (roomOf t))
   unfolding tidyAnswer

@@ -1,18 +1,15 @@
--- The tests that the tidy copy makes are tests for equality, of names and of classes; and rows that pass equal tests give equal first rows.
-use Prim.Native.Nat.{ℕ, zero, suc, _+_, _-_, _≤_, _<_}
+-- Answers of tests, and that the tests by which the tidy copy finds a name or a class that was written before are tests for equality.
+use Prim.Native.Nat.{ℕ}
 use mathlib.Core.Path.{_≡_, refl, sym, ap, _∙_}
-use mathlib.Core.Bool.{Bool, true, false, _&&_}
+use mathlib.Core.Bool.{Bool, true, false, _&&_, _||_}
 use mathlib.Core.List.{List, [], _∷_}
 use native.Mathlib.Omega.{arith}
-use lib.ListN.{length, getD}
+use lib.ListN.{getD}
 use lib.Dec.{eqb}
 use borrow.Author.Tests.{eq-eqb, eqb-true}
 use Rattle.format.specs.declared.PrimitiveCode.{PrimitiveCode}
-use Rattle.format.specs.declared.Coded.the-variants as D
-use Rattle.format.specs.declared.Row.{Row}
 use Rattle.format.specs.Bytes.{pick, sameBytes}
 use Rattle.format.specs.Types.{codeNumber, coded, primitiveOf}
-use Rattle.format.specs.Rows.{blank, findFrom}
 use Rattle.format.specs.Contents.{Detail, primitive, text, object, system, class, objects, texts, primitives, Member, typeByte}
 use Rattle.format.specs.Says.{From, theSystem, theLibrary, Class}
 use Rattle.format.specs.Tidy.{detailName, detailLibrary, sameDetail, sameMembers, sameFrom, sameClass}
@@ -37,6 +34,21 @@ both-true p q e f = rw (e, f)
 
 pub apart : {A : Type 0} → false ≡ true → A
 apart e = absurd (let z : _≡_ {A = ℕ} 0 1 = cc in omega arith)
+
+pub differ : {X : Type 0} → true ≡ false → X
+differ e = apart (sym e)
+
+pub either : {X : Type 0} (t : Bool) → (t ≡ true → X) → (t ≡ false → X) → X
+either true f g = f refl
+either false f g = g refl
+
+pub neither : (p q : Bool) → (p || q) ≡ false → (p ≡ false) × (q ≡ false)
+neither true q e = differ e
+neither false q e = (refl, e)
+
+pub or-right : (p q : Bool) → q ≡ true → (p || q) ≡ true
+or-right true q e = refl
+or-right false q e = e
 
 -- a pick that is true and whose second choice is not
 pub pick-of : (p q : Bool) → pick p q false ≡ true → (p ≡ true) × (q ≡ true)
@@ -145,33 +157,3 @@ class-refl c = rw (same-refl (c .name), from-refl (c .from), members-refl (c .me
 
 pub true-class : (c d : Class) → c ≡ d → sameClass c d ≡ true
 true-class c d e = rw e (class-refl d)
-
--- ---- first rows
-
--- rows that pass one test where others pass another
-pub find-alike : (p q : Row → Bool) (k : ℕ) (xs ys : List Row) → length xs ≡ length ys
-    → ((i : ℕ) → i < length xs → p (getD xs i blank) ≡ q (getD ys i blank)) → findFrom p k xs ≡ findFrom q k ys
-unfolding findFrom
-find-alike p q k [] [] l h = refl
-find-alike p q k [] (y ∷ ys) l h = absurd (omega arith)
-find-alike p q k (x ∷ xs) [] l h = absurd (omega arith)
-find-alike p q k (x ∷ xs) (y ∷ ys) l h =
-    let a : p x ≡ q y = h 0 (omega arith) in
-    let b = find-alike p q (k + 1) xs ys (omega arith) (λ i j. h (suc i) (omega arith)) in
-    rw (a, b)
-
--- a row that passes is the first, or the first stands before it
-pub find-some : (p : Row → Bool) (k : ℕ) (rows : List Row) (i : ℕ) → i < length rows → p (getD rows i blank) ≡ true
-    → (j : ℕ) × (findFrom p k rows ≡ suc (k + j)) × (j ≤ i)
-unfolding findFrom
-find-some p k [] i h e = absurd (omega arith)
-find-some p k (r ∷ rows) i h e = go (p r) refl i h e (find-some p (k + 1) rows)
-  where
-    go : (b : Bool) → p r ≡ b → (i : ℕ) → i < suc (length rows) → p (getD (r ∷ rows) i blank) ≡ true
-        → ((i : ℕ) → i < length rows → p (getD rows i blank) ≡ true → (j : ℕ) × (findFrom p (k + 1) rows ≡ suc (k + 1 + j)) × (j ≤ i))
-        → (j : ℕ) × (pick b (k + 1) (findFrom p (k + 1) rows) ≡ suc (k + j)) × (j ≤ i)
-    go true f i h e again = (0, omega arith, omega arith)
-    go false f zero h e again = apart (sym f ∙ e)
-    go false f (suc i) h e again =
-        let w = again i (omega arith) e in
-        (suc (w .0), w .1 ∙ omega arith, omega arith)
