@@ -1,8 +1,8 @@
 -- The index stays within the end; the measure is what is left.
 use Prim.Native.Nat.{_≤_, _-_}
 use borrow.Author.Needs.{needs}
-use Rattle.show.proofs.words.Statement.{statement}
-use Rattle.show.proofs.words.Tie as tie
+use Rattle.lines.proofs.words.Statement.{statement}
+use Rattle.lines.proofs.words.Tie as tie
 
 abbrev Inv-loop : tie.InvT-loop
 Inv-loop table end i₀ i = i ≤ end
