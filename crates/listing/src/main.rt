@@ -5,10 +5,10 @@ fn main() {
     let mut space = io::large_buffer();
     let n = io::read_full(STDIN_FILENO, &mut space);
     if n == 65536 {
-        show::refused(1, 0);
+        lines::refused(1, 0);
         return;
     }
     let mut table = [0u32; 8192];
     let a = reader::read(&space[..n], &mut table);
-    show::answer(&table, a);
+    lines::answer(&table, a);
 }

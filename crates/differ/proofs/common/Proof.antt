@@ -1,17 +1,18 @@
--- The index stays within the end; the measure is what is left.
+-- The index stays within the first copy; the measure is what is left of it.
 use Prim.Native.Nat.{_≤_, _-_}
+use lib.ListN.{length}
 use borrow.Author.Needs.{needs}
-use Rattle.show.proofs.words.Statement.{statement}
-use Rattle.show.proofs.words.Tie as tie
+use Rattle.differ.proofs.common.Statement.{statement}
+use Rattle.differ.proofs.common.Tie as tie
 
 abbrev Inv-loop : tie.InvT-loop
-Inv-loop table end i₀ i = i ≤ end
+Inv-loop a b i₀ i = i ≤ length a
 
 abbrev μ-loop : tie.MeasureT-loop
-μ-loop table end i₀ i = end - i
+μ-loop a b i₀ i = length a - i
 
-pub words-spec : {M : Type 1} → statement M
-words-spec =
+pub common-spec : {M : Type 1} → statement M
+common-spec =
     tie.close
     (tie.spec
     Inv-loop
@@ -20,7 +21,7 @@ words-spec =
     (λ c. search needs)
     (λ c. search needs)
     (λ c. search needs)
-    (λ c κs. search needs)
+    (λ c. search needs)
     (λ c. search needs)
     (λ c. search needs)
     (λ c. search needs)

@@ -1,0 +1,201 @@
+// Whether two lists say the same: the two files that the arguments name, of at most 65,535 bytes each. The first word that it writes is `same`, `different`,
+// `refused` or `unusable`. Where the lists differ it names the row of the tidy copies in which they first do, and what that row says in each.
+use format::ReadAnswer;
+use format::Refusal;
+use format::TidyAnswer;
+use sameness::Sameness;
+use spelling::number;
+use spelling::say;
+ghost use mathlib.Core.Path.{_≡_};
+ghost use Prim.Native.Nat.{_≤_};
+ghost use lib.ListN.{length};
+ghost use Rattle.io.specs.Counts.{Counts};
+
+// The file that argument i names, as a text.
+fn file_name(i: usize) {
+    let mut path = io::buffer();
+    let n = os::arg(i, &mut path);
+    spelling::text(&path[..n]);
+}
+
+// Puts the first bytes of the file that argument i names into `space`, and answers how many; false in `opened` where it cannot be opened.
+pub struct Loaded {
+    pub opened: bool,
+    pub size: usize,
+}
+
+fn load(i: usize, space: &mut [u8]) -> Loaded
+    ensures { λ r. ⌜ r .size ≤ length (now (space .exit)) ⌝ }
+{
+    let mut path = io::buffer();
+    let n = os::arg(i, &mut path);
+    let fd = os::open_read(&path[..n]);
+    if fd < 0 {
+        return Loaded {
+            opened: false,
+            size: 0,
+        };
+    }
+    let k = io::read_full(fd, space);
+    libc::close(fd);
+    Loaded {
+        opened: true,
+        size: k,
+    }
+}
+
+// A refusal, after the file that it is about.
+fn refused(i: usize, r: Refusal, place: usize) {
+    say(b"refused: ");
+    file_name(i);
+    say(b": ");
+    refusals::refusal(r, place);
+}
+
+// A file that no list can be read from; false where it can.
+fn unusable(i: usize, l: Loaded) -> bool {
+    if !l.opened {
+        say(b"unusable: ");
+        file_name(i);
+        say(b": cannot be opened\n");
+        return true;
+    }
+    if l.size == 65536 {
+        refused(i, Refusal::TooLarge, 0);
+        say(b"this program takes lists of at most 65,535 bytes\n");
+        return true;
+    }
+    false
+}
+
+// How many bytes two copies have in common from their first on.
+fn common(a: &[u8], b: &[u8]) -> usize {
+    let mut i: usize = 0;
+    while i < a.len() {
+        if b.len() <= i {
+            return i;
+        }
+        if a[i] != b[i] {
+            return i;
+        }
+        i += 1;
+    }
+    i
+}
+
+// The row below `end` whose own bytes hold the byte at a place, or `end`.
+fn row_of(table: &[u32], end: usize, place: usize) -> usize {
+    let mut i: usize = 0;
+    while i < end {
+        let r = members::row_at(table, i);
+        if place < (r.end as usize) {
+            return i;
+        }
+        i += 1;
+    }
+    end
+}
+
+// The row of a copy that holds the byte at a place, by its number and its kind, and what it says.
+fn told(copy: &[u8], table: &mut [u32], place: usize) {
+    let a = reader::read(copy, table);
+    match a {
+        ReadAnswer::Accepted(n) => {
+            let i = row_of(table, n, place);
+            let r = members::row_at(table, i);
+            number(i as u64);
+            say(b" (");
+            telling::kind_name(r.kind);
+            say(b"): ");
+            telling::row(copy, table, i);
+            say(b"\n");
+        }
+        ReadAnswer::Refused(_, _) => say(b"none\n"),
+    }
+}
+
+// Where two copies first differ.
+fn apart(a: &[u8], b: &[u8], table: &mut [u32]) {
+    let place = common(a, b);
+    say(b"different: the tidy copies first differ at byte ");
+    number(place as u64);
+    say(b"\nfirst, row ");
+    told(a, table, place);
+    say(b"second, row ");
+    told(b, table, place);
+}
+
+// How long a copy is.
+fn length_of(a: TidyAnswer) -> usize {
+    match a {
+        TidyAnswer::Written(n) => n,
+        TidyAnswer::Refused(_, _) => 0,
+        TidyAnswer::OutFull(_) => 0,
+    }
+}
+
+// Tidies both lists again for the lengths of their copies. A copy is never longer than its output, so the tests only say so to the proof.
+fn different(a: &[u8], b: &[u8], table: &mut [u32], first: &mut [u8], second: &mut [u8]) {
+    let m = length_of(tidy::tidy(a, table, first));
+    let n = length_of(tidy::tidy(b, table, second));
+    if m <= first.len() {
+        if n <= second.len() {
+            apart(&first[..m], &second[..n], table);
+        }
+    }
+}
+
+// The answer on two lists.
+fn compared(a: &[u8], b: &[u8], table: &mut [u32], first: &mut [u8], second: &mut [u8]) {
+    let q = sameness::say_the_same(a, b, table, first, second);
+    match q {
+        Sameness::Same => say(b"same\n"),
+        Sameness::Different => different(a, b, table, first, second),
+        Sameness::FirstRefused(r, place) => refused(1, r, place),
+        Sameness::SecondRefused(r, place) => refused(2, r, place),
+        Sameness::FirstFull(_) => refused(1, Refusal::OutFull, 0),
+        Sameness::SecondFull(_) => refused(2, Refusal::OutFull, 0),
+    }
+}
+
+// Only null runs grow in a copy, three bytes to five at the most (255 nulls and one more, which become one run of 256), so every copy fits.
+fn copy_room() -> [u8; 131072]
+    ensures { λ r. ⌜ 131072 ≡ length r ⌝ }
+{
+    [0; 131072]
+}
+
+// 65,536 rows. No row has less than a byte, so every list has room.
+fn table_room() -> [u32; 524288]
+    ensures { λ r. ⌜ 524288 ≡ length r ⌝ }
+{
+    [0; 524288]
+}
+
+// Both lists, with room for their copies.
+fn both(a: &[u8], b: &[u8]) {
+    let mut table = table_room();
+    let mut first = copy_room();
+    let mut second = copy_room();
+    compared(a, b, &mut table, &mut first, &mut second);
+}
+
+fn main() {
+    let mut a = io::large_buffer();
+    let mut b = io::large_buffer();
+    let p = load(1, &mut a);
+    if unusable(1, p) {
+        return;
+    }
+    let q = load(2, &mut b);
+    if unusable(2, q) {
+        return;
+    }
+    let m = p.size;
+    let n = q.size;
+    if m <= a.len() {
+        if n <= b.len() {
+            both(&a[..m], &b[..n]);
+        }
+    }
+}
