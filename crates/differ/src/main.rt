@@ -9,7 +9,6 @@ use spelling::say;
 ghost use mathlib.Core.Path.{_≡_};
 ghost use Prim.Native.Nat.{_≤_};
 ghost use lib.ListN.{length};
-ghost use Rattle.io.specs.Counts.{Counts};
 
 // The file that argument i names, as a text.
 fn file_name(i: usize) {
@@ -18,12 +17,13 @@ fn file_name(i: usize) {
     spelling::text(&path[..n]);
 }
 
-// Puts the first bytes of the file that argument i names into `space`, and answers how many; false in `opened` where it cannot be opened.
+// Whether a file could be opened, and how many bytes were read from it.
 pub struct Loaded {
     pub opened: bool,
     pub size: usize,
 }
 
+// Puts the bytes of the file that argument i names into `space`, as many as it has room for.
 fn load(i: usize, space: &mut [u8]) -> Loaded
     ensures { λ r. ⌜ r .size ≤ length (now (space .exit)) ⌝ }
 {

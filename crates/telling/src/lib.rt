@@ -134,6 +134,14 @@ fn lengths(s: &[u8], from: usize, rank: u32) {
     }
 }
 
+// The lengths of an array that has several; one length is the number of its slots.
+fn shape(s: &[u8], at: usize, rank: u32) {
+    if rank != 1 {
+        lengths(s, at, rank);
+        say(b" = ");
+    }
+}
+
 // ---- a record of each kind
 
 fn header(r: Row) {
@@ -196,8 +204,7 @@ fn array(s: &[u8], r: Row) {
     array_type(spelling::byte_at(s, on(s, r.offset as usize, 5)));
     defined(r);
     say(b", ");
-    lengths(s, on(s, at, 4), rank);
-    say(b" = ");
+    shape(s, on(s, at, 4), rank);
     counted(r.count, b"slot");
     say(b" of ");
     type_name(s, t, detail);
