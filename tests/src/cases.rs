@@ -374,7 +374,7 @@ mod tests {
         };
         assert!(with(|words, _| words == 0) > 10);
         assert!(with(|words, _| words == 7) > 0);
-        assert!(with(|words, _| words % ROW_WORDS != 0) > 100);
+        assert!(with(|words, _| words % ROW_WORDS > 0) > 100);
         assert!(with(|words, enough| words + ROW_WORDS == enough) > 10);
         assert!(with(|words, enough| words + 1 == enough) > 0);
         assert!(with(|words, enough| words == enough) > 10);

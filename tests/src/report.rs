@@ -60,7 +60,8 @@ impl Sizes {
     pub fn count_table(&mut self, words: usize, outcome: &Result<usize, u32>) {
         self.no_word += usize::from(words == 0);
         self.under_a_row += usize::from((1..ROW_WORDS).contains(&words));
-        self.broken_row += usize::from(words > ROW_WORDS && words % ROW_WORDS != 0);
+        let broken = words % ROW_WORDS;
+        self.broken_row += usize::from(words > ROW_WORDS && broken > 0);
         self.no_room += usize::from(*outcome == Err(Reply::NoRoom as u32));
     }
 

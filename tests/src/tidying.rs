@@ -149,7 +149,7 @@ mod tests {
                 seen[1] += usize::from(one.room + 1 == copy.len());
                 seen[2] += usize::from(one.room == copy.len());
                 seen[3] += usize::from(one.room > copy.len());
-                seen[4] += usize::from(one.room % ROW_WORDS != 0);
+                seen[4] += usize::from(one.room % ROW_WORDS > 0);
             }
         }
         assert!(seen.iter().all(|&seen| seen > 100), "{seen:?}");

@@ -32,8 +32,8 @@ fn main() -> Result<(), String> {
 
 fn taken_line(taken: &str) -> String {
     format!(
-        "Taken on {taken}. Times are processor time of this one process. The best of {MOST_TURNS} turns counts; no further turn is begun once \
-         the turns took {TIME_FOR_TURNS} s together.\n"
+        "Taken on {taken}. Times are processor time of this one process.\n\
+         The best of {MOST_TURNS} turns counts; no further turn is begun once the turns took {TIME_FOR_TURNS} s together.\n"
     )
 }
 
@@ -70,16 +70,20 @@ fn line(name: &str, subject: &Subject, job: &str, by: &str, seconds: f64) -> Str
     )
 }
 
-/// Thousands or millions a second.
+/// Thousands or millions a second; no rate where so little is done that it
+/// would say nothing.
 fn rate(count: usize, seconds: f64) -> String {
     let rate = count as f64 / seconds;
     match rate {
+        _ if seconds < SHORTEST_FOR_RATE => "–".to_string(),
         1e7.. => format!("{:.0} M", rate / 1e6),
         1e6.. => format!("{:.1} M", rate / 1e6),
         1e4.. => format!("{:.0} k", rate / 1e3),
         _ => format!("{rate:.0}"),
     }
 }
+
+const SHORTEST_FOR_RATE: f64 = 1e-5;
 
 /// Both jobs of both programs.
 #[derive(Clone, Copy)]

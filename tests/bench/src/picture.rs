@@ -7,8 +7,8 @@ use crate::Point;
 
 const PANEL: (f64, f64) = (330.0, 360.0);
 const TOP: f64 = 50.0;
-const LEFTS: [f64; 2] = [80.0, 470.0];
-const SIZE: (f64, f64) = (830.0, 540.0);
+const LEFTS: [f64; 2] = [80.0, 510.0];
+const SIZE: (f64, f64) = (890.0, 540.0);
 
 /// Powers of ten at the ends of the axes: rows and seconds.
 const ROWS: (i32, i32) = (3, 6);
@@ -65,7 +65,8 @@ fn stroke(from: (f64, f64), to: (f64, f64), colour: &str, dash: &str) -> String 
 /// The grid of one panel with its numbers.
 fn panel(name: &str, left: f64) -> String {
     let (right, bottom) = (left + PANEL.0, TOP + PANEL.1);
-    let mut svg = text(left + PANEL.0 / 2.0, TOP - 16.0, "middle", name);
+    let title = format!("{name}: processor time");
+    let mut svg = text(left + PANEL.0 / 2.0, TOP - 16.0, "middle", &title);
     for (power, label) in (ROWS.0..).zip(ROW_NAMES) {
         let x = x(10f64.powi(power), left);
         svg += &stroke((x, TOP), (x, bottom), "#ccc", "none");
