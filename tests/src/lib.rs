@@ -1,4 +1,4 @@
-//! A second reader and tidier of parts lists, written from the paper alone, so
+//! A second reader and tidier of parts lists, written from the rules alone, so
 //! that the proved one can be compared with something that shares no thought
 //! with it.
 

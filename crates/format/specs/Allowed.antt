@@ -1,5 +1,5 @@
--- What the grammar allows and does not, on worked lists of records: a library in a slot, a reference to what comes later, a class that is still
--- open; no null run past an object's end, none over a primitive member, no library twice, no class that comes later.
+-- What the grammar allows and does not, on worked lists of records: a library in a slot and a reference to what the list has; no null run past an
+-- object's end, none over a primitive member, no library twice, no class that comes later.
 use Prim.Native.Nat.{ℕ, zero, suc, _+_, _≤_, _<_}
 use mathlib.Core.Path.{_≡_, refl, ap}
 use mathlib.Core.Bool.{Bool, true, false, _||_}
@@ -89,7 +89,7 @@ no-run-past-the-end (one-array i a q b o) =
     let l = run-of-body b (omega (arith, n)) in
     omega (arith, n, l)
 
--- a run leaves no primitive member out
+-- a run stands over no primitive member
 pub run-over-none : {room own slot at row k : ℕ} {t : SlotType} {ts : List SlotType} {es : List Entry} {rs : List Rec} {is : List Row} {c : Cur}
     → Slots room own slot (t ∷ ts) (cur at row es (nulls k ∷ rs) is) c → somePrimitive (take k (t ∷ ts)) ≡ false
 run-over-none (a-run t k l p u r d) = p

@@ -1,4 +1,4 @@
--- What a person must believe, in the order of the format.
+-- What a person must believe, in the order of the format; then the promises of the public jobs, and worked examples that a wrong definition fails.
 pub mod Bytes
 pub mod Replies
 pub mod Local

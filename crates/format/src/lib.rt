@@ -1,6 +1,7 @@
 // What the promises speak of: the refusals by name, the answers of the four public jobs, primitive codes and slot types, the two
 // counts, rows, frames, and what the readers of fields answer. The definitions that use them stand in specs/, in the order of the
-// format: replies, numbers, prefix, text, values, types, rows, records, machine, view, contents, grammar, says, tidy.
+// format: replies, numbers, prefix, text, values, types, rows, records, machine, view, contents, grammar, says, tidy. After them stand the
+// promises of the jobs, and worked examples that hold the definitions.
 ghost use mathlib.Core.Path.{_≡_};
 ghost use lib.ListN.{replicate};
 ghost use Rattle.format.specs.Replies.{numberOf};

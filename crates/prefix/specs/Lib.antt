@@ -1,3 +1,4 @@
+-- The laws of the length prefix: read, written, and one against the other.
 pub mod Laws
 pub mod Groups
 pub mod Writing

@@ -1,5 +1,5 @@
-// The rows of the lent run of words: read, written, looked up by number, linked. Only this crate knows that a row has eight words
-// and where they lie.
+// The rows of the lent run of words: read, written, looked up by number, linked. Of the crates that the
+// public jobs are made of, only this one knows that a row has eight words and where they lie.
 use format::LibraryNo;
 use format::ObjectNo;
 use format::Row;

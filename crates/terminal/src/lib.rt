@@ -1,4 +1,4 @@
-// The public jobs in the forms that C and Rust call. Nothing else is public to a user.
+// The four public jobs and the comparing one in the forms that C and Rust call. Nothing else is public to a user.
 use format::ReadAnswer;
 use format::Refusal;
 use format::RowAnswer;
