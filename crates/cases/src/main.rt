@@ -19,7 +19,8 @@ fn small(name: &[u8], s: &[u8]) {
     lines::answer(&table, a);
 }
 
-fn counter_examples() {
+// Cases 1 to 6: a string, as it should be, cut, longer, with a root that is not there, with a longer prefix.
+fn of_a_string() {
     one(b"1", b"");
     one(
         b"2",
@@ -49,6 +50,10 @@ fn counter_examples() {
         b"6",
         b"\x00\x01\x00\x00\x00\x01\x00\x00\x00\x01\x00\x00\x00\x00\x00\x00\x00\x06\x01\x00\x00\x00\x84\x00\x31\x32\x45\x35\x0b",
     );
+}
+
+// Cases 7 to 14: an array with null runs and other slots; 13 is case 2 with a table that is too small.
+fn of_an_array() {
     one(
         b"7",
         b"\x00\x01\x00\x00\x00\x01\x00\x00\x00\x01\x00\x00\x00\x00\x00\x00\x00\x10\x01\x00\x00\x00\x03\x00\x00\x00\x0d\x03\x0b",
@@ -99,7 +104,8 @@ fn from_file(i: usize) {
 }
 
 fn main() {
-    counter_examples();
+    of_a_string();
+    of_an_array();
     let n = os::arg_count();
     let mut i: usize = 1;
     while i < n {
