@@ -1,2 +1,1 @@
-// A good model, written, is read and says the same. The laws stand in specs/.
-pub fn nothing() {}
+// A good model, written, is read and says the same. The laws stand in specs/; there is nothing to run.

@@ -1,2 +1,1 @@
-// The demands as theorems about the definitions that the promises cite. They stand in specs/.
-pub fn nothing() {}
+// The demands as theorems about the definitions that the promises cite. They stand in specs/; there is nothing to run.
