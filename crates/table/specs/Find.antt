@@ -13,6 +13,7 @@ use lib.Seq.{drop-cons}
 use Rattle.format.specs.declared.Row.{Row}
 use Rattle.format.specs.Bytes.{pick}
 use Rattle.format.specs.Rows.{blank, rowsOf, isObject, isClass, findFrom, objectRow, classRow, libraryRow}
+use Rattle.fields.specs.Tests.{both-of}
 use Rattle.table.specs.Rows.{length-rowsOf}
 
 -- a row of one of these kinds and of this number
@@ -150,13 +151,8 @@ found-parts : (kinds : ℕ → Bool) (id : ℕ) (rows : List Row) (i : ℕ) → 
 unfolding named
 found-parts kinds id rows i e =
     let h = find-hit (named kinds id) rows i e in
-    let q = both (kinds (getD rows i blank .kind)) (eqb (getD rows i blank .id) id) (h .1) in
+    let q = both-of (kinds (getD rows i blank .kind)) (eqb (getD rows i blank .id) id) (h .1) in
     record { inside = h .0; kind = q .0; same = eqb-true _ _ (q .1) }
-  where
-    both : (a b : Bool) → (a && b) ≡ true → (a ≡ true) × (b ≡ true)
-    both true b e = (refl, e)
-    both false true e = (e, refl)
-    both false false e = (e, e)
 
 module _ (id : ℕ) (rows : List Row) where
   pub object-le : objectRow id rows ≤ length rows
