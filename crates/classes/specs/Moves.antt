@@ -1,6 +1,6 @@
 -- Where libraries, details, members and class records end: after their place, and within the stream.
 use Prim.Native.Nat.{ℕ, zero, suc, _+_, _-_, _≤_, _<_}
-use mathlib.Core.Path.{_≡_}
+use mathlib.Core.Path.{_≡_, sym, ap, _∙_}
 use mathlib.Core.Bool.{Bool, true, false}
 use mathlib.Core.List.{List}
 use native.Mathlib.Omega.{arith}
@@ -49,17 +49,19 @@ module _ (s : List ℕ) (rows : List Row) where
 
   -- ---- details
 
-  pub info-known-moves : (b at e : ℕ) → at ≤ length s → infoKnown s rows b at ≡ F.End e → (at ≤ e) × (e ≤ length s)
+  -- that the library of a detail is known changes no place
+  pub info-plain : (b at e : ℕ) → infoKnown s rows b at ≡ F.End e → infoAt s b at ≡ F.End e
   unfolding infoKnown
-  info-known-moves b at e h q =
+  info-plain b at e q =
       let x = through (λ end. pick (eqb b 4) (knownLibrary s rows end) (F.End end)) (infoAt s b at) e q in
-      let w = info-kept b .moves s at (x .0) h (x .1) in
-      let k = go (x .0) (eqb b 4) (x .2) in
-      (omega arith, omega arith)
+      x .1 ∙ ap F.End (sym (go (x .0) (eqb b 4) (x .2)))
     where
       go : (m : ℕ) (t : Bool) → pick t (knownLibrary s rows m) (F.End m) ≡ F.End e → e ≡ m
       go m true q = known-moves m e q
       go m false q = cc
+
+  pub info-known-moves : (b at e : ℕ) → at ≤ length s → infoKnown s rows b at ≡ F.End e → (at ≤ e) × (e ≤ length s)
+  info-known-moves b at e h q = info-kept b .moves s at e h (info-plain b at e q)
 
   pub infos-moves : (n types at e : ℕ) → at ≤ length s → infosAt s rows n types at ≡ F.End e → (at ≤ e) × (e ≤ length s)
   unfolding infosAt

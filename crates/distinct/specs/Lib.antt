@@ -1,3 +1,2 @@
--- The laws of equal libraries and equal classes: a scan over the rows, then the tests that a scan makes.
-pub mod Scans
+-- The laws of equal libraries and equal classes: the tests that a scan over the rows makes.
 pub mod Equal

@@ -27,6 +27,17 @@ pub told : {A : Type 0} (t : Bool) (a b c : A) → pick t a b ≡ c → (b ≡ c
 told true a b c e n = (refl, e)
 told false a b c e n = absurd (n e)
 
+-- and one that its first choice cannot give
+pub other : {A : Type 0} (t : Bool) (a b c : A) → pick t a b ≡ c → (a ≡ c → ⊥) → (t ≡ false) × (b ≡ c)
+other true a b c e n = absurd (n e)
+other false a b c e n = (refl, e)
+
+pub passes : (t r : Bool) → pick t false r ≡ true → (t ≡ false) × (r ≡ true)
+passes t r e = other t false r true e no
+  where
+    no : false ≡ true → ⊥
+    no f = let z : _≡_ {A = ℕ} 0 1 = cc in omega arith
+
 pub no-end : (f : Refusal) (e : ℕ) → F.Fault f ≡ F.End e → ⊥
 no-end f e q = let z : _≡_ {A = ℕ} 0 1 = cc in omega arith
 

@@ -42,24 +42,10 @@ pub fn code_number(c: PrimitiveCode) -> u32
 fn code_from(k: u32) -> PrimitiveCode
     ensures { λ r. ⌜ r ≡ coded (primitiveOf k) ⌝ }
 {
-    match k {
-        1 => PrimitiveCode::Boolean,
-        2 => PrimitiveCode::Byte,
-        3 => PrimitiveCode::Char,
-        5 => PrimitiveCode::Decimal,
-        6 => PrimitiveCode::Double,
-        7 => PrimitiveCode::Int16,
-        8 => PrimitiveCode::Int32,
-        9 => PrimitiveCode::Int64,
-        10 => PrimitiveCode::SByte,
-        11 => PrimitiveCode::Single,
-        12 => PrimitiveCode::TimeSpan,
-        13 => PrimitiveCode::DateTime,
-        14 => PrimitiveCode::UInt16,
-        15 => PrimitiveCode::UInt32,
-        16 => PrimitiveCode::UInt64,
-        _ => PrimitiveCode::Byte,
+    if 256 <= k {
+        return PrimitiveCode::Byte;
     }
+    types::coded_of(types::primitive_of(k as u8))
 }
 
 pub fn slot_code(t: SlotType) -> u32

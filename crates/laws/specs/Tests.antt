@@ -13,21 +13,11 @@ use Rattle.format.specs.Types.{codeNumber, coded, primitiveOf}
 use Rattle.format.specs.Contents.{Detail, primitive, text, object, system, class, objects, texts, primitives, Member, typeByte}
 use Rattle.format.specs.Says.{From, theSystem, theLibrary, Class}
 use Rattle.format.specs.Tidy.{detailName, detailLibrary, sameDetail, sameMembers, sameFrom, sameClass}
+pub use Rattle.fields.specs.Tests.{bool-ext, both-of}
 use Rattle.types.specs.Codes.{primitive-number}
 use Rattle.same.specs.Laws.{same-eq, same-refl}
 
 -- ---- answers of tests
-
-pub bool-ext : (p q : Bool) → (p ≡ true → q ≡ true) → (q ≡ true → p ≡ true) → p ≡ q
-bool-ext true true f g = refl
-bool-ext true false f g = sym (f refl)
-bool-ext false true f g = g refl
-bool-ext false false f g = refl
-
-pub both-of : (p q : Bool) → p && q ≡ true → (p ≡ true) × (q ≡ true)
-both-of true q e = (refl, e)
-both-of false true e = (e, refl)
-both-of false false e = (e, e)
 
 pub both-true : (p q : Bool) → p ≡ true → q ≡ true → p && q ≡ true
 both-true p q e f = rw (e, f)

@@ -14,10 +14,9 @@ use Rattle.format.specs.Records.{infoKnown}
 use Rattle.format.specs.Contents.{Detail, typeByte, infoBytes, numbersBytes, array, enc}
 use Rattle.format.specs.Says.{anArray, numberFrom, numbersFrom, detailFrom, afterInfo, arrayFrom}
 use Rattle.format.specs.Tidy.{Libraries, detailNeeds, detailBy}
-use Rattle.fields.specs.Parts.{part-through}
+use Rattle.fields.specs.Parts.{part-to, part-through}
 use Rattle.num.specs.Le.{Bytes}
 use Rattle.num.specs.Read.{u32-says}
-use Rattle.prefix.specs.Both.{part-cons}
 use Rattle.types.specs.Keeps.{type-told}
 use Rattle.laws.specs.Fields.{length-numbers}
 use Rattle.put.specs.Out.{between, headOut}
@@ -63,8 +62,8 @@ lengths-is s byte o rank p d h n =
     let y : o + 6 + 4 ≡ o + 10 = omega arith in
     let z : p + 1 - (p + 1) ≡ 0 = omega arith in
     let number = rw (y, n) at (number-there s byte (o + 6) (omega arith)) in
-    let last : between s p (p + 1) ≡ getD s p 0 ∷ [] = part-cons s p (p + 1) h (omega arith) ∙ rw z in
-    part-cons s (o + 5) (p + 1) (omega arith) (omega arith)
+    let last : between s p (p + 1) ≡ getD s p 0 ∷ [] = part-to s p (p + 1) h (omega arith) ∙ rw z in
+    part-to s (o + 5) (p + 1) (omega arith) (omega arith)
     ∙ ap (λ (l : List ℕ). getD s (o + 5) 0 ∷ l)
     (rw x
     (part-through s (o + 6) (o + 10) (p + 1) (omega arith) (omega arith)

@@ -1,7 +1,6 @@
 -- The bytes of a field are how what it says is written: texts, numbers, primitive codes, and the details of types, libraries by their new numbers.
 use Prim.Native.Nat.{ℕ, zero, suc, _+_, _-_, _≤_, _<_}
 use mathlib.Core.Path.{_≡_, refl, sym, ap, ap₂, _∙_}
-use mathlib.Core.Bool.{Bool, true, false}
 use mathlib.Core.List.{List, [], _∷_, _++_, append-assoc}
 use native.Mathlib.Omega.{arith}
 use lib.ListN.{length, getD, drop, length-append, length-drop}
@@ -30,7 +29,7 @@ use Rattle.strings.specs.Laws.{string-told, string-moves, string-converse}
 use Rattle.types.specs.Codes.{number-primitive}
 use Rattle.types.specs.Keeps.{code-told, type-told, name-told, name-moves, library-told}
 use Rattle.laws.specs.Fields.{by-type}
-use Rattle.classes.specs.Moves.{known-moves}
+use Rattle.classes.specs.Moves.{known-moves, info-plain}
 use Rattle.put.specs.Out.{between, textOut}
 use Rattle.writing.specs.Copy.{libraryNumber, infoOut, infosOut}
 use Rattle.meaning.specs.Stands.{StringStands}
@@ -133,19 +132,8 @@ class-info s rows p e q =
         at m (v .0) (omega arith) (omega arith) (name-moves s p m n .0) n (v .1 ∙ ap (N32.Value (v .0)) (sym k))
 
 module _ (s : List ℕ) (rows : List Row) where
-  -- that the library of a detail is known changes no place
-  pub info-at : (type p e : ℕ) → infoKnown s rows type p ≡ F.End e → infoAt s type p ≡ F.End e
-  unfolding infoKnown
-  info-at type p e q =
-      let x = through (λ end. pick (eqb type 4) (knownLibrary s rows end) (F.End end)) (infoAt s type p) e q in
-      x .1 ∙ ap F.End (sym (go (x .0) (eqb type 4) (x .2)))
-    where
-      go : (m : ℕ) (t : Bool) → pick t (knownLibrary s rows m) (F.End m) ≡ F.End e → e ≡ m
-      go m true q = known-moves s rows m e q
-      go m false q = cc
-
   pub info-place : (type p e : ℕ) → infoKnown s rows type p ≡ F.End e → afterInfo s type p ≡ e
-  info-place type p e q = rw (info-at type p e q)
+  info-place type p e q = rw (info-plain s rows type p e q)
 
   pub type-is : (type p : ℕ) → type ≤ 7 → typeByte (detailFrom s rows type p) ≡ type
   unfolding detailFrom
@@ -188,17 +176,17 @@ module _ (s : List ℕ) (byte : Bytes s) (rows rs : List Row) (ls : Libraries) w
   pub info-is : (type p e : ℕ) → type ≤ 7 → infoKnown s rows type p ≡ F.End e → (type ≡ 4 → Numbered s rows rs ls (e - 4))
       → infoOut s rs type p e ≡ infoBytes (detailBy ls (detailFrom s rows type p))
   unfolding infoOut infoAt detailFrom
-  info-is zero p e h q f = code-kept s p e (info-at s rows 0 p e q)
-  info-is (suc zero) p e h q f = let z = info-at s rows 1 p e q in between-none s p e (cc)
-  info-is (suc (suc zero)) p e h q f = let z = info-at s rows 2 p e q in between-none s p e (cc)
-  info-is (suc (suc (suc zero))) p e h q f = text-kept s byte p e (name-stands s p e (info-at s rows 3 p e q))
+  info-is zero p e h q f = code-kept s p e (info-plain s rows 0 p e q)
+  info-is (suc zero) p e h q f = let z = info-plain s rows 1 p e q in between-none s p e (cc)
+  info-is (suc (suc zero)) p e h q f = let z = info-plain s rows 2 p e q in between-none s p e (cc)
+  info-is (suc (suc (suc zero))) p e h q f = text-kept s byte p e (name-stands s p e (info-plain s rows 3 p e q))
   info-is (suc (suc (suc (suc zero)))) p e h q f =
       let c = class-info s rows p e q in
       ap₂ (λ (a b : List ℕ). a ++ b) (text-kept s byte p (e - 4) (name-stands s p (e - 4) (c .named))) (ap (leBytes 4) (f refl))
       ∙ ap (λ (d : Detail (List ℕ)). infoBytes (detailBy ls d)) (sym (class-detail s rows p e c))
-  info-is (suc (suc (suc (suc (suc zero))))) p e h q f = let z = info-at s rows 5 p e q in between-none s p e (cc)
-  info-is (suc (suc (suc (suc (suc (suc zero)))))) p e h q f = let z = info-at s rows 6 p e q in between-none s p e (cc)
-  info-is (suc (suc (suc (suc (suc (suc (suc zero))))))) p e h q f = code-kept s p e (info-at s rows 7 p e q)
+  info-is (suc (suc (suc (suc (suc zero))))) p e h q f = let z = info-plain s rows 5 p e q in between-none s p e (cc)
+  info-is (suc (suc (suc (suc (suc (suc zero)))))) p e h q f = let z = info-plain s rows 6 p e q in between-none s p e (cc)
+  info-is (suc (suc (suc (suc (suc (suc (suc zero))))))) p e h q f = code-kept s p e (info-plain s rows 7 p e q)
   info-is (suc (suc (suc (suc (suc (suc (suc (suc type)))))))) p e h q f = absurd (omega arith)
 
 -- ---- the details of members

@@ -16,11 +16,10 @@ use Rattle.format.specs.Types.{nameAt, typeByteAt, placeOr}
 use Rattle.format.specs.Contents.{Member, namesBytes, typesBytes, infosBytes, classBytes, enc}
 use Rattle.format.specs.Says.{From, theSystem, theLibrary, Class, textFrom, afterText, numberFrom, libraryName, detailFrom, afterInfo, membersFrom, classFrom}
 use Rattle.format.specs.Tidy.{numberIn, Libraries, membersNeed, fromNeeds, classNeeds, membersBy, classBy}
-use Rattle.fields.specs.Parts.{part-through}
+use Rattle.fields.specs.Parts.{part-to, part-through}
 use Rattle.fields.specs.Sequence.{through}
 use Rattle.num.specs.Le.{Bytes}
 use Rattle.num.specs.Read.{u32-says}
-use Rattle.prefix.specs.Both.{part-cons}
 use Rattle.types.specs.Keeps.{type-told, name-moves, names-within, types-within, types-end}
 use Rattle.put.specs.Out.{between, headOut}
 use Rattle.marks.specs.Marks.{word, typesPlace}
@@ -50,7 +49,7 @@ module _ (s : List ℕ) (rows : List Row) (ls : Libraries) where
       let r : times (typeByteAt s) n (types + 1) ≡ F.End e = ap (times (typeByteAt s) n) (sym (w .2)) ∙ x .2 in
       let z = types-end s n (types + 1) e r in
       let type = getD s types 0 in
-      part-cons s types e (w .1) (omega arith)
+      part-to s types e (w .1) (omega arith)
       ∙ ap₂ (λ (b : ℕ) (l : List ℕ). b ∷ l) (sym (same-type ls (detailFrom s rows type infos) ∙ type-is s rows type infos (w .0)))
       (types-is n (afterText s names) (types + 1) (afterInfo s type infos) e r)
 

@@ -19,6 +19,7 @@ use Rattle.laws.specs.Runs.{encs-append}
 use Rattle.put.specs.Out.{between, headOut, byIdOut, headerOut}
 use Rattle.marks.specs.Marks.{rowAt, withId, itemType, numbered, placed, firsts, needed, marked, isFirst}
 use Rattle.writing.specs.Copy.{needClassOut, classOut, objectOut, arrayOut, bodyOut, needInfoOut, recordOut, copyOf}
+use Rattle.writing.specs.Laws.{recordAs, record-as}
 use Rattle.meaning.specs.Stands.{RowStands, the-header, by-id, a-class, a-string, an-array, a-primitive, a-reference, nulls, the-end, a-library, primitives, objects, texts, a-value, ArrayStands, Stands}
 use Rattle.meaning.specs.Marked.{Placed, Firsts, classFields, arrayFields, rowFields, fieldsFrom, All, classFirst}
 use Rattle.meaning.specs.Names.{class-at, array-at}
@@ -32,7 +33,7 @@ use Rattle.meaning.specs.Stamps.{Fields, needed-same}
 use Rattle.meaning.specs.LibrariesOut.{class-out, array-out, Spelled}
 use Rattle.meaning.specs.Orders.{order-object, progressTo, progress-count, itemNeeds, isNew, rowNeeds, class-of-id, first-order, first-before, class-known, class-later}
 use Rattle.meaning.specs.Runs.{nulls-kind}
-use Rattle.meaning.specs.Traversal.{recordAs, record-as, Writes, copied}
+use Rattle.meaning.specs.Traversal.{Writes, copied}
 use Rattle.meaning.specs.Rising.{fields-hold, fields-spelled}
 use Rattle.meaning.specs.Words.{first-kind, class-words, object-words, marked-kind, marked-kept, marked-other, target-id, first-id, class-id}
 use Rattle.meaning.specs.RowLibraries.{class-row-fields, other-row-fields, class-row-needs, other-row-needs, first-new, row-out, row-numbers}

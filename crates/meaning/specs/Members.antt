@@ -21,7 +21,7 @@ use Rattle.num.specs.Le.{Bytes}
 use Rattle.types.specs.Ends.{name-end}
 use Rattle.types.specs.Codes.{number-primitive}
 use Rattle.types.specs.Keeps.{code-told, type-told, name-told, name-moves}
-use Rattle.classes.specs.Moves.{names-there, info-known-moves}
+use Rattle.classes.specs.Moves.{names-there, info-plain, info-known-moves}
 use Rattle.same.specs.Laws.{SameParts, same-eq}
 use Rattle.laws.specs.Tests.{both-of, both-true, pick-of, pick-true, true-same}
 use Rattle.laws.specs.Fields.{by-type}
@@ -29,7 +29,7 @@ use Rattle.marks.specs.Marks.{libraryAt, sameBetween, sameInfo, sameInfos}
 use Rattle.meaning.specs.Stands.{Stands}
 use Rattle.meaning.specs.Marked.{Placed, nameAtField}
 use Rattle.meaning.specs.Alike.{parts-first, parts-last, parts-join, between-of, true-between, string-shift, string-same, same-strings}
-use Rattle.meaning.specs.Bytes.{info-at, info-place, type-is}
+use Rattle.meaning.specs.Bytes.{info-place, type-is}
 use Rattle.meaning.specs.Names.{class-info, same-library}
 
 -- ---- members: their names, and their types
@@ -228,19 +228,19 @@ module _ (s : List ℕ) (rows ps : List Row) (st : Stands s rows) (pl : Placed s
   fair-primitive : Fair s rows ps 0
   unfolding sameInfo detailFrom infoAt
   fair-primitive a x b y h g p q =
-      let w = code-same s a b x y (info-at s rows 0 a x p) (info-at s rows 0 b y q) in
+      let w = code-same s a b x y (info-plain s rows 0 a x p) (info-plain s rows 0 b y q) in
       ((λ t. ap primitive (w .0 t)), (λ t. w .1 cc))
 
   fair-primitives : Fair s rows ps 7
   unfolding sameInfo detailFrom infoAt
   fair-primitives a x b y h g p q =
-      let w = code-same s a b x y (info-at s rows 7 a x p) (info-at s rows 7 b y q) in
+      let w = code-same s a b x y (info-plain s rows 7 a x p) (info-plain s rows 7 b y q) in
       ((λ t. ap primitives (w .0 t)), (λ t. w .1 cc))
 
   fair-system : Fair s rows ps 3
   unfolding sameInfo detailFrom infoAt
   fair-system a x b y h g p q =
-      let w = name-same s (st .bytes) a b x y (info-at s rows 3 a x p) (info-at s rows 3 b y q) in
+      let w = name-same s (st .bytes) a b x y (info-plain s rows 3 a x p) (info-plain s rows 3 b y q) in
       ((λ t. ap system (same-eq (textFrom s a) (textFrom s b) (sym w ∙ t))), (λ t. w ∙ true-same (textFrom s a) (textFrom s b) cc))
 
   -- a type without a detail
@@ -248,7 +248,7 @@ module _ (s : List ℕ) (rows ps : List Row) (st : Stands s rows) (pl : Placed s
       → ((a x b y : ℕ) → sameInfo s ps t a x b y ≡ sameBetween s a x b y) → Fair s rows ps t
   fair-none d t i f k a x b y h g p q = (
     (λ e. f a ∙ sym (f b)),
-    (λ e. k a x b y ∙ no-detail a x b y h g (sym (i a) ∙ info-at s rows t a x p) (sym (i b) ∙ info-at s rows t b y q)),
+    (λ e. k a x b y ∙ no-detail a x b y h g (sym (i a) ∙ info-plain s rows t a x p) (sym (i b) ∙ info-plain s rows t b y q)),
   )
 
   fair : (t : ℕ) → t ≤ 7 → Fair s rows ps t

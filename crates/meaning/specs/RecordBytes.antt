@@ -13,9 +13,8 @@ use Rattle.format.specs.Numbers.{leBytes, u32At}
 use Rattle.format.specs.Types.{codeAt}
 use Rattle.format.specs.Contents.{header, classById, string, typedPrimitive, reference, end, library, primitiveArray, objectArray, stringArray, value, enc}
 use Rattle.format.specs.Says.{textFrom, codeFrom}
-use Rattle.fields.specs.Parts.{part-through}
+use Rattle.fields.specs.Parts.{part-to, part-through}
 use Rattle.num.specs.Le.{Bytes}
-use Rattle.prefix.specs.Both.{part-cons}
 use Rattle.types.specs.Keeps.{code-told}
 use Rattle.put.specs.Out.{between, textOut, headOut, byIdOut, headerOut}
 use Rattle.writing.specs.Copy.{libraryOut, keptOut, stringOut}
@@ -47,14 +46,14 @@ module _ (s : List ℕ) (o e : ℕ) where
   unfolding enc
   end-is k h g =
       let z : e - (o + 1) ≡ 0 = omega arith in
-      part-cons s o e (omega arith) (omega arith) ∙ rw (k, z)
+      part-to s o e (omega arith) (omega arith) ∙ rw (k, z)
 
   pub typed-is : getD s o 0 ≡ 8 → codeAt s (o + 1) ≡ F.End (o + 2) → o + 2 ≤ e
       → between s o e ≡ enc (typedPrimitive (codeFrom s (o + 1)) (part s (o + 2) (e - (o + 2))))
   unfolding enc
   typed-is k c h =
       let w = code-told s (o + 1) (o + 2) c in
-      part-cons s o e (omega arith) (omega arith)
+      part-to s o e (omega arith) (omega arith)
       ∙ ap₂ (λ (b : ℕ) (l : List ℕ). b ∷ l) k
       (part-through s (o + 1) (o + 2) e (omega arith) h ∙ ap (λ (l : List ℕ). l ++ between s (o + 2) e) (code-kept s (o + 1) (o + 2) c))
 

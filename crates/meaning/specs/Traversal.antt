@@ -1,7 +1,7 @@
 -- Row by row: where each row's record is written as what was written before it asks, the copy of the rows is the tidy copy of what they say.
 use Prim.Native.Nat.{ℕ, zero, suc, _+_, _-_, _<_}
 use mathlib.Core.Path.{_≡_, refl, sym, ap, subst, _∙_}
-use mathlib.Core.Bool.{true, false, _||_}
+use mathlib.Core.Bool.{true, false}
 use mathlib.Core.List.{List, [], _∷_, _++_, append-nil, append-assoc}
 use native.Mathlib.Omega.{arith}
 use native.Mathlib.Numerals.{add-one}
@@ -10,17 +10,16 @@ use lib.Seq.{drop-cons}
 use lib.Dec.{eqb}
 use borrow.Author.Tests.{eqb-true, eqb-false, ne-eqb}
 use Rattle.format.specs.declared.Row.{Row}
-use Rattle.format.specs.Bytes.{pick}
 use Rattle.format.specs.Rows.{blank, isClass}
 use Rattle.format.specs.Contents.{Rec, header, end, enc, encs}
 use Rattle.format.specs.Says.{Node, orderOf, whatFrom, isNulls, isSilent, nodesOf, nodesFrom, says}
 use Rattle.format.specs.Tidy.{Progress, nothing, recordsOf, afterWhat, pack, Run, noRun, runOf, squeeze, tidyRecords, tidyOf}
 use Rattle.laws.specs.Tests.{differ, either}
 use Rattle.laws.specs.Runs.{encs-append}
-use Rattle.put.specs.Out.{between, headOut, byIdOut, headerOut, runOut}
-use Rattle.marks.specs.Marks.{rowAt}
+use Rattle.put.specs.Out.{runOut}
 use Rattle.writing.specs.declared.Gathered.{Gathered}
-use Rattle.writing.specs.Copy.{objectOut, arrayOut, keptOut, stringOut, recordOut, noneYet, isPassed, beforeOut, runAfter, rowOut, copyFrom, copyOf}
+use Rattle.writing.specs.Copy.{recordOut, noneYet, isPassed, beforeOut, runAfter, rowOut, copyFrom, copyOf}
+use Rattle.writing.specs.Laws.{record-as}
 use Rattle.meaning.specs.Stands.{RowStands, the-header, by-id, a-class, a-string, an-array, a-primitive, a-reference, nulls, the-end, a-library, primitives, objects, texts, a-value, Stands}
 use Rattle.meaning.specs.Orders.{said-other, nodes-silent, after-silent, after-run, after-said, progressTo, progress-none, progress-next}
 use Rattle.meaning.specs.Runs.{Match, match-none, nulls-kind, nulls-speak, nodes-passed, passed-library, before-passed, run-passed, before-other, run-other, nullsAfter, null-match, null-row, end-row, other-row}
@@ -63,28 +62,11 @@ module _ (s : List ℕ) (rows : List Row) (i : ℕ) (r : Row) where
 -- ---- libraries and nulls are written with other rows
 
 module _ (s : List ℕ) (rs : List Row) (i : ℕ) (r : Row) where
-  -- what is written of a row if its kind is k
-  abbrev pub recordAs : ℕ → List ℕ
-  recordAs k =
-      pick (eqb k 0) (headerOut (rowAt rs (r .link) .id))
-      (pick (eqb k 1) (byIdOut (r .id) (rowAt rs (rowAt rs (r .link) .link) .id))
-      (pick (isClass k) (objectOut s rs i r)
-      (pick (eqb k 6) (stringOut s r)
-      (pick (eqb k 7) (arrayOut s rs r)
-      (pick (eqb k 9) (headOut 9 (rowAt rs (r .link) .id))
-      (pick (isNulls k || eqb k 12) []
-      (pick (eqb k 15 || (eqb k 16 || eqb k 17)) (keptOut s r)
-      (between s (r .offset) (r .end)))))))))
-
-  pub record-as : (k : ℕ) → r .kind ≡ k → recordOut s rs i r ≡ recordAs k
-  unfolding recordOut
-  record-as k e = ap recordAs e
-
   pub record-library : r .kind ≡ 12 → recordOut s rs i r ≡ []
-  record-library e = record-as 12 e
+  record-library e = record-as s rs i r 12 e
 
   pub record-nulls : isNulls (r .kind) ≡ true → recordOut s rs i r ≡ []
-  record-nulls e = nulls-kind (r .kind) e (λ (k : ℕ). r .kind ≡ k → recordOut s rs i r ≡ []) (record-as 10) (record-as 13) (record-as 14) refl
+  record-nulls e = nulls-kind (r .kind) e (λ (k : ℕ). r .kind ≡ k → recordOut s rs i r ≡ []) (record-as s rs i r 10) (record-as s rs i r 13) (record-as s rs i r 14) refl
 
 -- ---- the copy
 

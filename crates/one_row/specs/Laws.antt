@@ -1,18 +1,15 @@
 -- What each writer of arrays and of kept objects puts out, and one law for each kind of row.
 use Prim.Native.Nat.{ℕ, _+_, _%_}
 use mathlib.Core.Path.{_≡_, refl, sym, ap, _∙_}
-use mathlib.Core.Bool.{Bool, _||_}
-use mathlib.Core.List.{List, [], _++_}
+use mathlib.Core.List.{List, _++_}
 use lib.ListN.{getD}
-use lib.Dec.{eqb}
 use borrow.Author.Tests.{ne-eqb}
 use Rattle.format.specs.declared.Row.{Row}
-use Rattle.format.specs.Bytes.{pick}
-use Rattle.format.specs.Rows.{isClass}
-use Rattle.format.specs.Says.{afterInfo, isNulls}
+use Rattle.format.specs.Says.{afterInfo}
 use Rattle.put.specs.Out.{between, textOut, headOut, byIdOut, headerOut}
 use Rattle.marks.specs.Marks.{rowAt, itemType}
-use Rattle.writing.specs.Copy.{needInfoOut, infoOut, objectOut, itemsOut, bodyOut, arrayOut, keptOut, stringOut, recordOut}
+use Rattle.writing.specs.Laws.{record-as}
+use Rattle.writing.specs.Copy.{needInfoOut, infoOut, itemsOut, bodyOut, arrayOut, keptOut, stringOut, recordOut}
 
 -- ---- what is written as two pieces
 pub kept-is : (s : List ℕ) (r : Row) → keptOut s r ≡ headOut (r .kind % 256) (r .id) ++ between s (r .offset + 5) (r .end)
@@ -45,31 +42,15 @@ module _ (s : List ℕ) (rs : List Row) (r : Row) where
 
 -- ---- one clause for each kind
 module _ (s : List ℕ) (rs : List Row) (i : ℕ) (r : Row) where
-  abbrev pub byKind : ℕ → List ℕ
-  byKind k =
-      pick (eqb k 0) (headerOut (rowAt rs (r .link) .id))
-      (pick (eqb k 1) (byIdOut (r .id) (rowAt rs (rowAt rs (r .link) .link) .id))
-      (pick (isClass k) (objectOut s rs i r)
-      (pick (eqb k 6) (stringOut s r)
-      (pick (eqb k 7) (arrayOut s rs r)
-      (pick (eqb k 9) (headOut 9 (rowAt rs (r .link) .id))
-      (pick (isNulls k || eqb k 12) []
-      (pick (eqb k 15 || (eqb k 16 || eqb k 17)) (keptOut s r)
-      (between s (r .offset) (r .end)))))))))
-
-  pub of-kind : (k : ℕ) → r .kind ≡ k → recordOut s rs i r ≡ byKind k
-  unfolding recordOut
-  of-kind k h = ap byKind h
-
   pub record-0 : (t : Row) → r .kind ≡ 0 → t ≡ rowAt rs (r .link) → recordOut s rs i r ≡ headerOut (t .id)
-  record-0 t h x = of-kind 0 h ∙ ap (λ (q : Row). headerOut (q .id)) (sym x)
+  record-0 t h x = record-as s rs i r 0 h ∙ ap (λ (q : Row). headerOut (q .id)) (sym x)
 
   pub record-1 : (c t : Row) → r .kind ≡ 1 → c ≡ rowAt rs (r .link) → t ≡ rowAt rs (c .link) → recordOut s rs i r ≡ byIdOut (r .id) (t .id)
   record-1 c t h x y =
-      of-kind 1 h ∙ ap (λ (q : Row). byIdOut (r .id) (q .id)) (sym (y ∙ ap (λ (q : Row). rowAt rs (q .link)) x))
+      record-as s rs i r 1 h ∙ ap (λ (q : Row). byIdOut (r .id) (q .id)) (sym (y ∙ ap (λ (q : Row). rowAt rs (q .link)) x))
 
   pub record-9 : (t : Row) → r .kind ≡ 9 → t ≡ rowAt rs (r .link) → recordOut s rs i r ≡ headOut 9 (t .id)
-  record-9 t h x = of-kind 9 h ∙ ap (λ (q : Row). headOut 9 (q .id)) (sym x)
+  record-9 t h x = record-as s rs i r 9 h ∙ ap (λ (q : Row). headOut 9 (q .id)) (sym x)
 
   abbrev Not : ℕ → Type 0
   Not k = r .kind ≡ k → ⊥
@@ -77,7 +58,7 @@ module _ (s : List ℕ) (rs : List Row) (i : ℕ) (r : Row) where
   pub record-other : Not 0 → Not 1 → Not 4 → Not 5 → Not 6 → Not 7 → Not 9 → Not 10 → Not 12 → Not 13 → Not 14 → Not 15 → Not 16 → Not 17
       → recordOut s rs i r ≡ between s (r .offset) (r .end)
   record-other a b c d e f g h j k l m n o =
-      of-kind (r .kind) refl
+      record-as s rs i r (r .kind) refl
       ∙ rw (
         ne-eqb _ _ a,
         ne-eqb _ _ b,

@@ -18,11 +18,12 @@ use Rattle.format.specs.Says.{textFrom, afterText, numberFrom, numbersFrom, cod
 use Rattle.format.specs.Grammar.{ClassInfo, GoodDetail, Lengths, Array, of-objects, of-strings, of-primitives, of-any, of-values}
 use Rattle.num.specs.Read.{u32-says}
 use Rattle.laws.specs.Fields.{positive-bits, length-numbers-bytes}
+use Rattle.classes.specs.Moves.{info-plain}
 use Rattle.places.specs.Env.{envOf}
 use Rattle.places.specs.Stand.{Stand, stand-size, stand-same, stand-split, stand-here, stand-after}
 use Rattle.places.specs.Fields.{number-size, number-from, name-text, code-from}
 use Rattle.places.specs.Details.{detailIn, detail-there, detail-in}
-use Rattle.places.specs.Members.{membersIn, info-plain}
+use Rattle.places.specs.Members.{membersIn}
 use Rattle.places.specs.Classes.{class-there}
 use Rattle.places.specs.Lengths.{ranked-small, lengths-in}
 use Rattle.places.specs.Recs.{Good, is-header, is-class-by-id, is-system-class, is-library-class, is-string, is-typed-primitive, is-reference, is-null, is-end, is-library, is-nulls, is-many-nulls, is-array}

@@ -1,21 +1,18 @@
 -- The members of a class at their places (01, Records): all names, then all type bytes, then the details. Members that the grammar takes are
 -- those that end, read at a place they are those written there, and the types that an open object sees are those of the members.
-use Prim.Native.Nat.{ℕ, zero, suc, _+_, _-_, _≤_, _<_}
-use mathlib.Core.Path.{_≡_, refl, sym, ap, _∙_}
-use mathlib.Core.Bool.{Bool, true, false}
+use Prim.Native.Nat.{ℕ, zero, suc, _+_, _≤_, _<_}
+use mathlib.Core.Path.{_≡_, refl, ap}
 use mathlib.Core.List.{List, [], _∷_}
 use native.Mathlib.Omega.{arith}
 use lib.ListN.{length, getD}
-use lib.Dec.{eqb}
 use borrow.Author.Tests.{lt-ltb}
 use Rattle.format.specs.declared.SlotType.{SlotType}
 use Rattle.format.specs.declared.Field.the-variants as F
 use Rattle.format.specs.declared.Row.{Row}
-use Rattle.format.specs.Bytes.{pick}
 use Rattle.format.specs.Text.{stringBytes}
 use Rattle.format.specs.Values.{times}
-use Rattle.format.specs.Types.{typeByteAt, nameAt, infoAt, typedAt}
-use Rattle.format.specs.Records.{knownLibrary, infoKnown, infosAt}
+use Rattle.format.specs.Types.{typeByteAt, nameAt, typedAt}
+use Rattle.format.specs.Records.{infoKnown, infosAt}
 use Rattle.format.specs.Contents.{Member, typeByte, infoBytes, slotFor, namesBytes, typesBytes, infosBytes}
 use Rattle.format.specs.Says.{textFrom, afterText, afterInfo}
 use Rattle.format.specs.Grammar.{Entry, Members, no-more, member, typesOf}
@@ -24,7 +21,7 @@ use Rattle.num.specs.Le.{Bytes}
 use Rattle.types.specs.Ends.{type-end}
 use Rattle.types.specs.Keeps.{type-told, name-moves}
 use Rattle.types.specs.Slots.{moved-on}
-use Rattle.classes.specs.Moves.{known-moves, info-known-moves}
+use Rattle.classes.specs.Moves.{info-plain, info-known-moves}
 use Rattle.places.specs.Env.{envOf, slotsFrom}
 use Rattle.places.specs.Stand.{Stand, stand-size, stand-none, stand-byte, stand-then, stand-split, stand-inside, stand-here, stand-after}
 use Rattle.places.specs.Fields.{name-there, name-text, name-back}
@@ -48,17 +45,6 @@ pub record MembersAt (es : List Entry) (s : List ℕ) (ms : List (Member ℕ)) (
   pub names-stand : Stand s (namesBytes ms) names a
   pub types-stand : Stand s (typesBytes ms) types b
   pub infos-stand : Stand s (infosBytes ms) infos c
-
--- a detail that ends with its library known ends
-pub info-plain : (s : List ℕ) (rows : List Row) (b p e : ℕ) → infoKnown s rows b p ≡ F.End e → infoAt s b p ≡ F.End e
-unfolding infoKnown
-info-plain s rows b p e q =
-    let x = through (λ m. pick (eqb b 4) (knownLibrary s rows m) (F.End m)) (infoAt s b p) e q in
-    x .1 ∙ ap F.End (sym (go (x .0) (eqb b 4) (x .2)))
-  where
-    go : (m : ℕ) (t : Bool) → pick t (knownLibrary s rows m) (F.End m) ≡ F.End e → e ≡ m
-    go m true q = known-moves s rows m e q
-    go m false q = cc
 
 module _ (s : List ℕ) (rows : List Row) where
   -- ---- what ends is written so

@@ -4,7 +4,6 @@ use mathlib.Core.Path.{_≡_, refl, sym, ap, _∙_, subst}
 use mathlib.Core.Bool.{Bool, true, false}
 use mathlib.Core.List.{List, _++_}
 use native.Mathlib.Omega.{arith}
-use native.Mathlib.Nat.{add-comm, mul-suc}
 use lib.ListN.{length, getD, drop, length-append}
 use lib.Dec.{eqb}
 use borrow.Author.Tests.{leb-true, ne-eqb, eqb-false}
@@ -17,8 +16,8 @@ use Rattle.format.specs.Prefix.{prefixBytes}
 use Rattle.format.specs.Text.{needOf, wellFormed}
 use Rattle.format.specs.Values.{bytesAt, booleanAt, charAt, decimal, decimalAt, dateTimeAt, sizeOf, valueAt, times, itemsAt}
 use Rattle.format.specs.Grammar.{Value, number, boolean, scalar, exact, moment, Values, none, more}
-use Rattle.fields.specs.Parts.{length-part, part-cons, part-first, part-add, part-through}
-use Rattle.fields.specs.Judged.{judged-taken, judged-end}
+use Rattle.fields.specs.Parts.{length-part, part-cons, part-first, part-add, part-through, pieces}
+use Rattle.fields.specs.Judged.{passes, judged-taken, judged-end}
 use Rattle.fields.specs.Sequence.{through}
 use Rattle.num.specs.Le.{Bytes}
 use Rattle.prefix.specs.Laws.{bound}
@@ -126,12 +125,8 @@ char-back s p e q =
     let z : e - p ≡ n = omega arith in
     let f : getD (part s p n) 0 0 ≡ getD s p 0 = part-first s p n (omega arith) in
     let g : pick (eqb (needOf (getD s p 0)) 4) false (wellFormed (part s p n)) ≡ true = rw f at (w .good) in
-    let v = other (eqb (needOf (getD s p 0)) 4) (wellFormed (part s p n)) g in
+    let v = passes (eqb (needOf (getD s p 0)) 4) (wellFormed (part s p n)) g in
     rw z (scalar (v .1) (rw f (omega (arith, need-bound (getD s p 0), eqb-false (needOf (getD s p 0)) 4 (v .0)))) (rw f (length-part s p n (w .room))))
-  where
-    other : (t r : Bool) → pick t false r ≡ true → (t ≡ false) × (r ≡ true)
-    other true r e = absurd (let z : _≡_ {A = ℕ} 0 1 = cc in omega arith)
-    other false r e = (refl, e)
 
 decimal-back : (s : List ℕ) (p e : ℕ) → Bytes s → decimalAt s p ≡ F.End e → Value C.Decimal (part s p (e - p))
 decimal-back s p e b q =
@@ -178,15 +173,12 @@ value-back s c p e b q =
 
 -- ---- items
 
-one-more : (m n : ℕ) → m * suc n ≡ m + m * n
-one-more m n = mul-suc m n ∙ add-comm (m * n) m
-
 values-length : (c : PrimitiveCode) (n : ℕ) (vs : List ℕ) → 0 < sizeOf c → Values c n vs → length vs ≡ sizeOf c * n
 values-length c n vs h none = omega arith
 values-length c n vs h (more {n = k} {v = v} {vs = us} g gs e) =
     let a = value-length c v h g in
     let b = values-length c k us h gs in
-    rw (e, length-append v us, a, b) (sym (one-more (sizeOf c) k))
+    rw (e, length-append v us, a, b) (sym (pieces (sizeOf c) k))
 
 each-there : (s : List ℕ) (c : PrimitiveCode) (n : ℕ) (vs : List ℕ) (p e : ℕ) → Values c n vs → Stand s vs p e → times (valueAt s c) n p ≡ F.End e
 unfolding times
@@ -226,7 +218,7 @@ each-back s c (suc n) p e b h q =
 bytes-values : (s : List ℕ) (c : PrimitiveCode) (n p : ℕ) → 0 < sizeOf c → p + sizeOf c * n ≤ length s → Values c n (part s p (sizeOf c * n))
 bytes-values s c zero p h g = let z : sizeOf c * 0 ≡ 0 = omega arith in rw z none
 bytes-values s c (suc n) p h g =
-    let z = one-more (sizeOf c) n in
+    let z = pieces (sizeOf c) n in
     rw z (more {v = part s p (sizeOf c)} (number h (length-part s p (sizeOf c) (omega arith))) (bytes-values s c n (p + sizeOf c) h (omega arith)) (part-add s p (sizeOf c) (sizeOf c * n)))
 
 pub items-back : (s : List ℕ) (c : PrimitiveCode) (n p e : ℕ) → Bytes s → p ≤ length s → itemsAt s c n p ≡ F.End e

@@ -1,8 +1,8 @@
 -- Reader and writer together: the reader's answer depends only on the bytes that it takes, what the writer writes is read back, and
 -- what the reader takes is what the writer writes.
 use Prim.Native.Nat.{ℕ, zero, suc, _+_, _-_, _*_, _/_, _%_, _^_, _≤_, _<_}
-use mathlib.Core.Path.{_≡_, refl, ap, ap₂, _∙_}
-use mathlib.Core.List.{List, _∷_, _++_}
+use mathlib.Core.Path.{_≡_, refl, sym, ap, ap₂, _∙_}
+use mathlib.Core.List.{List, [], _∷_, _++_}
 use native.Mathlib.Omega.{arith}
 use native.Mathlib.Nat.{pow-suc}
 use native.Mathlib.Numerals.{add-one}
@@ -12,6 +12,7 @@ use lib.Seq.{drop-cons, take-at}
 use Rattle.format.specs.declared.Prefix.the-variants as P
 use Rattle.format.specs.Bytes.{part}
 use Rattle.format.specs.Prefix.{prefixIn, prefixAt, groupsOf, prefixBytes}
+use Rattle.fields.specs.Parts.{part-first, part-to, stands-at, there}
 use Rattle.prefix.specs.Laws.{One, On, every, moves, fifth, last, more}
 use Rattle.prefix.specs.Groups.{groups-last, groups-more}
 
@@ -23,15 +24,14 @@ pub record Head (s : List ℕ) (p b : ℕ) (l : List ℕ) : Type 0 where
 
 pub head-at : (s : List ℕ) (p b : ℕ) (l : List ℕ) → drop p s ≡ b ∷ l → Head s p b l
 head-at s p b l e =
-    let h : p < length s = omega (arith, simp length-drop at (ap length e)) in
-    let d = drop-cons s p 0 h in
-    record { inside = h; byte = cc; rest = rw add-one (cc) }
+    let w = stands-at s (b ∷ []) l p 1 refl (there s (b ∷ []) l p (omega arith) e) e in
+    record {
+      inside = omega (arith, w .room);
+      byte = sym (part-first s p 1 (omega arith)) ∙ ap (λ (m : List ℕ). getD m 0 0) (w .same);
+      rest = w .after;
+    }
 
 -- ---- only the bytes that are taken
-pub part-cons : (s : List ℕ) (p e : ℕ) → p < length s → p < e → part s p (e - p) ≡ getD s p 0 ∷ part s (p + 1) (e - (p + 1))
-part-cons s p e i h =
-    let d : e - p ≡ suc (e - (p + 1)) = omega arith in
-    rw (d, drop-cons s p 0 i, add-one p)
 
 module _ (s t rest : List ℕ) where
   -- the same bytes at any place of t give the same number
@@ -40,7 +40,7 @@ module _ (s t rest : List ℕ) where
     same : (q : ℕ) → drop q t ≡ part s p (e - p) ++ rest → prefixIn k least t q ≡ P.Length n (q + (e - p))
 
   stands : (p e q : ℕ) → p < length s → p < e → drop q t ≡ part s p (e - p) ++ rest → Head t q (getD s p 0) (part s (p + 1) (e - (p + 1)) ++ rest)
-  stands p e q i h d = head-at t q (getD s p 0) (part s (p + 1) (e - (p + 1)) ++ rest) (d ∙ rw (part-cons s p e i h))
+  stands p e q i h d = head-at t q (getD s p 0) (part s (p + 1) (e - (p + 1)) ++ rest) (d ∙ rw (part-to s p e i h))
 
   alike-one : One s Alike
   alike-one k least p i l h f = record { after = omega arith; same = λ q d. go k f q (stands p (p + 1) q i (omega arith) d) }

@@ -2,7 +2,6 @@
 use Prim.Native.Nat.{ℕ, zero, suc, _+_, _*_, _-_, _%_, _≤_, _<_, _^_}
 use mathlib.Core.Path.{_≡_, refl}
 use mathlib.Core.List.{List}
-use mathlib.Core.Bool.{Bool, true, false}
 use native.Mathlib.Omega.{arith}
 use native.Mathlib.Nat.{pow-suc, one-le-pow, pow-le-pow-right}
 use lib.ListN.{length, getD}
@@ -11,8 +10,8 @@ use borrow.Author.Tests.{ltb-true, ltb-false, leb-true, le-leb, lt-leb, lt-ltb, 
 use Rattle.format.specs.declared.Refusal.the-variants as R
 use Rattle.format.specs.declared.Prefix.{Prefix}
 use Rattle.format.specs.declared.Prefix.the-variants as P
-use Rattle.format.specs.Bytes.{pick}
 use Rattle.format.specs.Prefix.{prefixIn, prefixAt, onto}
+use Rattle.fields.specs.Judged.{picked}
 
 -- ---- the ways that the groups end
 module _ (least : ℕ) (s : List ℕ) (p : ℕ) where
@@ -58,10 +57,6 @@ abbrev pub Holds : (ℕ → ℕ → Type 0) → Prefix → Type 0
 Holds Q (P.Length n e) = Q n e
 Holds Q (P.Fault f) = Unit {0}
 
-cases : (Q : Prefix → Type 0) (t : Bool) {a b : Prefix} → (t ≡ true → Q a) → (t ≡ false → Q b) → Q (pick t a b)
-cases Q true f g = f refl
-cases Q false f g = g refl
-
 holds-onto : (A B : ℕ → ℕ → Type 0) (g : ℕ) (r : Prefix) → ((m e : ℕ) → A m e → B (g + 128 * m) e) → Holds A r → Holds B (onto g r)
 holds-onto A B g (P.Length m e) f a = f m e a
 holds-onto A B g (P.Fault x) f a = tt
@@ -82,9 +77,9 @@ module _ (s : List ℕ) (Q : ℕ → ℕ → ℕ → ℕ → ℕ → Type 0) (on
   unfolding prefixIn
   every zero least p =
       let H = Holds (Q 0 least p) in
-      cases H (ltb p (length s))
-      (λ i. cases H (leb least (getD s p 0))
-      (λ l. cases H (ltb (getD s p 0) 8)
+      picked H (ltb p (length s))
+      (λ i. picked H (leb least (getD s p 0))
+      (λ l. picked H (ltb (getD s p 0) 8)
       (λ h.
       let b = ltb-true (getD s p 0) 8 h in
       one 0 least p (ltb-true p (length s) i) (leb-true least (getD s p 0) l) (omega arith) (λ z. b))
@@ -93,9 +88,9 @@ module _ (s : List ℕ) (Q : ℕ → ℕ → ℕ → ℕ → ℕ → Type 0) (on
       (λ i. tt)
   every (suc k) least p =
       let H = Holds (Q (suc k) least p) in
-      cases H (ltb p (length s))
-      (λ i. cases H (leb least (getD s p 0))
-      (λ l. cases H (ltb (getD s p 0) 128)
+      picked H (ltb p (length s))
+      (λ i. picked H (leb least (getD s p 0))
+      (λ l. picked H (ltb (getD s p 0) 128)
       (λ h. one (suc k) least p (ltb-true p (length s) i) (leb-true least (getD s p 0) l) (ltb-true (getD s p 0) 128 h) (λ z. absurd (omega arith)))
       (λ h.
       holds-onto (Q k 1 (p + 1)) (Q (suc k) least p) (getD s p 0 % 128) (prefixIn k 1 s (p + 1))

@@ -1,6 +1,6 @@
 -- Compared bytes: `sameBytes` is equality of lists, `samePart` equality of parts that are there.
 use Prim.Native.Nat.{ℕ, _+_, _-_, _≤_, _<_}
-use mathlib.Core.Path.{_≡_, refl, sym}
+use mathlib.Core.Path.{_≡_, refl}
 use mathlib.Core.List.{List, [], _∷_}
 use mathlib.Core.Bool.{Bool, true, false, _&&_}
 use native.Mathlib.Omega.{arith}
@@ -9,20 +9,7 @@ use lib.ListN.{length}
 use lib.Dec.{eqb, leb}
 use borrow.Author.Tests.{eq-eqb, eqb-true, le-leb, lt-leb, leb-true}
 use Rattle.format.specs.Bytes.{part, sameBytes, samePart}
-
-both-left : (p q : Bool) → p && q ≡ true → p ≡ true
-both-left true q e = refl
-both-left false q e = e
-
-both-right : (p q : Bool) → p && q ≡ true → q ≡ true
-both-right true q e = e
-both-right false q e = absurd (let z : _≡_ {A = ℕ} 0 1 = cc in omega arith)
-
-iff : (p q : Bool) → (p ≡ true → q ≡ true) → (q ≡ true → p ≡ true) → p ≡ q
-iff true true f g = refl
-iff true false f g = sym (f refl)
-iff false true f g = g refl
-iff false false f g = refl
+use Rattle.fields.specs.Tests.{bool-ext, both-of}
 
 -- ---- two lists
 
@@ -32,8 +19,9 @@ same-eq [] [] e = refl
 same-eq [] (y ∷ m) e = absurd (let z : _≡_ {A = ℕ} 0 1 = cc in omega arith)
 same-eq (x ∷ l) [] e = absurd (let z : _≡_ {A = ℕ} 0 1 = cc in omega arith)
 same-eq (x ∷ l) (y ∷ m) e =
-    let h : x ≡ y = eqb-true x y (both-left (eqb x y) (sameBytes l m) e) in
-    let t = same-eq l m (both-right (eqb x y) (sameBytes l m) e) in
+    let w = both-of (eqb x y) (sameBytes l m) e in
+    let h : x ≡ y = eqb-true x y (w .0) in
+    let t = same-eq l m (w .1) in
     cc
 
 pub same-refl : (l : List ℕ) → sameBytes l l ≡ true
@@ -61,11 +49,12 @@ module _ (s : List ℕ) (a b n : ℕ) where
   pub same-parts : samePart s a b n ≡ true → SameParts s a b n
   unfolding samePart
   same-parts e =
-      let rest = both-right (leb (a + n) (length s)) (leb (b + n) (length s) && sameBytes (part s a n) (part s b n)) e in
+      let x = both-of (leb (a + n) (length s)) (leb (b + n) (length s) && sameBytes (part s a n) (part s b n)) e in
+      let y = both-of (leb (b + n) (length s)) (sameBytes (part s a n) (part s b n)) (x .1) in
       record {
-        first = leb-true (a + n) (length s) (both-left (leb (a + n) (length s)) (leb (b + n) (length s) && sameBytes (part s a n) (part s b n)) e);
-        second = leb-true (b + n) (length s) (both-left (leb (b + n) (length s)) (sameBytes (part s a n) (part s b n)) rest);
-        equal = same-eq (part s a n) (part s b n) (both-right (leb (b + n) (length s)) (sameBytes (part s a n) (part s b n)) rest);
+        first = leb-true (a + n) (length s) (x .0);
+        second = leb-true (b + n) (length s) (y .0);
+        equal = same-eq (part s a n) (part s b n) (y .1);
       }
 
   pub parts-same : SameParts s a b n → samePart s a b n ≡ true
@@ -81,6 +70,6 @@ module _ (s : List ℕ) (a b n : ℕ) where
       → r ≡ samePart s a b n
   part-whole r g h w =
       let v = rw (add-sub-cancel-left a n, add-sub-cancel-left b n) at w in
-      iff r (samePart s a b n)
+      bool-ext r (samePart s a b n)
       (λ e. parts-same (record { first = g; second = h; equal = v .0 e }))
       (λ e. v .1 (same-parts e .equal))

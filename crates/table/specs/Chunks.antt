@@ -3,9 +3,10 @@ use mathlib.Core.Path.{_≡_, refl, ap, _∙_}
 use mathlib.Core.List.{List, [], _∷_, _++_, append-assoc, map}
 use Prim.Native.Nat.{ℕ, zero, suc, _+_, _-_, _*_, _≤_, _<_}
 use native.Mathlib.Omega.{arith}
-use native.Mathlib.Nat.{mul-zero, mul-suc, add-comm, add-assoc, zero-add}
+use native.Mathlib.Nat.{mul-zero, add-assoc, zero-add}
 use lib.ListN.{length, getD, take, drop, set, length-drop}
 use lib.Seq.{drop-drop, take-at, drop-at, take-add, length-take-le, take-set-lt, take-set-le, drop-set-lt, drop-set-add}
+use Rattle.fields.specs.Parts.{pieces}
 
 unfoldable pub chunks : ℕ → ℕ → List ℕ → List (List ℕ)
 chunks w zero t = []
@@ -15,10 +16,6 @@ pub map-set : {A B : Type 0} (f : A → B) (l : List A) (i : ℕ) (a : A) → ma
 map-set f [] i a = refl
 map-set f (x ∷ l) zero a = refl
 map-set f (x ∷ l) (suc i) a = ap (λ (m : List _). f x ∷ m) (map-set f l i a)
-
--- w words more
-more : (w n : ℕ) → w * suc n ≡ w + w * n
-more w n = mul-suc w n ∙ add-comm (w * n) w
 
 module _ (w : ℕ) where
   pub length-chunks : (n : ℕ) (t : List ℕ) → length (chunks w n t) ≡ n
@@ -30,14 +27,14 @@ module _ (w : ℕ) where
   unfolding chunks
   chunk-at zero i t h = absurd (omega arith)
   chunk-at (suc n) zero t h = rw mul-zero
-  chunk-at (suc n) (suc i) t h = chunk-at n i (drop w t) (omega arith) ∙ rw (drop-drop, more w i)
+  chunk-at (suc n) (suc i) t h = chunk-at n i (drop w t) (omega arith) ∙ rw (drop-drop, pieces w i)
 
   -- one chunk more is after the others
   pub chunks-suc : (n : ℕ) (t : List ℕ) → chunks w (suc n) t ≡ chunks w n t ++ (take w (drop (w * n) t) ∷ [])
   unfolding chunks
   chunks-suc zero t = rw mul-zero
   chunks-suc (suc n) t =
-      let e : drop (w * n) (drop w t) ≡ drop (w * suc n) t = rw (drop-drop, more w n) in
+      let e : drop (w * n) (drop w t) ≡ drop (w * suc n) t = rw (drop-drop, pieces w n) in
       ap (λ (x : List (List ℕ)). take w t ∷ x) (chunks-suc n (drop w t) ∙ rw e)
 
   -- chunk i is written over
@@ -47,12 +44,12 @@ module _ (w : ℕ) where
   chunk-over zero i t r e h l = absurd (omega arith)
   chunk-over (suc n) zero t r e h l = rw (mul-zero, zero-add, take-at r (drop w t) w e, drop-at r (drop w t) w e)
   chunk-over (suc n) (suc i) t r e h l =
-      let m : w * suc n ≡ w + w * n = more w n in
+      let m : w * suc n ≡ w + w * n = pieces w n in
       let d : length (drop w t) ≡ length t - w = length-drop w t in
       let a : length (take w t) ≡ w = length-take-le w t (omega arith) in
       let rest : List ℕ = take (w * i) (drop w t) ++ (r ++ drop (w * i + w) (drop w t)) in
       let q : take (w * suc i) t ++ (r ++ drop (w * suc i + w) t) ≡ take w t ++ rest =
-      rw (more w i, take-add, append-assoc, drop-drop (w * i + w) w t, add-assoc) in
+      rw (pieces w i, take-add, append-assoc, drop-drop (w * i + w) w t, add-assoc) in
       rw (q, take-at (take w t) rest w a, drop-at (take w t) rest w a)
       (ap (λ (x : List (List ℕ)). take w t ∷ x) (chunk-over n i (drop w t) r e (omega arith) (omega arith)))
 
@@ -63,7 +60,7 @@ module _ (w : ℕ) where
   chunk-set zero i k v t h l = absurd (omega arith)
   chunk-set (suc n) zero k v t h l = rw (mul-zero, zero-add, take-set-lt w t k v l, drop-set-lt w t k v l)
   chunk-set (suc n) (suc i) k v t h l =
-      let e : w * suc i + k ≡ w + (w * i + k) = rw (more w i, add-assoc) in
+      let e : w * suc i + k ≡ w + (w * i + k) = rw (pieces w i, add-assoc) in
       rw (
         e,
         take-set-le w t (w + (w * i + k)) v (omega arith),

@@ -1,5 +1,5 @@
 -- Lookups: the test that each one makes of a row, what a scan has left to do, and what an answer says of the row.
-use mathlib.Core.Path.{_≡_, refl}
+use mathlib.Core.Path.{_≡_, refl, sym, _∙_}
 use mathlib.Core.List.{List, [], _∷_}
 use mathlib.Core.Bool.{Bool, true, false, _&&_}
 use Prim.Native.Nat.{ℕ, zero, suc, _+_, _-_, _≤_, _<_}
@@ -13,6 +13,7 @@ use lib.Seq.{drop-cons}
 use Rattle.format.specs.declared.Row.{Row}
 use Rattle.format.specs.Bytes.{pick}
 use Rattle.format.specs.Rows.{blank, rowsOf, isObject, isClass, findFrom, objectRow, classRow, libraryRow}
+use Rattle.fields.specs.Tests.{both-of}
 use Rattle.table.specs.Rows.{length-rowsOf}
 
 -- a row of one of these kinds and of this number
@@ -47,27 +48,47 @@ unfoldable pub left : (Row → Bool) → List Row → ℕ → ℕ
 left p rows i = findFrom p i (drop i rows)
 
 module _ (p : Row → Bool) (n : ℕ) (t : List ℕ) where
-  pub left-start : findFrom p 0 (rowsOf n t) ≡ left p (rowsOf n t) 0
+  left-start : findFrom p 0 (rowsOf n t) ≡ left p (rowsOf n t) 0
   unfolding left
   left-start = refl
 
-  pub left-end : (i : ℕ) → n ≤ i → left p (rowsOf n t) i ≡ 0
+  left-end : (i : ℕ) → n ≤ i → left p (rowsOf n t) i ≡ 0
   unfolding left findFrom
   left-end i h =
       let l : length (rowsOf n t) ≡ n = length-rowsOf n t in
       rw (drop-of-length-le (rowsOf n t) {i = i} (omega arith))
 
-  pub left-hit : (i : ℕ) → i < n → p (getD (rowsOf n t) i blank) ≡ true → left p (rowsOf n t) i ≡ i + 1
+  left-hit : (i : ℕ) → i < n → p (getD (rowsOf n t) i blank) ≡ true → left p (rowsOf n t) i ≡ i + 1
   unfolding left findFrom
   left-hit i h e =
       let l : length (rowsOf n t) ≡ n = length-rowsOf n t in
       rw (drop-cons (rowsOf n t) i blank (omega arith), e)
 
-  pub left-miss : (i : ℕ) → i < n → p (getD (rowsOf n t) i blank) ≡ false → left p (rowsOf n t) i ≡ left p (rowsOf n t) (i + 1)
+  left-miss : (i : ℕ) → i < n → p (getD (rowsOf n t) i blank) ≡ false → left p (rowsOf n t) i ≡ left p (rowsOf n t) (i + 1)
   unfolding left findFrom
   left-miss i h e =
       let l : length (rowsOf n t) ≡ n = length-rowsOf n t in
       rw (drop-cons (rowsOf n t) i blank (omega arith), e, add-one)
+
+-- what a scan keeps to before row i: the rows from i on give what all rows give
+abbrev pub Scan : (Row → Bool) → ℕ → List ℕ → ℕ → Type 0
+Scan p n t i = (i ≤ n) × (findFrom p 0 (rowsOf n t) ≡ left p (rowsOf n t) i)
+
+module _ (p : Row → Bool) (n : ℕ) (t : List ℕ) where
+  pub scan-start : Scan p n t 0
+  scan-start = (omega arith, left-start p n t)
+
+  module _ (i : ℕ) (v : Scan p n t i) where
+    pub scan-end : n ≤ i → 0 ≡ findFrom p 0 (rowsOf n t)
+    scan-end h = sym (v .1 ∙ left-end p n t i h)
+
+    -- q is the answer of the test of r, which is row i
+    module _ (h : i < n) (r : Row) (x : r ≡ getD (rowsOf n t) i blank) (q : Bool) (y : q ≡ p r) where
+      pub scan-hit : q ≡ true → i + 1 ≡ findFrom p 0 (rowsOf n t)
+      scan-hit z = sym (v .1 ∙ left-hit p n t i h (rw (← x, ← y) z))
+
+      pub scan-miss : q ≡ false → Scan p n t (i + 1)
+      scan-miss z = (omega arith, v .1 ∙ left-miss p n t i h (rw (← x, ← y) z))
 
 -- ---- what an answer says
 
@@ -130,13 +151,8 @@ found-parts : (kinds : ℕ → Bool) (id : ℕ) (rows : List Row) (i : ℕ) → 
 unfolding named
 found-parts kinds id rows i e =
     let h = find-hit (named kinds id) rows i e in
-    let q = both (kinds (getD rows i blank .kind)) (eqb (getD rows i blank .id) id) (h .1) in
+    let q = both-of (kinds (getD rows i blank .kind)) (eqb (getD rows i blank .id) id) (h .1) in
     record { inside = h .0; kind = q .0; same = eqb-true _ _ (q .1) }
-  where
-    both : (a b : Bool) → (a && b) ≡ true → (a ≡ true) × (b ≡ true)
-    both true b e = (refl, e)
-    both false true e = (e, refl)
-    both false false e = (e, e)
 
 module _ (id : ℕ) (rows : List Row) where
   pub object-le : objectRow id rows ≤ length rows

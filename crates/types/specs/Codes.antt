@@ -1,6 +1,7 @@
--- A code and its number: each undoes the other.
-use Prim.Native.Nat.{ℕ}
+-- A code and its number: each undoes the other; which numbers are none.
+use Prim.Native.Nat.{ℕ, _≤_, _<_}
 use mathlib.Core.Path.{_≡_, refl, sym}
+use native.Mathlib.Omega.{arith}
 use lib.Dec.{eqb}
 use borrow.Author.Tests.{eqb-true}
 use Rattle.format.specs.declared.PrimitiveCode.{PrimitiveCode}
@@ -46,3 +47,28 @@ numbered b =
 
 pub number-primitive : (b : ℕ) (c : PrimitiveCode) → primitiveOf b ≡ D.Code c → codeNumber c ≡ b
 number-primitive b c q = rw q at (numbered b)
+
+-- no code has a number above 16
+pub no-code : (b : ℕ) → 16 < b → primitiveOf b ≡ D.NoCode
+no-code b h = go (primitiveOf b) refl
+  where
+    small : (c : PrimitiveCode) → codeNumber c ≤ 16
+    small C.Boolean = omega arith
+    small C.Byte = omega arith
+    small C.Char = omega arith
+    small C.Decimal = omega arith
+    small C.Double = omega arith
+    small C.Int16 = omega arith
+    small C.Int32 = omega arith
+    small C.Int64 = omega arith
+    small C.SByte = omega arith
+    small C.Single = omega arith
+    small C.TimeSpan = omega arith
+    small C.DateTime = omega arith
+    small C.UInt16 = omega arith
+    small C.UInt32 = omega arith
+    small C.UInt64 = omega arith
+
+    go : (r : Coded) → primitiveOf b ≡ r → r ≡ D.NoCode
+    go D.NoCode q = refl
+    go (D.Code c) q = let n = number-primitive b c q in absurd (omega (arith, small c))

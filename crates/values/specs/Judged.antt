@@ -19,7 +19,7 @@ use Rattle.format.specs.Prefix.{prefixAt}
 use Rattle.format.specs.Text.{needOf, wellFormed}
 use Rattle.format.specs.Values.{bytesAt, booleanAt, scalarAt, charAt, decimal, decimalText, decimalFrom, decimalAt, dateTime, dateTimeOf, dateTimeAt}
 use Rattle.fields.specs.Parts.{part-first}
-use Rattle.fields.specs.Judged.{told, no-end, Taken, judgedAt, judged-taken, judged-end}
+use Rattle.fields.specs.Judged.{told, other, passes, no-end, Taken, judgedAt, judged-taken, judged-end}
 use Rattle.strings.specs.Counted.{Counted}
 use Rattle.values.specs.Ends.{char-scalar}
 
@@ -80,10 +80,6 @@ module _ (s : List ℕ) (p e : ℕ) where
       let v = other (eqb (needOf b) 4) (F.Fault R.BadValue) (scalarAt s p n) (F.End e) (u .1) (no-end R.BadValue e) in
       let w = judged-taken wellFormed R.BadValue s p n e (v .1) in
       record { ends = w .ends; room = w .room; good = rw (part-first s p n (omega arith), v .0) (w .good) }
-    where
-      other : {A : Type 0} (t : Bool) (a b c : A) → pick t a b ≡ c → (a ≡ c → ⊥) → (t ≡ false) × (b ≡ c)
-      other true a b c e n = absurd (n e)
-      other false a b c e n = (refl, e)
 
   pub char-of : Taken oneScalar s p (charWidth (getD s p 0)) e → charAt s p ≡ F.End e
   unfolding scalarAt judgedAt
@@ -91,13 +87,9 @@ module _ (s : List ℕ) (p e : ℕ) where
       let b = getD s p 0 in
       let n = needOf b + 1 in
       let g : pick (eqb (needOf b) 4) false (wellFormed (part s p n)) ≡ true = rw (part-first s p n (omega arith)) at (w .good) in
-      let v = other (eqb (needOf b) 4) (wellFormed (part s p n)) g in
+      let v = passes (eqb (needOf b) 4) (wellFormed (part s p n)) g in
       char-scalar s p (omega (arith, w .room)) (eqb-false (needOf b) 4 (v .0))
       ∙ judged-end wellFormed R.BadValue s p n e (record { ends = w .ends; room = w .room; good = v .1 })
-    where
-      other : (t r : Bool) → pick t false r ≡ true → (t ≡ false) × (r ≡ true)
-      other true r e = absurd (let z : _≡_ {A = ℕ} 0 1 = cc in omega arith)
-      other false r e = (refl, e)
 
 -- ---- Decimal: a prefix, and as many bytes as it says
 

@@ -1,7 +1,7 @@
 -- What each writer of libraries and classes puts out: one law for each way that it ends.
 use Prim.Native.Nat.{ℕ, suc, _+_, _-_, _%_, _≤_, _<_}
 use mathlib.Core.Path.{_≡_, refl, sym, ap, ap₂, _∙_}
-use mathlib.Core.Bool.{Bool, true, false}
+use mathlib.Core.Bool.{Bool, true, false, _||_}
 use mathlib.Core.List.{List, [], _++_}
 use native.Mathlib.Omega.{arith}
 use lib.ListN.{getD}
@@ -10,11 +10,12 @@ use borrow.Author.Tests.{eq-eqb, ne-eqb}
 use Rattle.format.specs.declared.Row.{Row}
 use Rattle.format.specs.Bytes.{pick}
 use Rattle.format.specs.Numbers.{leBytes}
-use Rattle.format.specs.Says.{afterInfo}
-use Rattle.put.specs.Out.{between, textOut, headOut, byIdOut}
+use Rattle.format.specs.Rows.{isClass}
+use Rattle.format.specs.Says.{afterInfo, isNulls}
+use Rattle.put.specs.Out.{between, textOut, headOut, byIdOut, headerOut}
 use Rattle.put.specs.Put.{Filled, Along, along-start}
 use Rattle.marks.specs.Marks.{rowAt, word, libraryAt, infosPlace, isFirst}
-use Rattle.writing.specs.Copy.{libraryNumber, libraryOut, needOut, needInfoOut, needInfosOut, needOwnOut, needClassOut, infoOut, infosOut, ownOut, detailsOut, classOut, objectOut}
+use Rattle.writing.specs.Copy.{libraryNumber, libraryOut, needOut, needInfoOut, needInfosOut, needOwnOut, needClassOut, infoOut, infosOut, ownOut, detailsOut, classOut, objectOut, stringOut, arrayOut, keptOut, recordOut}
 
 -- ---- what is written as two pieces
 pub library-is : (s : List ℕ) (g : Row) → libraryOut s g ≡ headOut 12 (g .link) ++ textOut s (g .offset + 5) (g .end)
@@ -130,3 +131,22 @@ module _ (s : List ℕ) (rs : List Row) where
     pub infos-end : infosOut s rs (c - i) t p ≡ []
     unfolding infosOut
     infos-end = let o : c - i ≡ 0 = omega arith in rw o
+
+-- ---- one clause for each kind of row
+module _ (s : List ℕ) (rs : List Row) (i : ℕ) (r : Row) where
+  -- what is written of a row if its kind is k
+  abbrev pub recordAs : ℕ → List ℕ
+  recordAs k =
+      pick (eqb k 0) (headerOut (rowAt rs (r .link) .id))
+      (pick (eqb k 1) (byIdOut (r .id) (rowAt rs (rowAt rs (r .link) .link) .id))
+      (pick (isClass k) (objectOut s rs i r)
+      (pick (eqb k 6) (stringOut s r)
+      (pick (eqb k 7) (arrayOut s rs r)
+      (pick (eqb k 9) (headOut 9 (rowAt rs (r .link) .id))
+      (pick (isNulls k || eqb k 12) []
+      (pick (eqb k 15 || (eqb k 16 || eqb k 17)) (keptOut s r)
+      (between s (r .offset) (r .end)))))))))
+
+  pub record-as : (k : ℕ) → r .kind ≡ k → recordOut s rs i r ≡ recordAs k
+  unfolding recordOut
+  record-as k e = ap recordAs e

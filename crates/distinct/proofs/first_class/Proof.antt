@@ -1,17 +1,14 @@
--- Invariant: the rows from i on give what all rows give. Measure: the rows left.
-use mathlib.Core.Path.{_≡_}
-use Prim.Native.Nat.{_≤_, _-_}
+-- One scan: the answer is that of the first row which passes. Measure: the rows left.
+use Prim.Native.Nat.{_-_}
 use native.Mathlib.Omega.{arith}
-use Rattle.format.specs.Rows.{rowsOf, findFrom}
-use Rattle.table.specs.Find.{left, left-start}
+use Rattle.format.specs.Rows.{rowsOf}
+use Rattle.table.specs.Find.{Scan, scan-start, scan-end, scan-hit, scan-miss}
 use Rattle.marks.specs.Marks.{sameClassRow, firstClass}
-use Rattle.distinct.specs.Scans.{scan-hit, scan-miss, scan-end}
 use Rattle.distinct.proofs.first_class.Statement.{statement}
 use Rattle.distinct.proofs.first_class.Tie as tie
 
 abbrev Inv-loop : tie.InvT-loop
-Inv-loop s table n r i₀ i =
-    (i ≤ n) × (findFrom (sameClassRow s (rowsOf n table) r) 0 (rowsOf n table) ≡ left (sameClassRow s (rowsOf n table) r) (rowsOf n table) i)
+Inv-loop s table n r i₀ i = Scan (sameClassRow s (rowsOf n table) r) n table i
 
 abbrev μ-loop : tie.MeasureT-loop
 μ-loop s table n r i₀ i = n - i
@@ -23,7 +20,7 @@ first-class-spec =
     (tie.spec
     Inv-loop
     μ-loop
-    (λ c. (omega arith, left-start _ _ _))
+    (λ c. scan-start _ _ _)
     (λ c κs. omega arith)
     (λ c κs. omega arith)
     (λ c. omega arith)
@@ -32,14 +29,12 @@ first-class-spec =
     let s = c .before in
     let r = s .before in
     let l = r .before in
-    let l2 = l .before in
-    scan-hit _ _ _ _ (l2 .loop .inv .1) _ _ (l .loop-test .taken) (r .row-at .ensures) (s .same-class-row .ensures) (c .if1 .taken))
+    scan-hit _ _ _ _ (l .before .loop .inv) (l .loop-test .taken) _ (r .row-at .ensures) _ (s .same-class-row .ensures) (c .if1 .taken))
     (λ c. omega arith)
     (λ c. omega arith)
     (λ c.
     let s = c .before in
     let r = s .before in
     let l = r .before in
-    let l2 = l .before in
-    (omega arith, scan-miss _ _ _ _ (l2 .loop .inv .1) _ _ (l .loop-test .taken) (r .row-at .ensures) (s .same-class-row .ensures) (c .if1 .left)))
-    (λ c. scan-end _ _ _ _ (c .before .loop .inv .1) (c .loop-test .left)))
+    scan-miss _ _ _ _ (l .before .loop .inv) (l .loop-test .taken) _ (r .row-at .ensures) _ (s .same-class-row .ensures) (c .if1 .left))
+    (λ c. scan-end _ _ _ _ (c .before .loop .inv) (c .loop-test .left)))

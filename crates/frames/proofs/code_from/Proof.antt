@@ -1,44 +1,16 @@
--- Each arm has the code of its own number; the last one is no code.
-use borrow.Author.Tests.{ne-eqb}
-use Rattle.format.specs.Types.{primitiveOf}
+-- A number above every byte is no code; any other is judged as a byte.
+use borrow.Author.Needs.{needs}
+use native.Mathlib.Omega.{arith}
+use Rattle.types.specs.Codes.{no-code}
 use Rattle.frames.proofs.code_from.Statement.{statement}
 use Rattle.frames.proofs.code_from.Tie as tie
 
 pub code-from-spec : {M : Type 1} → statement M
-unfolding primitiveOf
 code-from-spec =
     tie.close
     (tie.spec
-    (λ c. rw (c .match .keys1))
-    (λ c. rw (c .match .keys2))
-    (λ c. rw (c .match .keys3))
-    (λ c. rw (c .match .keys4))
-    (λ c. rw (c .match .keys5))
-    (λ c. rw (c .match .keys6))
-    (λ c. rw (c .match .keys7))
-    (λ c. rw (c .match .keys8))
-    (λ c. rw (c .match .keys9))
-    (λ c. rw (c .match .keys10))
-    (λ c. rw (c .match .keys11))
-    (λ c. rw (c .match .keys12))
-    (λ c. rw (c .match .keys13))
-    (λ c. rw (c .match .keys14))
-    (λ c. rw (c .match .keys15))
-    (λ c.
-    rw (
-      ne-eqb _ _ (c .match .rest .0 .0 .0 .0 .0 .0 .0 .0 .0 .0 .0 .0 .0 .0 .1),
-      ne-eqb _ _ (c .match .rest .0 .0 .0 .0 .0 .0 .0 .0 .0 .0 .0 .0 .0 .1),
-      ne-eqb _ _ (c .match .rest .0 .0 .0 .0 .0 .0 .0 .0 .0 .0 .0 .0 .1),
-      ne-eqb _ _ (c .match .rest .0 .0 .0 .0 .0 .0 .0 .0 .0 .0 .0 .1),
-      ne-eqb _ _ (c .match .rest .0 .0 .0 .0 .0 .0 .0 .0 .0 .0 .1),
-      ne-eqb _ _ (c .match .rest .0 .0 .0 .0 .0 .0 .0 .0 .0 .1),
-      ne-eqb _ _ (c .match .rest .0 .0 .0 .0 .0 .0 .0 .0 .1),
-      ne-eqb _ _ (c .match .rest .0 .0 .0 .0 .0 .0 .0 .1),
-      ne-eqb _ _ (c .match .rest .0 .0 .0 .0 .0 .0 .1),
-      ne-eqb _ _ (c .match .rest .0 .0 .0 .0 .0 .1),
-      ne-eqb _ _ (c .match .rest .0 .0 .0 .0 .1),
-      ne-eqb _ _ (c .match .rest .0 .0 .0 .1),
-      ne-eqb _ _ (c .match .rest .0 .0 .1),
-      ne-eqb _ _ (c .match .rest .0 .1),
-      ne-eqb _ _ (c .match .rest .1),
-    )))
+    (λ c. rw (no-code (c .before .args .k) (omega arith)))
+    (λ c. search needs)
+    (λ c κs. search needs)
+    (λ c κs. search needs)
+    (λ c. rw (c .coded-of .ensures, c .before .primitive-of .ensures)))

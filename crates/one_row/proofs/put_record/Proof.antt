@@ -1,6 +1,7 @@
 -- One clause for each kind.
 use Rattle.put.specs.Put.{became, nothing}
-use Rattle.one_row.specs.Laws.{of-kind, record-0, record-1, record-9, record-other}
+use Rattle.writing.specs.Laws.{record-as}
+use Rattle.one_row.specs.Laws.{record-0, record-1, record-9, record-other}
 use borrow.Author.Needs.{needs}
 use Rattle.one_row.proofs.put_record.Statement.{statement}
 use Rattle.one_row.proofs.put_record.Tie as tie
@@ -31,24 +32,24 @@ put-record-spec =
     (λ c. search needs)
     (λ c. became _ _ _ _ _ (record-1 _ _ _ _ _ _ (c .before .before .before .before .before .before .match .keys2) (c .before .before .before .before .before .row-named2 .ensures) (c .before .before .before .before .row-named3 .ensures)) (c .before .before .put-by-id .ensures))
     (λ c. search needs)
-    (λ c. became _ _ _ _ _ (of-kind _ _ _ _ 4 (c .before .before .before .before .match .keys3)) (c .before .before .put-object .ensures))
+    (λ c. became _ _ _ _ _ (record-as _ _ _ _ 4 (c .before .before .before .before .match .keys3)) (c .before .before .put-object .ensures))
     (λ c. search needs)
-    (λ c. became _ _ _ _ _ (of-kind _ _ _ _ 5 (c .before .before .before .before .match .keys4)) (c .before .before .put-object2 .ensures))
+    (λ c. became _ _ _ _ _ (record-as _ _ _ _ 5 (c .before .before .before .before .match .keys4)) (c .before .before .put-object2 .ensures))
     (λ c. search needs)
-    (λ c. became _ _ _ _ _ (of-kind _ _ _ _ 6 (c .before .before .before .before .match .keys5)) (c .before .before .put-string .ensures))
+    (λ c. became _ _ _ _ _ (record-as _ _ _ _ 6 (c .before .before .before .before .match .keys5)) (c .before .before .put-string .ensures))
     (λ c. search needs)
-    (λ c. became _ _ _ _ _ (of-kind _ _ _ _ 7 (c .before .before .before .before .match .keys6)) (c .before .before .put-array .ensures))
+    (λ c. became _ _ _ _ _ (record-as _ _ _ _ 7 (c .before .before .before .before .match .keys6)) (c .before .before .put-array .ensures))
     (λ c. search needs)
     (λ c. became _ _ _ _ _ (record-9 _ _ _ _ _ (c .before .before .before .before .before .match .keys7) (c .before .before .before .before .row-named4 .ensures)) (c .before .before .put-head .ensures))
-    (λ c. nothing _ _ (of-kind _ _ _ _ 10 (c .match .keys8)))
-    (λ c. nothing _ _ (of-kind _ _ _ _ 12 (c .match .keys9)))
-    (λ c. nothing _ _ (of-kind _ _ _ _ 13 (c .match .keys10)))
-    (λ c. nothing _ _ (of-kind _ _ _ _ 14 (c .match .keys11)))
+    (λ c. nothing _ _ (record-as _ _ _ _ 10 (c .match .keys8)))
+    (λ c. nothing _ _ (record-as _ _ _ _ 12 (c .match .keys9)))
+    (λ c. nothing _ _ (record-as _ _ _ _ 13 (c .match .keys10)))
+    (λ c. nothing _ _ (record-as _ _ _ _ 14 (c .match .keys11)))
     (λ c. search needs)
-    (λ c. became _ _ _ _ _ (of-kind _ _ _ _ 15 (c .before .before .before .before .match .keys12)) (c .before .before .put-kept .ensures))
+    (λ c. became _ _ _ _ _ (record-as _ _ _ _ 15 (c .before .before .before .before .match .keys12)) (c .before .before .put-kept .ensures))
     (λ c. search needs)
-    (λ c. became _ _ _ _ _ (of-kind _ _ _ _ 16 (c .before .before .before .before .match .keys13)) (c .before .before .put-kept2 .ensures))
+    (λ c. became _ _ _ _ _ (record-as _ _ _ _ 16 (c .before .before .before .before .match .keys13)) (c .before .before .put-kept2 .ensures))
     (λ c. search needs)
-    (λ c. became _ _ _ _ _ (of-kind _ _ _ _ 17 (c .before .before .before .before .match .keys14)) (c .before .before .put-kept3 .ensures))
+    (λ c. became _ _ _ _ _ (record-as _ _ _ _ 17 (c .before .before .before .before .match .keys14)) (c .before .before .put-kept3 .ensures))
     (λ c. search needs)
     (λ c. became _ _ _ _ _ (record-other _ _ _ _ (c .before .before .before .before .before .before .match .rest .0 .0 .0 .0 .0 .0 .0 .0 .0 .0 .0 .0 .0 .1) (c .before .before .before .before .before .before .match .rest .0 .0 .0 .0 .0 .0 .0 .0 .0 .0 .0 .0 .1) (c .before .before .before .before .before .before .match .rest .0 .0 .0 .0 .0 .0 .0 .0 .0 .0 .0 .1) (c .before .before .before .before .before .before .match .rest .0 .0 .0 .0 .0 .0 .0 .0 .0 .0 .1) (c .before .before .before .before .before .before .match .rest .0 .0 .0 .0 .0 .0 .0 .0 .0 .1) (c .before .before .before .before .before .before .match .rest .0 .0 .0 .0 .0 .0 .0 .0 .1) (c .before .before .before .before .before .before .match .rest .0 .0 .0 .0 .0 .0 .0 .1) (c .before .before .before .before .before .before .match .rest .0 .0 .0 .0 .0 .0 .1) (c .before .before .before .before .before .before .match .rest .0 .0 .0 .0 .0 .1) (c .before .before .before .before .before .before .match .rest .0 .0 .0 .0 .1) (c .before .before .before .before .before .before .match .rest .0 .0 .0 .1) (c .before .before .before .before .before .before .match .rest .0 .0 .1) (c .before .before .before .before .before .before .match .rest .0 .1) (c .before .before .before .before .before .before .match .rest .1)) (c .before .before .put-part .ensures)))

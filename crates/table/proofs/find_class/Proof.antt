@@ -1,15 +1,14 @@
--- Invariant: the rows from i on give what all rows give. Measure: the rows left.
-use mathlib.Core.Path.{_≡_, _∙_, sym}
-use Prim.Native.Nat.{_≤_, _-_}
+-- One scan: the answer is that of the first row which passes. Measure: the rows left.
+use mathlib.Core.Path.{refl}
+use Prim.Native.Nat.{_-_}
 use native.Mathlib.Omega.{arith}
-use Rattle.format.specs.Rows.{isClass, findFrom, classRow, rowsOf}
-use Rattle.table.specs.Find.{named, left, left-start, left-end, left-hit, left-miss}
+use Rattle.format.specs.Rows.{isClass, classRow}
+use Rattle.table.specs.Find.{named, Scan, scan-start, scan-end, scan-hit, scan-miss}
 use Rattle.table.proofs.find_class.Statement.{statement}
 use Rattle.table.proofs.find_class.Tie as tie
 
 abbrev Inv-loop : tie.InvT-loop
-Inv-loop table n wanted i₀ i =
-    (i ≤ n) × (findFrom (named isClass wanted) 0 (rowsOf n table) ≡ left (named isClass wanted) (rowsOf n table) i)
+Inv-loop table n wanted i₀ i = Scan (named isClass wanted) n table i
 
 abbrev μ-loop : tie.MeasureT-loop
 μ-loop table n wanted i₀ i = n - i
@@ -21,17 +20,11 @@ find-class-spec =
     (tie.spec
     Inv-loop
     μ-loop
-    (λ c. (omega arith, left-start _ _ _))
+    (λ c. scan-start _ _ _)
     (λ c κs. omega arith)
     (λ c. omega arith)
-    (λ c.
-    let s = c .before .names-class in
-    let v = c .before .before .before .loop in
-    sym (v .inv .1 ∙ left-hit _ _ _ _ (c .before .before .loop-test .taken) (sym (s .ensures) ∙ c .if1 .taken)))
+    (λ c. scan-hit _ _ _ _ (c .before .before .before .loop .inv) (c .before .before .loop-test .taken) _ refl _ (c .before .names-class .ensures) (c .if1 .taken))
     (λ c. omega arith)
     (λ c. omega arith)
-    (λ c.
-    let s = c .before .names-class in
-    let v = c .before .before .before .loop in
-    (omega arith, v .inv .1 ∙ left-miss _ _ _ _ (c .before .before .loop-test .taken) (sym (s .ensures) ∙ c .if1 .left)))
-    (λ c. sym (c .before .loop .inv .1 ∙ left-end _ _ _ _ (c .loop-test .left))))
+    (λ c. scan-miss _ _ _ _ (c .before .before .before .loop .inv) (c .before .before .loop-test .taken) _ refl _ (c .before .names-class .ensures) (c .if1 .left))
+    (λ c. scan-end _ _ _ _ (c .before .loop .inv) (c .loop-test .left)))
