@@ -31,11 +31,6 @@ number-moves s p v e q =
     (omega arith, omega arith)
 
 module _ (at len : ℕ) where
-  -- from an earlier place too
-  pub ends-later : (p : ℕ) (r : Heading) → at ≤ p → EndsIn p len r → EndsIn at len r
-  ends-later p (H.Fields h) i w = (omega arith, w .1)
-  ends-later p (H.Bad f) i w = tt
-
   pub ends-pick : (t : Bool) (a b : Heading) → (t ≡ true → EndsIn at len a) → (t ≡ false → EndsIn at len b) → EndsIn at len (pick t a b)
   ends-pick t a b f g = picked (EndsIn at len) t f g
 

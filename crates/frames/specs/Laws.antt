@@ -19,7 +19,7 @@ use Rattle.format.specs.declared.Head.{Head}
 use Rattle.format.specs.declared.Frame.{Frame}
 use Rattle.format.specs.declared.Reader.{Reader}
 use Rattle.format.specs.Types.{codeNumber, primitiveOf}
-use Rattle.format.specs.Machine.{Open, close, filled, opened, whereIn, topLevel, start}
+use Rattle.format.specs.Machine.{close, filled, opened, whereIn}
 use Rattle.frames.specs.Frames.{slotCode, slotFrom, frameAt, saved, openOf}
 
 -- ---- slot types
@@ -78,9 +78,6 @@ unfolding saved
 length-saved f zero = refl
 length-saved f (suc d) = ap suc (length-saved f d)
 
-pub depth-below : (f : List ℕ) (m : Reader) → length (openOf f m .below) ≡ m .depth
-depth-below f m = length-saved f (m .depth)
-
 pub where-top : (f : List ℕ) (d : ℕ) (w : Where) → d ≡ 0 → whereIn (saved f d) w ≡ W.Top
 unfolding saved
 where-top f d w e = rw e
@@ -89,11 +86,6 @@ pub where-inside : (f : List ℕ) (d : ℕ) (w : Where) → (d ≡ 0 → ⊥) �
 unfolding saved
 where-inside f zero w n = absurd (n refl)
 where-inside f (suc d) w n = refl
-
--- nothing is open at the start, whatever the words
-pub fresh-open : (f : List ℕ) → openOf f (record { at = 0; rows = 0; depth = 0; top = topLevel }) ≡ start .stack
-unfolding saved
-fresh-open f = refl
 
 -- ---- full objects are closed
 

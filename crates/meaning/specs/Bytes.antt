@@ -81,9 +81,6 @@ module _ (s : List ℕ) (byte : Bytes s) where
       number-there p (w .within) ∙ ap (leBytes 4) (sym (w .value))
 
 module _ (s : List ℕ) where
-  pub number-from : (p v e : ℕ) → u32At s p ≡ N32.Value v e → numberFrom s p ≡ v
-  number-from p v e q = sym (u32-says s p v e q .value)
-
   pub code-is : (p e : ℕ) → codeAt s p ≡ F.End e → getD s p 0 ≡ codeNumber (codeFrom s p)
   code-is p e q =
       let w = code-told s p e q in

@@ -75,20 +75,6 @@ module _ (s : List ℕ) (byte : Bytes s) (rows : List Row) (ls : Libraries) wher
 -- ---- what stands before the details
 
 module _ (s : List ℕ) (rows : List Row) (r : Row) (c : ClassStands s rows r) where
-  pub types-place : typesPlace s r ≡ c .types
-  unfolding typesPlace
-  types-place = rw (c .named, c .names)
-
-  pub types-inside : c .types + r .count ≤ length s
-  types-inside =
-      let w = u32-says s (c .name-end) (r .count) (c .name-end + 4) (c .counted) in
-      let a = names-within s (r .count) (c .name-end + 4) (c .types) (length s) (omega arith) (omega arith) (c .names) in
-      types-within s (r .count) (c .types) (c .types + r .count) (length s) (a .1) (omega arith) (c .type-bytes) .1
-
-  -- a word holds it
-  pub types-word : length s ≤ 16777216 → word (typesPlace s r) ≡ c .types
-  types-word h = let a = types-inside in ap word types-place ∙ omega arith
-
   pub members-from : classFrom s rows r .members ≡ membersFrom s rows (r .count) (c .name-end + 4) (c .types) (c .types + r .count)
   unfolding classFrom
   members-from = rw (c .named, c .names)

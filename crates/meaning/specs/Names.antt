@@ -269,17 +269,6 @@ module _ (s : List ℕ) (rows ps : List Row) (st : Stands s rows) (pl : Placed s
       small : (n : ℕ) → n ≤ 16777216 → word n ≡ n
       small n h = omega arith
 
-  pub class-fields : (i : ℕ) → i < length rows → isClass (getD rows i blank .kind) ≡ true → All (NamesLibrary s rows) (classFields s (getD ps i blank))
-  class-fields i h k =
-      let e = placed-class i h k in
-      class-names s rows (getD rows i blank) (class-at s rows st i h k) (getD ps i blank)
-      (ap (λ (z : Row). z .kind) e) (ap (λ (z : Row). z .end) e) (ap (λ (z : Row). z .count) e) (ap (λ (z : Row). z .slot) e)
-
-  pub array-fields : (i : ℕ) → i < length rows → getD rows i blank .kind ≡ 7 → All (NamesLibrary s rows) (arrayFields s (getD ps i blank))
-  array-fields i h k =
-      array-names s rows (getD rows i blank) (array-at s rows st i h k) (getD ps i blank)
-      (ap (λ (z : Row). z .offset) (pl .object i h (ap isObject k) (ap isClass k)))
-
   -- ---- the library that a number names, in the placed rows
 
   pub placed-kind : (i : ℕ) → i < length rows → getD ps i blank .kind ≡ getD rows i blank .kind

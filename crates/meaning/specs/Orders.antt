@@ -3,22 +3,21 @@
 use Prim.Native.Nat.{ℕ, zero, suc, _+_, _-_, _≤_, _<_}
 use mathlib.Core.Path.{_≡_, refl, sym, ap, subst, _∙_}
 use mathlib.Core.Bool.{Bool, true, false, _&&_, _||_}
-use mathlib.Core.List.{List, [], _∷_, _++_, append-assoc}
+use mathlib.Core.List.{List, [], _∷_, _++_}
 use native.Mathlib.Omega.{arith}
-use lib.ListN.{length, getD, take, drop, take-append-drop}
+use lib.ListN.{length, getD, take, drop}
 use lib.Seq.{take-suc, take-add}
 use lib.Dec.{eqb, leb}
 use borrow.Author.Tests.{eqb-true, eqb-false, eq-eqb, ne-eqb, le-leb, lt-leb, leb-true, leb-false}
 use Rattle.format.specs.declared.Row.{Row}
 use Rattle.format.specs.Bytes.{pick, part}
 use Rattle.format.specs.Rows.{blank, isObject, isClass, findFrom}
-use Rattle.format.specs.Says.{Class, What, anObject, aString, aPrimitive, aReference, aPrimitiveArray, anObjectArray, aStringArray, aValue, Node, node, textFrom, codeFrom, detailFrom, classFrom, arrayFrom, objectsIn, orderOf, whatFrom, spread, isNulls, isSilent, nodesOf, nodesFrom}
-use Rattle.format.specs.Tidy.{sameClass, numberIn, Progress, nothing, allEntered, detailNeeds, classNeeds, afterObject, counted, afterWhat, Standing, ownedBy, recordsOf, pack}
+use Rattle.format.specs.Says.{Class, What, anObject, aString, aPrimitive, aReference, aPrimitiveArray, anObjectArray, aStringArray, aValue, node, textFrom, codeFrom, detailFrom, classFrom, arrayFrom, objectsIn, orderOf, whatFrom, spread, isNulls, isSilent, nodesOf}
+use Rattle.format.specs.Tidy.{sameClass, numberIn, Progress, nothing, allEntered, detailNeeds, classNeeds, afterObject, counted, afterWhat}
 use Rattle.table.specs.Find.{find-hit}
 use Rattle.laws.specs.Tests.{both-of, differ, either, neither}
 use Rattle.laws.specs.Kinds.{class-kind, class-is-object}
 use Rattle.laws.specs.Orders.{objects-append, order-next}
-use Rattle.laws.specs.Numbers.{afterNodes}
 use Rattle.marks.specs.Marks.{itemType}
 use Rattle.meaning.specs.Stands.{RowStands, the-header, by-id, a-class, a-string, an-array, a-primitive, a-reference, nulls, the-end, a-library, primitives, objects, texts, a-value, Stands}
 use Rattle.meaning.specs.Marked.{classFirst}
@@ -73,32 +72,9 @@ module _ (s : List ℕ) (rows : List Row) (r : Row) where
   unfolding whatFrom
   what-as k e = ap whatAs e
 
--- ---- what was written once these nodes were
-
-pub after-append : (w : Progress) (a b : List Node) → afterNodes w (a ++ b) ≡ afterNodes (afterNodes w a) b
-unfolding afterNodes
-after-append w [] b = refl
-after-append w (n ∷ a) b = after-append (afterWhat w (n .what)) a b
-
-pub after-nulls : (w : Progress) (n owner slot : ℕ) → afterNodes w (spread n owner slot) ≡ w
-unfolding afterNodes spread afterWhat
-after-nulls w zero owner slot = refl
-after-nulls w (suc n) owner slot = after-nulls w n owner (slot + 1)
-
-pub pack-append : (w : Progress) (a b : List Node) → pack w (a ++ b) ≡ pack w a ++ pack (afterNodes w a) b
-unfolding pack afterNodes
-pack-append w [] b = refl
-pack-append w (n ∷ a) b =
-    ap (λ (xs : List Standing). ownedBy (n .owner) (recordsOf w (n .what)) ++ xs) (pack-append (afterWhat w (n .what)) a b)
-    ∙ sym (append-assoc (ownedBy (n .owner) (recordsOf w (n .what))) (pack (afterWhat w (n .what)) a) (pack (afterNodes (afterWhat w (n .what)) a) b))
+-- ---- what was written once these rows were
 
 module _ (s : List ℕ) (rows : List Row) where
-  pub nodes-append : (a b : List Row) → nodesFrom s rows (a ++ b) ≡ nodesFrom s rows a ++ nodesFrom s rows b
-  unfolding nodesFrom
-  nodes-append [] b = refl
-  nodes-append (r ∷ a) b =
-      ap (λ (ns : List Node). nodesOf s rows r ++ ns) (nodes-append a b) ∙ sym (append-assoc (nodesOf s rows r) (nodesFrom s rows a) (nodesFrom s rows b))
-
   -- silent rows and nulls leave what was written
   unfoldable pub afterRow : Progress → Row → Progress
   afterRow w r = pick (isSilent (r .kind)) w (pick (isNulls (r .kind)) w (afterWhat w (whatFrom s rows r)))
@@ -110,16 +86,6 @@ module _ (s : List ℕ) (rows : List Row) where
   -- before row i
   unfoldable pub progressTo : ℕ → Progress
   progressTo i = afterRows nothing (take i rows)
-
-  pub after-row : (w : Progress) (r : Row) → afterNodes w (nodesOf s rows r) ≡ afterRow w r
-  unfolding afterRow nodesOf afterNodes
-  after-row w r = go (isSilent (r .kind)) (isNulls (r .kind))
-    where
-      go : (a b : Bool) → afterNodes w (pick a [] (pick b (spread (r .count) (orderOf rows (r .owner)) (r .slot)) (node (whatFrom s rows r) (orderOf rows (r .owner)) (r .slot) ∷ [])))
-          ≡ pick a w (pick b w (afterWhat w (whatFrom s rows r)))
-      go true b = refl
-      go false true = after-nulls w (r .count) (orderOf rows (r .owner)) (r .slot)
-      go false false = refl
 
   -- the three sorts of rows
   pub after-silent : (w : Progress) (r : Row) → isSilent (r .kind) ≡ true → afterRow w r ≡ w
@@ -134,13 +100,6 @@ module _ (s : List ℕ) (rows : List Row) where
   unfolding afterRow
   after-said w r e f = rw (e, f)
 
-  pub after-rows : (w : Progress) (rs : List Row) → afterNodes w (nodesFrom s rows rs) ≡ afterRows w rs
-  unfolding afterRows nodesFrom afterNodes
-  after-rows w [] = refl
-  after-rows w (r ∷ rs) =
-      after-append w (nodesOf s rows r) (nodesFrom s rows rs)
-      ∙ (ap (λ (v : Progress). afterNodes v (nodesFrom s rows rs)) (after-row w r) ∙ after-rows (afterRow w r) rs)
-
   after-last : (w : Progress) (a : List Row) (r : Row) → afterRows w (a ++ (r ∷ [])) ≡ afterRow (afterRows w a) r
   unfolding afterRows
   after-last w [] r = refl
@@ -153,15 +112,6 @@ module _ (s : List ℕ) (rows : List Row) where
   pub progress-next : (i : ℕ) → i < length rows → progressTo (suc i) ≡ afterRow (progressTo i) (getD rows i blank)
   unfolding progressTo
   progress-next i h = ap (afterRows nothing) (take-suc rows i blank h) ∙ after-last nothing (take i rows) (getD rows i blank)
-
-  -- the records of all rows, cut at row i
-  pub pack-cut : (i : ℕ) → pack nothing (nodesFrom s rows rows) ≡ pack nothing (nodesFrom s rows (take i rows)) ++ pack (progressTo i) (nodesFrom s rows (drop i rows))
-  unfolding progressTo
-  pack-cut i =
-      ap (λ (rs : List Row). pack nothing (nodesFrom s rows rs)) (sym (take-append-drop i rows))
-      ∙ (ap (pack nothing) (nodes-append (take i rows) (drop i rows))
-      ∙ (pack-append nothing (nodesFrom s rows (take i rows)) (nodesFrom s rows (drop i rows))
-      ∙ ap (λ (w : Progress). pack nothing (nodesFrom s rows (take i rows)) ++ pack w (nodesFrom s rows (drop i rows))) (after-rows nothing (take i rows))))
 
 pub said-other : (k : ℕ) → isSilent k ≡ false → eqb k 12 ≡ false
 said-other k e = either (eqb k 12) (λ a. differ (sym (ap isSilent (eqb-true k 12 a)) ∙ e)) (λ a. a)

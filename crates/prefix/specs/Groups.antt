@@ -1,4 +1,4 @@
--- Laws of how a number is written: its groups one by one, how many there are, and that each is a byte.
+-- Laws of how a number is written: its groups one by one, and how many there are.
 use Prim.Native.Nat.{ℕ, zero, suc, _+_, _-_, _*_, _/_, _%_, _^_, _≤_, _<_}
 use mathlib.Core.Path.{_≡_, refl}
 use mathlib.Core.List.{[], _∷_}
@@ -6,7 +6,7 @@ use native.Mathlib.Omega.{arith}
 use native.Mathlib.Nat.{pow-suc}
 use native.Mathlib.Numerals.{add-one}
 use native.Mathlib.Decide.{decLt}
-use lib.ListN.{length, getD}
+use lib.ListN.{length}
 use lib.Pow.{pow-add, pow-mono}
 use lib.Count.{leadingZeros, leading-top}
 use borrow.Author.Tests.{lt-ltb, le-ltb}
@@ -80,21 +80,3 @@ bytes-count n h l =
     let (j, e, a, b) = leading-top 32 n h l in
     let i = groups-count 4 j n a b (omega arith) in
     omega arith
-
--- ---- each is a byte
-pub groups-bytes : (k n : ℕ) → n < 256 * 128 ^ k → (i : ℕ) → getD (groupsOf k n) i 0 < 256
-groups-bytes zero n h i = rw (groups-fifth n) (go i)
-  where
-    go : (i : ℕ) → getD (n ∷ []) i 0 < 256
-    go zero = omega arith
-    go (suc i) = omega arith
-groups-bytes (suc k) n h i = go (groups-bytes k (n / 128)) i (decLt n 128)
-  where
-    go : (n / 128 < 256 * 128 ^ k → (i : ℕ) → getD (groupsOf k (n / 128)) i 0 < 256) → (i : ℕ) → Dec (n < 128) → getD (groupsOf (suc k) n) i 0 < 256
-    go again zero (yes y) = rw (groups-last (suc k) n y) (omega arith)
-    go again (suc i) (yes y) = rw (groups-last (suc k) n y) (omega arith)
-    go again zero (no y) = rw (groups-more k n (omega arith)) (omega arith)
-    go again (suc i) (no y) = rw (groups-more k n (omega arith)) (again (omega (arith, rw pow-suc at h)) i)
-
-pub bytes-below : (n : ℕ) → n < 2 ^ 32 → (i : ℕ) → getD (prefixBytes n) i 0 < 256
-bytes-below n h i = groups-bytes 4 n (omega arith) i

@@ -14,10 +14,6 @@ unfolding laid
 laid-one b [] h = absurd (omega arith)
 laid-one b (x ∷ xs) h = refl
 
-pub laid-length : (b d : List ℕ) → length b ≤ length d → length (laid b d) ≡ length d
-unfolding laid
-laid-length b d h = simp (length-append, length-drop) (omega arith)
-
 -- h is written, and then the rest from a is handed on to a writer of g: what the whole then holds
 pub handed : (a : ℕ) (h g d xs ys : List ℕ) → length h ≡ a → xs ≡ laid h d → ys ≡ laid g (midOf a (length xs - a) xs)
     → putMid a (length xs - a) xs ys ≡ laid (h ++ g) d
@@ -40,6 +36,3 @@ written-all b d h = record { total = refl; bytes = simp le-leb }
 -- ---- for a caller that knows whether there was room
 pub written-room : (b d e : List ℕ) (r : ℕ) → Written b d e r → length b ≤ length d → e ≡ laid b d
 written-room b d e r w h = w .bytes ∙ simp le-leb
-
-pub written-full : (b d e : List ℕ) (r : ℕ) → Written b d e r → length d < length b → e ≡ d
-written-full b d e r w h = w .bytes ∙ simp lt-leb

@@ -12,12 +12,12 @@ use Rattle.format.specs.declared.SlotType.{SlotType}
 use Rattle.format.specs.declared.Head.{Head}
 use Rattle.format.specs.declared.Row.{Row}
 use Rattle.format.specs.Bytes.{pick}
-use Rattle.format.specs.Rows.{blank, isObject, isClass, findFrom, objectRow, classRow, libraryRow, withLink, linkOf, linked, isLost}
+use Rattle.format.specs.Rows.{blank, isObject, isClass, findFrom, objectRow, withLink, linkOf, linked, isLost}
 use Rattle.format.specs.Contents.{Rec}
-use Rattle.format.specs.Grammar.{Entry, rowOf, idOf, refOf, idsOf, refsOf, among}
+use Rattle.format.specs.Grammar.{rowOf, idsOf, refsOf, among}
 use Rattle.laws.specs.Tests.{or-right}
-use Rattle.laws.specs.Ids.{rowIds, rowRefs, Shown, array-shown, id-there, id-back}
-use Rattle.places.specs.Recs.{Good, is-header, is-class-by-id, is-system-class, is-library-class, is-string, is-typed-primitive, is-reference, is-null, is-end, is-library, is-nulls, is-many-nulls, is-array, Told, told-end, rowWith}
+use Rattle.laws.specs.Ids.{rowIds, rowRefs, Shown, id-there, id-back}
+use Rattle.places.specs.Recs.{Told, told-end, rowWith}
 
 -- ---- without the links of classes
 
@@ -44,14 +44,6 @@ module _ (id : ℕ) (rows : List Row) where
   pub object-bare : objectRow id (map bare rows) ≡ objectRow id rows
   unfolding objectRow
   object-bare = find-bare (λ (r : Row). isObject (r .kind) && eqb (r .id) id) (λ r l. refl) 0 rows
-
-  pub class-bare : classRow id (map bare rows) ≡ classRow id rows
-  unfolding classRow
-  class-bare = find-bare (λ (r : Row). isClass (r .kind) && eqb (r .id) id) (λ r l. refl) 0 rows
-
-  pub library-bare : libraryRow id (map bare rows) ≡ libraryRow id rows
-  unfolding libraryRow
-  library-bare = find-bare (λ (r : Row). eqb (r .kind) 12 && eqb (r .id) id) (λ r l. refl) 0 rows
 
 -- ---- linking
 
@@ -98,22 +90,6 @@ shown-bare rs rows w = record { ids = w .ids ∙ same-ids rows; refs = w .refs �
     same-refs : (rows : List Row) → rowRefs (map bare rows) ≡ rowRefs rows
     same-refs [] = refl
     same-refs (r ∷ rows) = rw (same-refs rows)
-
-pub good-shown : {es : List Entry} {k id count class : ℕ} {r : Rec} {ts : List SlotType} → Good es k r id count class ts
-    → (idOf r ≡ pick (isObject k) (id ∷ []) []) × (refOf r ≡ pick (eqb k 9) (id ∷ []) [])
-good-shown (is-header a b) = (refl, refl)
-good-shown (is-class-by-id a b c) = (refl, refl)
-good-shown (is-system-class a b) = (refl, refl)
-good-shown (is-library-class a b c) = (refl, refl)
-good-shown (is-string a b) = (refl, refl)
-good-shown (is-typed-primitive a) = (refl, refl)
-good-shown (is-reference a) = (refl, refl)
-good-shown is-null = (refl, refl)
-good-shown is-end = (refl, refl)
-good-shown (is-library a b c) = (refl, refl)
-good-shown (is-nulls a) = (refl, refl)
-good-shown (is-many-nulls a) = (refl, refl)
-good-shown (is-array a b) = array-shown b
 
 -- ---- the root and the targets: lookups among the rows against the ids of the records
 

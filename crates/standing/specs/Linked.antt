@@ -63,10 +63,6 @@ module _ (raw : List Row) where
     unfolding linked
     find-linked k = find-map k raw
 
-  pub class-linked : (id : ℕ) → classRow id (linked raw) ≡ classRow id raw
-  unfolding classRow
-  class-linked id = find-linked (λ r. isClass (r .kind) && eqb (r .id) id) (λ r l. refl) 0
-
   pub library-linked : (id : ℕ) → libraryRow id (linked raw) ≡ libraryRow id raw
   unfolding libraryRow
   library-linked id = find-linked (λ r. eqb (r .kind) 12 && eqb (r .id) id) (λ r l. refl) 0

@@ -163,10 +163,6 @@ module _ (id : ℕ) (rows : List Row) where
   unfolding classRow named
   class-le = find-le (named isClass id) rows
 
-  pub library-le : libraryRow id rows ≤ length rows
-  unfolding libraryRow named
-  library-le = find-le (named isLibrary id) rows
-
   pub object-found : (i : ℕ) → objectRow id rows ≡ suc i → Found isObject id rows i
   unfolding objectRow named
   object-found i e = found-parts isObject id rows i e
