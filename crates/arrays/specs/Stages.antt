@@ -3,15 +3,13 @@ use Prim.Native.Nat.{ℕ, _+_}
 use mathlib.Core.Path.{_≡_, refl}
 use mathlib.Core.Bool.{true, false}
 use mathlib.Core.List.{List}
-use lib.ListN.{length, getD}
+use lib.ListN.{getD}
 use Rattle.format.specs.declared.Refusal.{Refusal}
 use Rattle.format.specs.declared.Refusal.the-variants as R
 use Rattle.format.specs.declared.SlotType.{SlotType}
 use Rattle.format.specs.declared.Number32.{Number32}
 use Rattle.format.specs.declared.Number32.the-variants as N32
-use Rattle.format.specs.declared.Field.{Field}
 use Rattle.format.specs.declared.Field.the-variants as F
-use Rattle.format.specs.declared.Slots.{Slots}
 use Rattle.format.specs.declared.Slots.the-variants as L
 use Rattle.format.specs.declared.Heading.{Heading}
 use Rattle.format.specs.declared.Heading.the-variants as H

@@ -3,7 +3,6 @@ use Prim.Native.Nat.{ℕ}
 use mathlib.Core.Path.{_≡_, sym, ap₂, _∙_}
 use mathlib.Core.List.{List}
 use Rattle.format.specs.declared.ReadAnswer.{ReadAnswer}
-use Rattle.format.specs.declared.RowAnswer.{RowAnswer}
 use Rattle.format.specs.declared.TidyAnswer.{TidyAnswer}
 use Rattle.format.specs.View.{rowQuestion, textView}
 use Rattle.format.specs.Promises.{ReadPromise, QuestionPromise, ViewPromise, TidyPromise}

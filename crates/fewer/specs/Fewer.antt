@@ -11,9 +11,9 @@ use borrow.Author.Tests.{eq-eqb, eqb-true}
 use Rattle.format.specs.declared.Row.{Row}
 use Rattle.format.specs.Bytes.{pick, sameBytes}
 use Rattle.format.specs.Rows.{blank}
-use Rattle.format.specs.Contents.{Rec, null, library}
+use Rattle.format.specs.Contents.{Rec, null}
 use Rattle.format.specs.Says.{Class, What, anObject, aString, anArray, aPrimitive, aReference, aNull, aPrimitiveArray, anObjectArray, aStringArray, aValue, Node, node, spread, isNulls, isSilent, textFrom, orderOf, whatFrom, nodesOf, nodesFrom, says}
-use Rattle.format.specs.Tidy.{sameClass, numberIn, Progress, nothing, Libraries, entered, allEntered, libraryRecords, classNeeds, detailNeeds, objectBy, afterObject, recordsOf, afterWhat, runOf}
+use Rattle.format.specs.Tidy.{sameClass, numberIn, Progress, nothing, Libraries, allEntered, libraryRecords, classNeeds, detailNeeds, objectBy, afterObject, recordsOf, afterWhat, runOf}
 use Rattle.fields.specs.Judged.{picked}
 use Rattle.laws.specs.Tests.{either}
 use Rattle.laws.specs.Runs.{libraries-length, Sort, a-null, plain, sort-of}

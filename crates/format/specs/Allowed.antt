@@ -1,7 +1,7 @@
 -- What the grammar allows and does not, on worked lists of records: a library in a slot and a reference to what the list has; no null run past an
 -- object's end, none over a primitive member, no library twice, no class that comes later.
-use Prim.Native.Nat.{ℕ, zero, suc, _+_, _≤_, _<_}
-use mathlib.Core.Path.{_≡_, refl, ap}
+use Prim.Native.Nat.{ℕ, suc, _≤_, _<_}
+use mathlib.Core.Path.{_≡_, refl}
 use mathlib.Core.Bool.{Bool, true, false, _||_}
 use mathlib.Core.List.{List, [], _∷_, map}
 use native.Mathlib.Omega.{arith}
@@ -16,8 +16,8 @@ use Rattle.format.specs.Numbers.{leBytes}
 use Rattle.format.specs.Prefix.{groupsOf}
 use Rattle.format.specs.Text.{needOf, loOf, hiOf, leadOf, stepOf, after, wellFormed}
 use Rattle.format.specs.Rows.{findFrom, objectRow, linkOf, linked, withLink, rowsOf}
-use Rattle.format.specs.Contents.{Detail, primitive, text, Member, Rec, header, classById, systemClass, libraryClass, string, reference, null, nulls, manyNulls, end, library, objectArray, enc, encs}
-use Rattle.format.specs.Grammar.{Name, Entry, aClass, another, aLibrary, ClassId, ObjectId, LibraryId, GoodDetail, Members, no-more, member, ClassInfo, Cur, cur, rowOf, size, Object, library-class, Body, hollow, filled, Slots, full, somePrimitive, class-by-id, an-object, a-string, a-reference, a-null, a-run, a-library, Array, of-objects, Objects, the-end, one-object, one-string, one-array, one-library, idsOf, refsOf, among, Reading}
+use Rattle.format.specs.Contents.{text, Rec, header, classById, nulls, end, library, objectArray, enc, encs}
+use Rattle.format.specs.Grammar.{Name, Entry, no-more, member, Cur, cur, Object, library-class, Body, hollow, filled, Slots, full, somePrimitive, class-by-id, an-object, a-string, a-reference, a-run, a-library, Array, of-objects, Objects, the-end, one-object, one-array, one-library, among, Reading}
 use Rattle.format.specs.Examples.{hexOnto}
 use Rattle.format.specs.Lists.{jaw, named, inSlot, inSlotRows}
 

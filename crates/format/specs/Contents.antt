@@ -1,5 +1,5 @@
 -- Records as data, with everything that they hold, and their bytes (01, Records; 2.3 to 2.6).
-use Prim.Native.Nat.{ℕ, _+_}
+use Prim.Native.Nat.{ℕ}
 use mathlib.Core.List.{List, [], _∷_, _++_}
 use lib.ListN.{length}
 use Rattle.format.specs.declared.PrimitiveCode.{PrimitiveCode}

@@ -15,7 +15,7 @@ use Rattle.format.specs.View.{recordText, rowText, rowQuestion, textView
 use Rattle.format.specs.Contents.{enc, encs}
 use Rattle.format.specs.Says.{numbersFrom, libraryName, detailFrom, membersFrom, classFrom, arrayFrom, objectsIn, orderOf, whatFrom, spread, nodesOf, nodesFrom, says}
 use Rattle.format.specs.Tidy.{sameDetail, sameMembers, sameClass, numberIn, entered, allEntered, libraryRecords, recordsOf, afterWhat, pack, runOf, written, waiting, squeeze, tidyRecords, tidyOf, tidyAnswer, tidyOutput, tidyTable}
-use Rattle.format.specs.Examples.{Example, entry, hex, hexOnto, accepts, refuses, writes, as-read, needs, uncomputed, textsFrom, holds, failing, None}
+use Rattle.format.specs.Examples.{Example, entry, hex, hexOnto, accepts, refuses, writes, as-read, textsFrom, holds, failing, None}
 
 -- the header with these ids
 abbrev pub headerOf : (root headerId : ℕ) → List ℕ

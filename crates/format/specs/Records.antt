@@ -1,10 +1,9 @@
 -- Records (01, Records and Replies): what the fields of each kind say, every field judged where it stands, and what may stand where.
 use Prim.Native.Nat.{ℕ, zero, suc, _+_, _-_, _*_}
 use mathlib.Core.Bool.{Bool, true, false, _&&_, _||_, not}
-use mathlib.Core.List.{List, [], _∷_}
+use mathlib.Core.List.{List, _∷_}
 use lib.ListN.{length, getD}
 use lib.Dec.{ltb, leb, eqb}
-use Rattle.format.specs.declared.Refusal.{Refusal}
 use Rattle.format.specs.declared.Refusal.the-variants as R
 use Rattle.format.specs.declared.PrimitiveCode.{PrimitiveCode}
 use Rattle.format.specs.declared.SlotType.{SlotType}
@@ -22,13 +21,11 @@ use Rattle.format.specs.declared.Where.{Where}
 use Rattle.format.specs.declared.Where.the-variants as W
 use Rattle.format.specs.declared.Kind.{Kind}
 use Rattle.format.specs.declared.Kind.the-variants as K
-use Rattle.format.specs.declared.Head.{Head}
 use Rattle.format.specs.declared.Heading.{Heading}
 use Rattle.format.specs.declared.Heading.the-variants as H
 use Rattle.format.specs.declared.Row.{Row}
 use Rattle.format.specs.Bytes.{pick, part}
 use Rattle.format.specs.Numbers.{le, u32At, negative}
-use Rattle.format.specs.Text.{stringAt}
 use Rattle.format.specs.Values.{onEnd, times, valueAt, itemsAt}
 use Rattle.format.specs.Types.{codeAt, coded, primitiveOf, typeByteAt, nameAt, positive, libraryIdAt, infoAt, typedAt, alike}
 use Rattle.format.specs.Rows.{blank, objectRow, classRow, libraryRow}

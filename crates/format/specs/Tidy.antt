@@ -1,18 +1,15 @@
 -- The tidy copy (01, The tidy copy): the one way to write what a list says. Records with single nulls first; then each longest run is packed.
-use Prim.Native.Nat.{ℕ, zero, suc, _+_, _-_}
+use Prim.Native.Nat.{ℕ, zero, suc}
 use mathlib.Core.Path.{_≡_}
 use mathlib.Core.Bool.{Bool, true, false, _&&_, _||_}
 use mathlib.Core.List.{List, [], _∷_, _++_}
 use lib.ListN.{length, replicate}
 use lib.Dec.{ltb, leb, eqb}
-use Rattle.format.specs.declared.Refusal.{Refusal}
 use Rattle.format.specs.declared.TidyAnswer.{TidyAnswer}
 use Rattle.format.specs.declared.TidyAnswer.the-variants as A
-use Rattle.format.specs.declared.PrimitiveCode.{PrimitiveCode}
-use Rattle.format.specs.declared.Row.{Row}
 use Rattle.format.specs.Bytes.{pick, sameBytes, laid}
 use Rattle.format.specs.Types.{codeNumber}
-use Rattle.format.specs.Machine.{Outcome, accepted, refused, readOf, tableWords}
+use Rattle.format.specs.Machine.{Outcome, accepted, refused, tableWords}
 use Rattle.format.specs.Contents.{Detail, primitive, text, object, system, class, objects, texts, primitives, Member, typeByte, Rec, header, classById, systemClass, libraryClass, string, array, typedPrimitive, reference, null, nulls, manyNulls, end, library, primitiveArray, objectArray, stringArray, value, encs}
 use Rattle.format.specs.Says.{From, theSystem, theLibrary, Class, What, anObject, aString, anArray, aPrimitive, aReference, aNull, aPrimitiveArray, anObjectArray, aStringArray, aValue, Node, Model, says}
 

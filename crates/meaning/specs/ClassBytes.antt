@@ -19,10 +19,8 @@ use Rattle.format.specs.Tidy.{numberIn, Libraries, membersNeed, fromNeeds, clas
 use Rattle.fields.specs.Parts.{part-to, part-through}
 use Rattle.fields.specs.Sequence.{through}
 use Rattle.num.specs.Le.{Bytes}
-use Rattle.num.specs.Read.{u32-says}
-use Rattle.types.specs.Keeps.{type-told, name-moves, names-within, types-within, types-end}
+use Rattle.types.specs.Keeps.{type-told, name-moves, names-within, types-end}
 use Rattle.put.specs.Out.{between, headOut}
-use Rattle.marks.specs.Marks.{word, typesPlace}
 use Rattle.writing.specs.Copy.{libraryNumber, infosOut, classOut, detailsOut}
 use Rattle.meaning.specs.Stands.{OwnStands, of-system, of-library, ClassStands}
 use Rattle.meaning.specs.Marked.{All, infoFields, classFields, nameAtField, namesOf}

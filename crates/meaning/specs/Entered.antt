@@ -2,9 +2,8 @@
 use Prim.Native.Nat.{ℕ}
 use mathlib.Core.Path.{_≡_, refl, ap}
 use mathlib.Core.List.{List, [], _∷_, _++_}
-use native.Mathlib.Omega.{arith}
 use Rattle.format.specs.declared.Row.{Row}
-use Rattle.format.specs.Tidy.{Libraries, entered, allEntered}
+use Rattle.format.specs.Tidy.{Libraries, allEntered}
 use Rattle.laws.specs.Numbers.{all-append}
 use Rattle.meaning.specs.Marked.{nameAtField, namesOf}
 

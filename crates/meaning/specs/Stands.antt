@@ -1,7 +1,7 @@
 -- What stands where a row of an accepted stream says it does, kind by kind: the facts about the stream that the copy rests on.
 use Prim.Native.Nat.{ℕ, suc, _+_, _-_, _*_, _≤_, _<_}
 use mathlib.Core.Path.{_≡_}
-use mathlib.Core.Bool.{true, false}
+use mathlib.Core.Bool.{true}
 use mathlib.Core.List.{List}
 use lib.ListN.{length, getD}
 use Rattle.format.specs.declared.Number32.the-variants as N32

@@ -1,5 +1,5 @@
 -- A class's name and members at a place (01, Records, kinds 4 and 5): those that the grammar takes are those that end.
-use Prim.Native.Nat.{ℕ, _+_, _-_, _≤_}
+use Prim.Native.Nat.{ℕ, _+_, _≤_}
 use mathlib.Core.Path.{_≡_, refl, ap, _∙_}
 use mathlib.Core.Bool.{false}
 use mathlib.Core.List.{List, _++_}

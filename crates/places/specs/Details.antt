@@ -1,6 +1,6 @@
 -- LibraryIds and the details of types at a place (01, Records; 2.1.2.2): those that the grammar takes are those that end, and a detail read
 -- at a place is one written there. Its library is given by number.
-use Prim.Native.Nat.{ℕ, _+_, _-_, _≤_}
+use Prim.Native.Nat.{ℕ, _-_, _≤_}
 use mathlib.Core.Path.{_≡_, refl, sym, ap, _∙_, subst}
 use mathlib.Core.Bool.{Bool, true, false}
 use mathlib.Core.List.{List, [], _++_}

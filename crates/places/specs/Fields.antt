@@ -1,8 +1,8 @@
 -- Numbers, names and codes at a place (01, Field rules): what is written is read, and what is read is written so, with contents that are
 -- functions of the stream and the place.
 use Prim.Native.Nat.{ℕ, _+_, _-_, _<_}
-use mathlib.Core.Path.{_≡_, refl, sym, ap, _∙_}
-use mathlib.Core.Bool.{Bool, true, false, not, _&&_}
+use mathlib.Core.Path.{_≡_, sym, ap, _∙_}
+use mathlib.Core.Bool.{false}
 use mathlib.Core.List.{List, [], _∷_}
 use native.Mathlib.Omega.{arith}
 use lib.ListN.{length, getD, drop}
@@ -18,7 +18,7 @@ use Rattle.format.specs.Bytes.{part}
 use Rattle.format.specs.Numbers.{leBytes, negative, u32At}
 use Rattle.format.specs.Prefix.{prefixBytes}
 use Rattle.format.specs.Text.{wellFormed, stringAt, stringBytes}
-use Rattle.format.specs.Types.{codeNumber, primitiveOf, codeAt, nameAt, positive}
+use Rattle.format.specs.Types.{codeNumber, primitiveOf, codeAt, nameAt}
 use Rattle.format.specs.Says.{textFrom, afterText, numberFrom, codeFrom}
 use Rattle.format.specs.Grammar.{Name}
 use Rattle.fields.specs.Judged.{judged-taken}

@@ -1,7 +1,7 @@
 -- The lengths of an array at a place, with their exact product, and its rank (01, Records, BinaryArray): those that the grammar takes are
 -- those that end, and read at a place they are those written there.
-use Prim.Native.Nat.{ℕ, zero, suc, _+_, _-_, _*_, _≤_}
-use mathlib.Core.Path.{_≡_, refl, sym, ap, _∙_, subst}
+use Prim.Native.Nat.{ℕ, zero, suc, _+_, _*_, _≤_}
+use mathlib.Core.Path.{_≡_, refl, sym, _∙_, subst}
 use mathlib.Core.Bool.{Bool, true, false}
 use mathlib.Core.List.{List, [], _∷_}
 use native.Mathlib.Omega.{arith}
@@ -24,7 +24,7 @@ use Rattle.fields.specs.Judged.{told}
 use Rattle.num.specs.Le.{Bytes}
 use Rattle.laws.specs.Tests.{both-of}
 use Rattle.places.specs.Stand.{Stand, stand-size, stand-none, stand-then, stand-split}
-use Rattle.places.specs.Fields.{number-size, number-there, number-back, number-from, not-negative, below-negative}
+use Rattle.places.specs.Fields.{number-there, number-back, not-negative, below-negative}
 
 -- ---- rank
 
@@ -66,15 +66,6 @@ module _ (s : List ℕ) where
       let y : k * n * product rest ≡ k * (n * product rest) = mul-assoc k n (product rest) in
       rw (number-there s n p (x .0) (omega arith) (x .1), not-negative n g, ← y)
       (lengths-there rest (k * n) (x .0) e gs (rw y h) (x .2))
-
-  -- and they are those that are read there
-  pub lengths-in : (ns : List ℕ) (p e : ℕ) → Lengths ns → Stand s (numbersBytes ns) p e → numbersFrom s (length ns) p ≡ ns
-  unfolding numbersFrom
-  lengths-in ns p e no-length w = refl
-  lengths-in ns p e (length-of {n = n} {ns = rest} g gs) w =
-      let x = stand-split (leBytes 4 n) (numbersBytes rest) w in
-      let k : x .0 ≡ p + 4 = number-size s n p (x .0) (x .1) in
-      rw (number-from s n p (x .0) (omega arith) (x .1)) (ap (λ (l : List ℕ). n ∷ l) (lengths-in rest (p + 4) e gs (subst (λ (i : ℕ). Stand s (numbersBytes rest) i e) k (x .2))))
 
   pub record LengthsAt (ns : List ℕ) (k m p e : ℕ) : Type 0 where
     pub good : Lengths ns

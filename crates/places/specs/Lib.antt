@@ -16,4 +16,3 @@ pub mod Reads
 pub mod ReadsClasses
 pub mod ReadsArrays
 pub mod Read
-pub mod Contents

@@ -1,5 +1,5 @@
 -- The bytes that the writers put out: parts of the stream, texts after the prefix of their length, numbers, and null runs.
-use Prim.Native.Nat.{ℕ, _+_, _-_}
+use Prim.Native.Nat.{ℕ, _-_}
 use mathlib.Core.List.{List, _∷_, _++_}
 use Rattle.format.specs.declared.Prefix.{Prefix}
 use Rattle.format.specs.declared.Prefix.the-variants as P

@@ -1,12 +1,10 @@
 -- What a slot waits for: a member value, or a kind byte where one stands.
 use mathlib.Core.Path.{_≡_, refl}
-use mathlib.Core.List.{List, [], _∷_}
+use mathlib.Core.List.{List}
 use Prim.Native.Nat.{ℕ}
 use Rattle.format.specs.declared.SlotType.{SlotType}
 use Rattle.format.specs.declared.SlotType.the-variants as S
-use Rattle.format.specs.declared.Where.{Where}
 use Rattle.format.specs.declared.Where.the-variants as W
-use Rattle.format.specs.declared.Frame.{Frame}
 use Rattle.format.specs.Machine.{State, Next, recordStep, valueStep, whereIn, bySlot, step}
 use Rattle.reader.specs.declared.Due.{Due}
 use Rattle.reader.specs.declared.Due.the-variants as D

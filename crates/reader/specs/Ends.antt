@@ -1,7 +1,7 @@
 -- The ends of a stream: what is judged after the end record, and the answer and the words that are left.
-use Prim.Native.Nat.{ℕ, suc, _+_, _-_, _*_, _/_, _≤_, _<_}
-use mathlib.Core.Path.{_≡_, refl, sym, ap, subst, _∙_}
-use mathlib.Core.List.{List, [], _∷_, _++_}
+use Prim.Native.Nat.{ℕ, _-_, _*_, _/_, _≤_, _<_}
+use mathlib.Core.Path.{_≡_, sym, ap, subst, _∙_}
+use mathlib.Core.List.{List, _++_}
 use native.Mathlib.Omega.{arith}
 use lib.ListN.{length, getD, replicate}
 use borrow.Author.Tests.{lt-ltb, le-ltb, eq-eqb, ne-eqb}
@@ -13,7 +13,7 @@ use Rattle.format.specs.declared.Row.{Row}
 use Rattle.format.specs.declared.Reader.{Reader}
 use Rattle.format.specs.declared.Where.the-variants as W
 use Rattle.format.specs.Rows.{blank, roomOf, rowsOf, words, objectRow, findFrom, isLost, linked}
-use Rattle.format.specs.Machine.{State, Next, go, ended, refuse, Outcome, accepted, refused, finish, run, begin, start, topLevel, recordStep, readOf, readAnswer, tableWords}
+use Rattle.format.specs.Machine.{State, Next, go, ended, Outcome, accepted, refused, finish, begin, start, topLevel, recordStep, readOf, readAnswer, tableWords}
 use Rattle.table.specs.Rows.{length-rowsOf}
 use Rattle.frames.specs.Frames.{saved}
 use Rattle.steps.specs.declared.Step.{Step}

@@ -1,14 +1,13 @@
 -- What holds between two steps: the place is within the stream, each row took a byte or more, the rows are within the table's room, and no more
 -- than 64 objects are open. A step keeps it and moves on.
-use Prim.Native.Nat.{ℕ, suc, _+_, _-_, _≤_, _<_}
+use Prim.Native.Nat.{ℕ, _+_, _≤_, _<_}
 use mathlib.Core.Path.{_≡_, refl}
-use mathlib.Core.Bool.{Bool, true, false, _||_}
+use mathlib.Core.Bool.{_||_}
 use mathlib.Core.List.{List, [], _∷_, _++_}
 use native.Mathlib.Omega.{arith}
 use lib.ListN.{length, getD, length-append}
 use lib.Dec.{ltb, eqb}
 use borrow.Author.Tests.{ltb-true}
-use Rattle.format.specs.declared.Refusal.{Refusal}
 use Rattle.format.specs.declared.Refusal.the-variants as R
 use Rattle.format.specs.declared.PrimitiveCode.{PrimitiveCode}
 use Rattle.format.specs.declared.SlotType.{SlotType}
@@ -27,7 +26,6 @@ use Rattle.format.specs.declared.Passed.{Passed}
 use Rattle.format.specs.declared.Passed.the-variants as O
 use Rattle.format.specs.declared.Row.{Row}
 use Rattle.format.specs.declared.Frame.{Frame}
-use Rattle.format.specs.Bytes.{pick}
 use Rattle.format.specs.Values.{valueAt}
 use Rattle.format.specs.Types.{moved, passedOf}
 use Rattle.format.specs.Rows.{isObject}

@@ -1,10 +1,10 @@
 -- The loop over the steps is `run`: what is left to run gives what the whole gives.
-use Prim.Native.Nat.{ℕ, zero, suc, pred, _+_, _-_, _*_, _/_, _≤_, _<_}
+use Prim.Native.Nat.{ℕ, zero, suc, pred, _+_, _/_, _≤_, _<_}
 use mathlib.Core.Path.{_≡_, refl, sym, ap, subst, _∙_}
-use mathlib.Core.List.{List, [], _∷_}
+use mathlib.Core.List.{List}
 use native.Mathlib.Omega.{arith}
-use lib.ListN.{length, replicate}
-use borrow.Author.Tests.{lt-ltb, le-ltb, lt-leb}
+use lib.ListN.{length}
+use borrow.Author.Tests.{le-ltb, lt-leb}
 use Rattle.format.specs.declared.Refusal.{Refusal}
 use Rattle.format.specs.declared.Refusal.the-variants as R
 use Rattle.format.specs.declared.PrimitiveCode.{PrimitiveCode}
@@ -18,7 +18,7 @@ use Rattle.format.specs.declared.Reader.{Reader}
 use Rattle.format.specs.Values.{bytesAt, booleanAt, charAt, decimalAt, dateTimeAt, valueAt}
 use Rattle.format.specs.Rows.{rowsOf, roomOf}
 use Rattle.format.specs.Records.{kindAt}
-use Rattle.format.specs.Machine.{State, Next, go, ended, refuse, recordStep, valueStep, bySlot, step, finish, onward, run, Outcome, accepted, refused}
+use Rattle.format.specs.Machine.{State, Next, go, ended, refuse, recordStep, valueStep, bySlot, step, finish, onward, run, Outcome, refused}
 use Rattle.prefix.specs.Laws.{short}
 use Rattle.num.specs.Read.{u64-short}
 use Rattle.table.specs.Rows.{length-rowsOf}

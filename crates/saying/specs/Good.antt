@@ -1,6 +1,6 @@
 -- What may be said: nodes that fill the slots of open objects in order, each with what its slot's type allows. Nothing here is about ids,
 -- places, libraries' numbers or packing.
-use Prim.Native.Nat.{ℕ, zero, suc, _+_, _≤_, _<_}
+use Prim.Native.Nat.{ℕ, suc, _+_, _≤_, _<_}
 use mathlib.Core.Path.{_≡_, refl}
 use mathlib.Core.Bool.{true, false}
 use mathlib.Core.List.{List, [], _∷_}

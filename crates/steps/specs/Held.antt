@@ -1,5 +1,5 @@
 -- How the code holds the machine's state: rows in the table, frames in a flat array, the rest in a struct.
-use Prim.Native.Nat.{ℕ, _≤_, _<_}
+use Prim.Native.Nat.{ℕ, _≤_}
 use mathlib.Core.List.{List}
 use Rattle.format.specs.declared.Reader.{Reader}
 use Rattle.format.specs.declared.Heading.{Heading}

@@ -1,11 +1,11 @@
 -- The laws of a step: each way that the code ends, in its own terms.
-use Prim.Native.Nat.{ℕ, suc, _+_, _-_, _≤_, _<_}
+use Prim.Native.Nat.{ℕ, _+_, _-_, _≤_, _<_}
 use mathlib.Core.Path.{_≡_, refl, sym, ap, subst, _∙_}
 use mathlib.Core.Bool.{Bool, true, false}
 use mathlib.Core.List.{List, [], _∷_, _++_}
 use native.Mathlib.Omega.{arith}
 use lib.ListN.{length}
-use lib.Dec.{ltb, eqb}
+use lib.Dec.{ltb}
 use borrow.Author.Tests.{lt-ltb, le-ltb, eq-eqb, ne-eqb}
 use Rattle.format.specs.declared.Refusal.{Refusal}
 use Rattle.format.specs.declared.Refusal.the-variants as R
@@ -24,7 +24,7 @@ use Rattle.format.specs.Bytes.{pick}
 use Rattle.format.specs.Values.{valueAt}
 use Rattle.format.specs.Types.{moved, passedOf}
 use Rattle.format.specs.Rows.{rowsOf, isObject}
-use Rattle.format.specs.Machine.{Open, State, Next, go, ended, refuse, rowIn, rowApart, filled, opened, add, object, nullRun, ending, act, valueStep, valueHead}
+use Rattle.format.specs.Machine.{Open, State, Next, refuse, rowIn, rowApart, filled, opened, add, object, nullRun, ending, act, valueStep, valueHead}
 use Rattle.table.specs.Rows.{length-rowsOf}
 use Rattle.frames.specs.Frames.{openOf, saved}
 use Rattle.frames.specs.Laws.{length-saved}

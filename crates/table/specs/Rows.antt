@@ -17,16 +17,6 @@ room-kept t u e = rw e
 
 -- ---- the words of rows
 
-pub length-words : (rs : List Row) → length (words rs) ≡ 8 * length rs
-unfolding words
-length-words [] = refl
-length-words (r ∷ rs) = let h = length-words rs in omega arith
-
-pub words-append : (a b : List Row) → words (a ++ b) ≡ words a ++ words b
-unfolding words
-words-append [] b = refl
-words-append (r ∷ a) b = ap (λ (l : List ℕ). words (r ∷ []) ++ l) (words-append a b)
-
 pub rowsOf-words : (rs : List Row) (rest : List ℕ) → rowsOf (length rs) (words rs ++ rest) ≡ rs
 unfolding words rowsOf
 rowsOf-words [] rest = refl

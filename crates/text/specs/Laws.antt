@@ -7,9 +7,8 @@ use native.Mathlib.Omega.{arith}
 use lib.ListN.{length, drop}
 use lib.Dec.{ltb}
 use Rattle.format.specs.declared.Refusal.the-variants as R
-use Rattle.format.specs.declared.Field.{Field}
 use Rattle.format.specs.declared.Field.the-variants as F
-use Rattle.format.specs.Bytes.{pick, part}
+use Rattle.format.specs.Bytes.{part}
 use Rattle.format.specs.Text.{needOf, wellFormed, textAt}
 use Rattle.format.specs.Local.{Local}
 use Rattle.fields.specs.Judged.{picked, judgedAt, judged-short, judged-good, judged-bad, Taken, judged-taken, judged-only, judged-local}

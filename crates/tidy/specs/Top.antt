@@ -1,6 +1,6 @@
 -- The tidy job from its parts: what an accepted reading says of the table, that the copy written from marked rows is the tidy copy, and the table
 -- at the end.
-use Prim.Native.Nat.{ℕ, _-_, _≤_, _<_}
+use Prim.Native.Nat.{ℕ, _≤_, _<_}
 use mathlib.Core.Path.{_≡_, refl, sym, ap, ap₂, _∙_}
 use mathlib.Core.Bool.{Bool, true, false}
 use mathlib.Core.List.{List}

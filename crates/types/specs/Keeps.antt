@@ -185,9 +185,6 @@ module _ (s : List ℕ) (n p e m : ℕ) (h : p ≤ m) (g : length s ≤ m) where
   pub names-within : times (nameAt s) n p ≡ F.End e → (p + n ≤ e) × (e ≤ m)
   names-within q = times-within (nameAt s) (length s) (name-moves s) n p e m h g q
 
-  pub types-within : times (typeByteAt s) n p ≡ F.End e → (p + n ≤ e) × (e ≤ m)
-  types-within q = times-within (typeByteAt s) (length s) (type-moves s) n p e m h g q
-
 pub types-end : (s : List ℕ) (n p e : ℕ) → times (typeByteAt s) n p ≡ F.End e → e ≡ p + n
 unfolding times
 types-end s zero p e q = let a : p ≡ e = cc in omega arith

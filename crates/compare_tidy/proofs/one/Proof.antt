@@ -1,6 +1,6 @@
 -- Each part is as long as it was asked for, after the tests.
 use native.Mathlib.Omega.{arith}
-use lib.ListN.{length, length-take, length-append, length-drop}
+use lib.ListN.{length-take, length-append, length-drop}
 use borrow.Author.Needs.{needs}
 use Rattle.compare_tidy.proofs.one.Statement.{statement}
 use Rattle.compare_tidy.proofs.one.Tie as tie

@@ -1,6 +1,5 @@
 -- One law for each end; the links make the rows those of the outcome.
 use mathlib.Core.Path.{ap, _∙_}
-use native.Mathlib.Omega.{arith}
 use Rattle.format.specs.Rows.{rowsOf}
 use Rattle.format.specs.Machine.{accepted}
 use Rattle.reader.specs.Ends.{trailing, rootless, lost, whole}

@@ -1,5 +1,5 @@
 -- What the next slot waits for decides which of the two steps it is.
-use mathlib.Core.Path.{_≡_, sym, ap, _∙_}
+use mathlib.Core.Path.{ap, _∙_}
 use Rattle.format.specs.Rows.{roomOf}
 use Rattle.steps.specs.Held.{stateOf}
 use Rattle.format.specs.declared.Where.{Where}

@@ -1,5 +1,5 @@
 -- The kind's byte is within the stream, so the heading ends within it; then the definition goes by what each call answered.
-use mathlib.Core.Path.{_≡_, sym, ap, _∙_}
+use mathlib.Core.Path.{sym, _∙_}
 use Rattle.format.specs.Rows.{roomOf}
 use Rattle.steps.specs.Held.{stateOf}
 use Rattle.records.specs.Kinds.{kind-within}

@@ -1,10 +1,4 @@
 -- The slot word is the law of `less`; all else is the struct itself.
-use mathlib.Core.Path.{_≡_, refl, sym, _∙_}
-use mathlib.Core.List.{List, []}
-use Prim.Native.Nat.{ℕ}
-use native.Mathlib.Omega.{arith}
-use Rattle.format.specs.Rows.{roomOf}
-use Rattle.steps.specs.Held.{stateOf}
 use Rattle.steps.specs.Laws.{row-of}
 use borrow.Author.Needs.{needs}
 use Rattle.steps.proofs.row_in.Statement.{statement}

@@ -1,8 +1,5 @@
 -- A heading is good or bad; `act` is handed on by what it is known to be.
-use mathlib.Core.Path.{_≡_, refl, sym, _∙_}
-use mathlib.Core.List.{List, []}
-use Prim.Native.Nat.{ℕ}
-use native.Mathlib.Omega.{arith}
+use mathlib.Core.Path.{_∙_}
 use Rattle.format.specs.Rows.{roomOf}
 use Rattle.steps.specs.Held.{stateOf}
 use Rattle.steps.specs.Laws.{act-as, act-bad, short-of}

@@ -1,10 +1,7 @@
 -- One law for a table with room, one for a full one.
-use mathlib.Core.Path.{_≡_, refl, sym, _∙_}
-use mathlib.Core.List.{List, []}
-use Prim.Native.Nat.{ℕ}
+use mathlib.Core.List.{[]}
 use native.Mathlib.Omega.{arith}
 use Rattle.format.specs.Rows.{roomOf}
-use Rattle.steps.specs.Held.{stateOf}
 use Rattle.steps.specs.Laws.{end-room, end-full}
 use borrow.Author.Needs.{needs}
 use Rattle.steps.proofs.take_end.Statement.{statement}

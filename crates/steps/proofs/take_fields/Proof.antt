@@ -1,8 +1,5 @@
 -- The clause of `act` for each kind, after what the callee ensures.
-use mathlib.Core.Path.{_≡_, refl, sym, _∙_}
-use mathlib.Core.List.{List, []}
-use Prim.Native.Nat.{ℕ}
-use native.Mathlib.Omega.{arith}
+use mathlib.Core.Path.{sym, _∙_}
 use Rattle.format.specs.Rows.{roomOf}
 use Rattle.steps.specs.Held.{stateOf}
 use Rattle.steps.specs.Laws.{act-13, act-14, act-12, act-11, act-object, act-plain}

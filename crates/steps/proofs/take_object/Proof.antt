@@ -1,5 +1,4 @@
 -- One law for each way: no slots, opened, not opened; each takes the row, the stack and the added row from its callee.
-use mathlib.Core.Path.{_≡_, refl, sym, _∙_}
 use native.Mathlib.Omega.{arith}
 use borrow.Author.Tests.{ltb-true}
 use Rattle.format.specs.Rows.{roomOf}

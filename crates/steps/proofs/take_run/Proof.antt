@@ -1,8 +1,5 @@
 -- The test of the slots left, then what `pass` found.
-use mathlib.Core.Path.{_≡_, refl, sym, _∙_}
-use mathlib.Core.List.{List, []}
-use Prim.Native.Nat.{ℕ}
-use native.Mathlib.Omega.{arith}
+use mathlib.Core.Path.{_∙_}
 use Rattle.format.specs.Rows.{roomOf}
 use Rattle.steps.specs.Held.{stateOf}
 use Rattle.steps.specs.Laws.{run-long, run-over, run-crossed}

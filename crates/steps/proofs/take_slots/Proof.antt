@@ -1,10 +1,5 @@
 -- The row, the filled slots and the added row, put together by one law.
-use mathlib.Core.Path.{_≡_, refl, sym, _∙_}
-use mathlib.Core.List.{List, []}
-use Prim.Native.Nat.{ℕ}
-use native.Mathlib.Omega.{arith}
 use Rattle.format.specs.Rows.{roomOf}
-use Rattle.steps.specs.Held.{stateOf}
 use Rattle.steps.specs.Laws.{took-slots}
 use borrow.Author.Needs.{needs}
 use Rattle.steps.proofs.take_slots.Statement.{statement}

@@ -3,7 +3,6 @@ use native.Mathlib.Omega.{arith}
 use mathlib.Core.Path.{_≡_}
 use borrow.Author.Tests.{eq-eqb, ne-eqb}
 use Rattle.format.specs.Text.{leadOf, needOf}
-use Rattle.text.proofs.Auto.{auto}
 use borrow.Author.Needs.{needs}
 use Rattle.text.proofs.lead.Statement.{statement}
 use Rattle.text.proofs.lead.Tie as tie

@@ -1,9 +1,7 @@
 -- Both lanes stay below the modulus.
 use Prim.Native.Nat.{_≤_, _<_, _-_}
-use mathlib.Core.Path.{_≡_}
 use borrow.Author.Needs.{needs}
-use native.Mathlib.Omega.{arith}
-use lib.ListN.{length, length-set}
+use lib.ListN.{length}
 use Rattle.traces.proofs.words.Statement.{statement}
 use Rattle.traces.proofs.words.Tie as tie
 
