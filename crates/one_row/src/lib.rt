@@ -2,7 +2,7 @@
 use format::ObjectNo;
 use format::Row;
 ghost use mathlib.Core.List.{_++_};
-ghost use Prim.Native.Nat.{_+_, _-_, _*_, _≤_, _<_};
+ghost use Prim.Native.Nat.{_+_, _-_, _≤_, _<_};
 ghost use Rattle.format.specs.Bytes.{pick};
 ghost use Rattle.format.specs.Rows.{rowsOf, roomOf};
 ghost use Rattle.put.specs.Out.{between};

@@ -19,7 +19,6 @@ ghost use Rattle.format.specs.Promises.{ReadPromise};
 ghost use Rattle.frames.specs.Frames.{saved};
 ghost use Rattle.steps.specs.Held.{stateOf, after, Held};
 ghost use Rattle.reader.specs.Due.{dueOf};
-ghost use Rattle.reader.specs.Fine.{Fine};
 ghost use Rattle.reader.specs.Loop.{Runs};
 ghost use Rattle.reader.specs.Ends.{outcomeOf, Within};
 

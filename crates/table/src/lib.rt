@@ -4,7 +4,7 @@ use format::LibraryNo;
 use format::ObjectNo;
 use format::Row;
 ghost use mathlib.Core.Path.{_≡_};
-ghost use mathlib.Core.List.{List, [], _∷_, _++_};
+ghost use mathlib.Core.List.{[], _∷_, _++_};
 ghost use Prim.Native.Nat.{_+_, _-_, _*_, _≤_, _<_};
 ghost use lib.ListN.{length, getD, set, replicate};
 ghost use Rattle.format.specs.Rows.{blank, roomOf, words, rowsOf, withLink, isObject, isClass, objectRow, classRow, libraryRow, findFrom, linkOf, linked, isLost};
