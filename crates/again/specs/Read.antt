@@ -10,7 +10,7 @@ use Rattle.format.specs.Contents.{Rec, header, end, enc, encs}
 use Rattle.format.specs.Grammar.{rowOf, Reading}
 use Rattle.format.specs.Says.{Model}
 use Rattle.format.specs.Tidy.{Progress, nothing, tidyRecords, tidyOf}
-use Rattle.table.specs.Links.{length-linked}
+use Rattle.links.specs.Links.{length-linked}
 use Rattle.laws.specs.Numbers.{afterNodes}
 use Rattle.saying.specs.Good.{Good}
 use Rattle.saying.specs.Numbers.{Numbered, numbered-none, numbered-nodes}

@@ -1,4 +1,2 @@
 -- Laws of the array records.
 pub mod Stages
-pub mod Lengths
-pub mod Moves

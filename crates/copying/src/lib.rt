@@ -49,9 +49,9 @@ fn put_before(out: &mut [u8], w: Gathered, r: Row) -> usize
         if r.owner == w.owner {
             return 0;
         }
-        return put::put_run(out, w.count);
+        return heads::put_run(out, w.count);
     }
-    put::put_run(out, w.count)
+    heads::put_run(out, w.count)
 }
 
 // The nulls that wait after row r.
@@ -115,7 +115,7 @@ fn copy_all(out: &mut [u8], s: &[u8], table: &[u32], n: usize) -> usize
         i += 1;
     }
     let from = put::least(at, out.len());
-    let b = put::put_run(&mut out[from..], w.count);
+    let b = heads::put_run(&mut out[from..], w.count);
     put::add_up(at, b)
 }
 

@@ -11,7 +11,7 @@ use Rattle.format.specs.declared.Row.{Row}
 use Rattle.format.specs.Grammar.{Reading}
 use Rattle.format.specs.Machine.{accepted, refused, readOf}
 use Rattle.num.specs.Le.{Bytes}
-use Rattle.table.specs.Links.{length-linked}
+use Rattle.links.specs.Links.{length-linked}
 use Rattle.standing.specs.Accepted.{accepted-stands}
 use Rattle.readings.specs.Accept.{accepts}
 use Rattle.readings.specs.Derive.{accepted-reading}

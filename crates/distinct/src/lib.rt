@@ -62,7 +62,7 @@ fn same_infos(s: &[u8], table: &[u32], n: usize, count: u32, types: u32, a: usiz
     let mut p = a;
     let mut q = b;
     while left > 0 {
-        let kind = types::byte_at(s, t);
+        let kind = codes::byte_at(s, t);
         let x = marks::after_info(s, kind, p);
         let y = marks::after_info(s, kind, q);
         if !same_info(s, table, n, kind, p, x, q, y) {

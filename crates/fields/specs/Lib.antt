@@ -3,3 +3,4 @@ pub mod Tests
 pub mod Parts
 pub mod Judged
 pub mod Sequence
+pub mod Auto

@@ -1,39 +1,12 @@
 -- How the reader holds the open objects: the frame of the innermost one in the reader, the frames around it in words, six to a frame.
-use Prim.Native.Nat.{ℕ, zero, suc, _+_, _-_, _*_, _≤_}
+use Prim.Native.Nat.{ℕ, zero, suc, _+_, _*_, _≤_}
 use mathlib.Core.Path.{_≡_}
 use mathlib.Core.List.{List, [], _∷_}
 use lib.ListN.{length, getD}
-use lib.Dec.{ltb, eqb}
-use Rattle.format.specs.declared.SlotType.{SlotType}
-use Rattle.format.specs.declared.SlotType.the-variants as S
 use Rattle.format.specs.declared.Frame.{Frame}
 use Rattle.format.specs.declared.Reader.{Reader}
-use Rattle.format.specs.Bytes.{pick}
-use Rattle.format.specs.Types.{codeNumber, primitiveOf, coded}
 use Rattle.format.specs.Machine.{Open}
-
--- a slot type as a word
-abbrev pub slotCode : SlotType → ℕ
-slotCode (S.Primitive c) = codeNumber c
-slotCode S.Text = 20
-slotCode S.Object = 21
-slotCode S.SystemClass = 22
-slotCode S.Class = 23
-slotCode S.ObjectArray = 24
-slotCode S.StringArray = 25
-slotCode (S.PrimitiveArray c) = 32 + codeNumber c
-
--- the slot type of a word; one that no slot type has is some primitive type
-unfoldable pub slotFrom : ℕ → SlotType
-slotFrom k =
-    pick (ltb k 20) (S.Primitive (coded (primitiveOf k)))
-    (pick (eqb k 20) S.Text
-    (pick (eqb k 21) S.Object
-    (pick (eqb k 22) S.SystemClass
-    (pick (eqb k 23) S.Class
-    (pick (eqb k 24) S.ObjectArray
-    (pick (eqb k 25) S.StringArray
-    (S.PrimitiveArray (coded (primitiveOf (k - 32))))))))))
+use Rattle.slot_words.specs.Words.{slotFrom}
 
 -- the frame saved at index d
 unfoldable pub frameAt : List ℕ → ℕ → Frame

@@ -1,4 +1,4 @@
--- The laws of the saved frames: slot types come back from their words, the depth is the number of frames below, and each way a full
+-- The laws of the saved frames: the depth is the number of frames below, and each way a full
 -- object is closed, a slot filled, an object opened.
 use mathlib.Core.Path.{_≡_, refl, ap, _∙_}
 use mathlib.Core.List.{List, [], _∷_}
@@ -8,68 +8,16 @@ use native.Mathlib.Numerals.{add-one, add-two, add-three, add-four, add-five}
 use borrow.Author.Tests.{eq-eqb, ne-eqb}
 use lib.ListN.{length, getD, set, length-set}
 use lib.Seq.{getD-set-other, getD-set-same, sets}
-use Rattle.format.specs.declared.PrimitiveCode.{PrimitiveCode}
-use Rattle.format.specs.declared.PrimitiveCode.the-variants as C
 use Rattle.format.specs.declared.SlotType.{SlotType}
-use Rattle.format.specs.declared.SlotType.the-variants as S
 use Rattle.format.specs.declared.Where.{Where}
 use Rattle.format.specs.declared.Where.the-variants as W
 use Rattle.format.specs.declared.Typed.{Typed}
 use Rattle.format.specs.declared.Head.{Head}
 use Rattle.format.specs.declared.Frame.{Frame}
 use Rattle.format.specs.declared.Reader.{Reader}
-use Rattle.format.specs.Types.{codeNumber, primitiveOf}
 use Rattle.format.specs.Machine.{close, filled, opened, whereIn}
-use Rattle.frames.specs.Frames.{slotCode, slotFrom, frameAt, saved, openOf}
-
--- ---- slot types
-
-pub code-small : (c : PrimitiveCode) → codeNumber c ≤ 16
-code-small C.Boolean = omega arith
-code-small C.Byte = omega arith
-code-small C.Char = omega arith
-code-small C.Decimal = omega arith
-code-small C.Double = omega arith
-code-small C.Int16 = omega arith
-code-small C.Int32 = omega arith
-code-small C.Int64 = omega arith
-code-small C.SByte = omega arith
-code-small C.Single = omega arith
-code-small C.TimeSpan = omega arith
-code-small C.DateTime = omega arith
-code-small C.UInt16 = omega arith
-code-small C.UInt32 = omega arith
-code-small C.UInt64 = omega arith
-
--- a primitive code comes back from both its words
-both-back : (c : PrimitiveCode) → (slotFrom (codeNumber c) ≡ S.Primitive c) × (slotFrom (32 + codeNumber c) ≡ S.PrimitiveArray c)
-unfolding slotFrom primitiveOf
-both-back C.Boolean = (refl, refl)
-both-back C.Byte = (refl, refl)
-both-back C.Char = (refl, refl)
-both-back C.Decimal = (refl, refl)
-both-back C.Double = (refl, refl)
-both-back C.Int16 = (refl, refl)
-both-back C.Int32 = (refl, refl)
-both-back C.Int64 = (refl, refl)
-both-back C.SByte = (refl, refl)
-both-back C.Single = (refl, refl)
-both-back C.TimeSpan = (refl, refl)
-both-back C.DateTime = (refl, refl)
-both-back C.UInt16 = (refl, refl)
-both-back C.UInt32 = (refl, refl)
-both-back C.UInt64 = (refl, refl)
-
-pub slot-back : (t : SlotType) → slotFrom (slotCode t) ≡ t
-unfolding slotFrom
-slot-back (S.Primitive c) = both-back c .0
-slot-back S.Text = refl
-slot-back S.Object = refl
-slot-back S.SystemClass = refl
-slot-back S.Class = refl
-slot-back S.ObjectArray = refl
-slot-back S.StringArray = refl
-slot-back (S.PrimitiveArray c) = both-back c .1
+use Rattle.slot_words.specs.Words.{slotCode, slot-back}
+use Rattle.frames.specs.Frames.{frameAt, saved, openOf}
 
 -- ---- the depth
 

@@ -2,83 +2,14 @@
 // array of words, six to a frame, the outermost one first. An object is opened, its slots are filled, full objects are closed.
 use format::Frame;
 use format::Head;
-use format::PrimitiveCode;
 use format::Reader;
-use format::SlotType;
 use format::Typed;
 ghost use mathlib.Core.Path.{_≡_};
 ghost use mathlib.Core.List.{_∷_};
 ghost use Prim.Native.Nat.{_+_, _-_, _≤_, _<_};
 ghost use lib.ListN.{length};
-ghost use Rattle.format.specs.Types.{codeNumber, primitiveOf, coded};
 ghost use Rattle.format.specs.Machine.{close, filled, opened};
-ghost use Rattle.frames.specs.Frames.{slotCode, slotFrom, frameAt, saved, openOf, Holds, Deeper};
-
-// ---- a slot type as a word
-
-pub fn code_number(c: PrimitiveCode) -> u32
-    ensures { λ r. ⌜ r ≡ codeNumber c ⌝ }
-{
-    match c {
-        PrimitiveCode::Boolean => 1,
-        PrimitiveCode::Byte => 2,
-        PrimitiveCode::Char => 3,
-        PrimitiveCode::Decimal => 5,
-        PrimitiveCode::Double => 6,
-        PrimitiveCode::Int16 => 7,
-        PrimitiveCode::Int32 => 8,
-        PrimitiveCode::Int64 => 9,
-        PrimitiveCode::SByte => 10,
-        PrimitiveCode::Single => 11,
-        PrimitiveCode::TimeSpan => 12,
-        PrimitiveCode::DateTime => 13,
-        PrimitiveCode::UInt16 => 14,
-        PrimitiveCode::UInt32 => 15,
-        PrimitiveCode::UInt64 => 16,
-    }
-}
-
-// The primitive code of a number; Byte for a number that is none.
-fn code_from(k: u32) -> PrimitiveCode
-    ensures { λ r. ⌜ r ≡ coded (primitiveOf k) ⌝ }
-{
-    if 256 <= k {
-        return PrimitiveCode::Byte;
-    }
-    types::coded_of(types::primitive_of(k as u8))
-}
-
-pub fn slot_code(t: SlotType) -> u32
-    ensures { λ r. ⌜ r ≡ slotCode t ⌝ }
-{
-    match t {
-        SlotType::Primitive(c) => code_number(c),
-        SlotType::Text => 20,
-        SlotType::Object => 21,
-        SlotType::SystemClass => 22,
-        SlotType::Class => 23,
-        SlotType::ObjectArray => 24,
-        SlotType::StringArray => 25,
-        SlotType::PrimitiveArray(c) => 32 + code_number(c),
-    }
-}
-
-pub fn slot_from(k: u32) -> SlotType
-    ensures { λ r. ⌜ r ≡ slotFrom k ⌝ }
-{
-    if k < 20 {
-        return SlotType::Primitive(code_from(k));
-    }
-    match k {
-        20 => SlotType::Text,
-        21 => SlotType::Object,
-        22 => SlotType::SystemClass,
-        23 => SlotType::Class,
-        24 => SlotType::ObjectArray,
-        25 => SlotType::StringArray,
-        _ => SlotType::PrimitiveArray(code_from(less(k, 32))),
-    }
-}
+ghost use Rattle.frames.specs.Frames.{frameAt, saved, openOf, Holds, Deeper};
 
 // ---- the saved frames
 
@@ -89,7 +20,7 @@ pub fn save(frames: &mut [u32; 384], d: usize, g: Frame)
 {
     let t = g.typed;
     let slot = t.slot;
-    let code = slot_code(slot);
+    let code = slot_words::slot_code(slot);
     let b = 6 * d;
     frames[b] = g.owner;
     frames[b + 1] = g.count;
@@ -105,7 +36,7 @@ pub fn frame_at(frames: &[u32; 384], d: usize) -> Frame
     ensures { λ r. ⌜ r ≡ frameAt (now (frames .entry)) d ⌝ }
 {
     let b = 6 * d;
-    let slot = slot_from(frames[b + 3]);
+    let slot = slot_words::slot_from(frames[b + 3]);
     let typed = Typed {
         slot,
         types: frames[b + 4],
@@ -117,18 +48,6 @@ pub fn frame_at(frames: &[u32; 384], d: usize) -> Frame
         left: frames[b + 2],
         typed,
     }
-}
-
-// ---- the open objects
-
-// The difference, or 0 where b is greater.
-pub fn less(a: u32, b: u32) -> u32
-    ensures { λ r. ⌜ r ≡ a - b ⌝ }
-{
-    if a < b {
-        return 0;
-    }
-    a - b
 }
 
 // Objects that are full are closed.
@@ -166,7 +85,7 @@ pub fn fill(frames: &[u32; 384], m: Reader, k: u32, t: Typed) -> Reader
     let owner = m.top.owner;
     let count = m.top.count;
     let left = m.top.left;
-    let rest = less(left, k);
+    let rest = slot_words::less(left, k);
     settle(
         frames,
         Reader {
@@ -191,7 +110,7 @@ pub fn open_object(frames: &mut [u32; 384], m: Reader, row: u32, h: Head, t: Typ
     let owner = m.top.owner;
     let count = m.top.count;
     let left = m.top.left;
-    let rest = less(left, 1);
+    let rest = slot_words::less(left, 1);
     save(
         frames,
         m.depth,

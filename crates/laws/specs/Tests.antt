@@ -14,7 +14,7 @@ use Rattle.format.specs.Contents.{Detail, primitive, text, object, system, clas
 use Rattle.format.specs.Says.{From, theSystem, theLibrary, Class}
 use Rattle.format.specs.Tidy.{detailName, detailLibrary, sameDetail, sameMembers, sameFrom, sameClass}
 pub use Rattle.fields.specs.Tests.{bool-ext, both-of}
-use Rattle.types.specs.Codes.{primitive-number}
+use Rattle.codes.specs.Codes.{primitive-number}
 use Rattle.same.specs.Laws.{same-eq, same-refl}
 
 -- ---- answers of tests

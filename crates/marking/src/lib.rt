@@ -15,7 +15,7 @@ fn number_one(table: &mut [u32], n: usize, i: usize, last: ObjectNo) -> ObjectNo
     ensures { λ r. ⌜ pass (r .0) (rowsOf n (now (table .exit))) ≡ numberOne i (pass (last .0) (rowsOf n (now (table .entry)))) ⌝ }
 {
     let r = table::row_at(table, n, i);
-    if table::is_object(r.kind) {
+    if lookups::is_object(r.kind) {
         let number = marks::plus(last.0, 1);
         marks::put_named(table, n, i, marks::with_id(r, number));
         return ObjectNo(number);
@@ -49,7 +49,7 @@ fn place_one(s: &[u8], table: &mut [u32], n: usize, i: usize)
         marks::put_named(table, n, i, marks::with_count(r, first));
         return;
     }
-    if table::is_class(r.kind) {
+    if lookups::is_class(r.kind) {
         let place = marks::word(marks::types_place(s, r));
         marks::put_named(table, n, i, marks::with_slot(r, place));
     }
@@ -75,7 +75,7 @@ fn first_one(s: &[u8], table: &mut [u32], n: usize, i: usize)
     ensures { λ _. ⌜ rowsOf n (now (table .exit)) ≡ firstOne (now (s .entry)) i (rowsOf n (now (table .entry))) ⌝ }
 {
     let r = table::row_at(table, n, i);
-    if table::is_class(r.kind) {
+    if lookups::is_class(r.kind) {
         let first = distinct::first_class(s, table, n, r);
         marks::put_named(table, n, i, marks::with_link(r, first));
     }

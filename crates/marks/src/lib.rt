@@ -116,7 +116,7 @@ pub fn infos_place(r: Row) -> usize
 pub fn is_first(i: usize, r: Row) -> bool
     ensures { λ q. ⌜ q ≡ isFirst i r ⌝ }
 {
-    if table::is_class(r.kind) {
+    if lookups::is_class(r.kind) {
         // A link of 0 names no row, and i + 1 need not fit.
         if r.link == 0 {
             return false;
@@ -174,10 +174,10 @@ pub fn number_from(s: &[u8], p: usize) -> u32
         return 0;
     }
     joined(
-        types::byte_at(s, p),
-        types::byte_at(s, p + 1),
-        types::byte_at(s, p + 2),
-        types::byte_at(s, p + 3),
+        codes::byte_at(s, p),
+        codes::byte_at(s, p + 1),
+        codes::byte_at(s, p + 2),
+        codes::byte_at(s, p + 3),
     )
 }
 
@@ -206,7 +206,7 @@ pub fn library_at(s: &[u8], table: &[u32], n: usize, p: usize) -> u32
     ensures { λ r. ⌜ r ≡ libraryAt (now (s .entry)) (rowsOf n (now (table .entry))) p ⌝ }
 {
     let id = number_from(s, p);
-    let row = table::find_library(table, n, LibraryNo(id));
+    let row = lookups::find_library(table, n, LibraryNo(id));
     let r = table::row_at(table, n, less(row, 1));
     r.count
 }

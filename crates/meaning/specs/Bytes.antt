@@ -26,10 +26,10 @@ use Rattle.fields.specs.Sequence.{through}
 use Rattle.num.specs.Le.{Bytes, bytes-part, leBytes-le}
 use Rattle.num.specs.Read.{u32-says}
 use Rattle.strings.specs.Laws.{string-told, string-moves, string-converse}
-use Rattle.types.specs.Codes.{number-primitive}
+use Rattle.codes.specs.Codes.{number-primitive}
 use Rattle.types.specs.Keeps.{code-told, type-told, name-told, name-moves, library-told}
 use Rattle.laws.specs.Fields.{by-type}
-use Rattle.classes.specs.Moves.{known-moves, info-plain}
+use Rattle.class_info.specs.Moves.{known-moves, info-plain}
 use Rattle.put.specs.Out.{between, textOut}
 use Rattle.writing.specs.Copy.{libraryNumber, infoOut, infosOut}
 use Rattle.meaning.specs.Stands.{StringStands}

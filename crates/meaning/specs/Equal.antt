@@ -23,10 +23,10 @@ use Rattle.format.specs.Tidy.{sameClass}
 use Rattle.fields.specs.Parts.{length-part}
 use Rattle.num.specs.Le.{Bytes, bytes-part, leBytes-le}
 use Rattle.num.specs.Read.{u32-says}
-use Rattle.types.specs.Ends.{name-end}
+use Rattle.codes.specs.Ends.{name-end}
 use Rattle.types.specs.Keeps.{name-told, name-moves}
 use Rattle.same.specs.Laws.{SameParts, same-eq}
-use Rattle.table.specs.Find.{find-hit}
+use Rattle.lookups.specs.Find.{find-hit}
 use Rattle.laws.specs.Tests.{bool-ext, both-of, both-true, apart, pick-of, pick-true, true-same, class-of, class-eq, true-class, class-refl}
 use Rattle.laws.specs.Firsts.{find-alike, find-some}
 use Rattle.marks.specs.Marks.{withId, withSlot, libraryAt, sameBetween, sameInfos, infosPlace, sameOwn, sameDetails, sameClassRow, firstClass}

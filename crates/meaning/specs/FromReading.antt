@@ -15,7 +15,7 @@ use Rattle.format.specs.Records.{infosAt, afterInfos}
 use Rattle.format.specs.Says.{isNulls}
 use Rattle.format.specs.Machine.{accepted, readOf}
 use Rattle.types.specs.Keeps.{name-told}
-use Rattle.table.specs.Links.{length-linked, linked-at}
+use Rattle.links.specs.Links.{length-linked, linked-at}
 use Rattle.standing.specs.Standing.{Known, Recorded, Owned, apart, within, record-at, row-moves}
 use Rattle.standing.specs.Standing as K
 use Rattle.standing.specs.Accepted.{Taken, accepted-stands}

@@ -18,10 +18,10 @@ use Rattle.format.specs.Says.{textFrom, afterText, numberFrom, codeFrom, librar
 use Rattle.fields.specs.Parts.{part-cons}
 use Rattle.fields.specs.Sequence.{through}
 use Rattle.num.specs.Le.{Bytes}
-use Rattle.types.specs.Ends.{name-end}
-use Rattle.types.specs.Codes.{number-primitive}
+use Rattle.codes.specs.Ends.{name-end}
+use Rattle.codes.specs.Codes.{number-primitive}
 use Rattle.types.specs.Keeps.{code-told, type-told, name-told, name-moves}
-use Rattle.classes.specs.Moves.{names-there, info-plain, info-known-moves}
+use Rattle.class_info.specs.Moves.{names-there, info-plain, info-known-moves}
 use Rattle.same.specs.Laws.{SameParts, same-eq}
 use Rattle.laws.specs.Tests.{both-of, both-true, pick-of, pick-true, true-same}
 use Rattle.laws.specs.Fields.{by-type}

@@ -23,9 +23,9 @@ use Rattle.num.specs.Read.{u32-says}
 use Rattle.fields.specs.Judged.{no-end, picked}
 use Rattle.fields.specs.Sequence.{through}
 use Rattle.types.specs.Keeps.{library-told}
-use Rattle.classes.specs.Moves.{names-there, types-there, infos-moves}
+use Rattle.class_info.specs.Moves.{names-there, types-there, infos-moves}
 use Rattle.same.specs.Laws.{same-eq}
-use Rattle.table.specs.Find.{find-hit, library-at}
+use Rattle.lookups.specs.Find.{find-hit, library-at}
 use Rattle.strings.specs.Laws.{string-moves}
 use Rattle.laws.specs.Tests.{bool-ext, both-of, both-true, apart, pick-of, true-same}
 use Rattle.laws.specs.Kinds.{class-kind}

@@ -14,7 +14,7 @@ use Rattle.format.specs.Bytes.{pick, part}
 use Rattle.format.specs.Rows.{blank, isObject, isClass, findFrom}
 use Rattle.format.specs.Says.{Class, What, anObject, aString, aPrimitive, aReference, aPrimitiveArray, anObjectArray, aStringArray, aValue, node, textFrom, codeFrom, detailFrom, classFrom, arrayFrom, objectsIn, orderOf, whatFrom, spread, isNulls, isSilent, nodesOf}
 use Rattle.format.specs.Tidy.{sameClass, numberIn, Progress, nothing, allEntered, detailNeeds, classNeeds, afterObject, counted, afterWhat}
-use Rattle.table.specs.Find.{find-hit}
+use Rattle.lookups.specs.Find.{find-hit}
 use Rattle.laws.specs.Tests.{both-of, differ, either, neither}
 use Rattle.laws.specs.Kinds.{class-kind, class-is-object}
 use Rattle.laws.specs.Orders.{objects-append, order-next}

@@ -20,7 +20,7 @@ use Rattle.fields.specs.Judged.{picked}
 use Rattle.fields.specs.Sequence.{through}
 use Rattle.types.specs.Keeps.{type-told, name-moves}
 use Rattle.laws.specs.Tests.{pick-of}
-use Rattle.classes.specs.Moves.{info-known-moves}
+use Rattle.class_info.specs.Moves.{info-known-moves}
 use Rattle.marks.specs.Marks.{rowAt, libraryAt, itemType, isFirst}
 use Rattle.meaning.specs.Stands.{OwnStands, of-system, of-library, ClassStands, ArrayStands, Stands}
 use Rattle.meaning.specs.Marked.{Placed, Firsts, infoFields, classFields, arrayFields, rowFields, fieldsFrom, All}

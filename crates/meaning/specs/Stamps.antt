@@ -14,7 +14,7 @@ use Rattle.format.specs.Rows.{blank, withLink}
 use Rattle.format.specs.Says.{textFrom}
 use Rattle.format.specs.Tidy.{numberIn, Libraries, entered, allEntered}
 use Rattle.same.specs.Laws.{same-eq, same-refl}
-use Rattle.table.specs.Find.{find-hit}
+use Rattle.lookups.specs.Find.{find-hit}
 use Rattle.laws.specs.Tests.{both-of}
 use Rattle.laws.specs.Numbers.{Counted, counted-more, number-new, number-other, entered-new, entered-old, entered-has, all-more}
 use Rattle.marks.specs.Marks.{Pass, pass, word, rowAt, withSlot, libraryAt, need, needed}

@@ -63,7 +63,7 @@ fn need_infos(
     let mut p = infos;
     let mut number = last;
     while left > 0 {
-        let kind = types::byte_at(s, t);
+        let kind = codes::byte_at(s, t);
         let end = marks::after_info(s, kind, p);
         number = need_info(s, table, n, kind, end, number);
         p = end;
@@ -97,7 +97,7 @@ fn need_array(s: &[u8], table: &mut [u32], n: usize, r: Row, last: LibraryNo) ->
     ensures { λ q. ⌜ pass (q .0) (rowsOf n (now (table .exit))) ≡ needArray (now (s .entry)) r (pass (last .0) (rowsOf n (now (table .entry)))) ⌝ }
 {
     let p = marks::item_type(s, r);
-    let kind = types::byte_at(s, p);
+    let kind = codes::byte_at(s, p);
     need_info(s, table, n, kind, marks::after_info(s, kind, p + 1), last)
 }
 

@@ -17,7 +17,7 @@ fn put_items(out: &mut [u8], s: &[u8], table: &[u32], n: usize, p: usize, e: usi
     requires { ⌜ (n ≤ roomOf (now table)) × (n < 4294967296) × (p < 18446744073709551615) ⌝ }
     ensures { λ q. ⌜ Filled (itemsOut (now (s .entry)) (rowsOf n (now (table .entry))) p e r) (now (out .entry)) (now (out .exit)) q ⌝ }
 {
-    let kind = types::byte_at(s, p);
+    let kind = codes::byte_at(s, p);
     let a = writing::put_info(out, s, table, n, kind, p + 1, e);
     let from = put::least(a, out.len());
     let b = put::put_part(&mut out[from..], s, e, r.end as usize);
@@ -47,7 +47,7 @@ fn put_body(out: &mut [u8], s: &[u8], table: &[u32], n: usize, p: usize, e: usiz
     requires { ⌜ (n ≤ roomOf (now table)) × (n < 4294967296) × (p < 18446744073709551615) ⌝ }
     ensures { λ q. ⌜ Filled (bodyOut (now (s .entry)) (rowsOf n (now (table .entry))) p e r) (now (out .entry)) (now (out .exit)) q ⌝ }
 {
-    let a = put::put_head(out, 7, r.id);
+    let a = heads::put_head(out, 7, r.id);
     let from = put::least(a, out.len());
     let b = put_array_fields(&mut out[from..], s, table, n, p, e, r);
     put::add_up(a, b)
@@ -68,7 +68,7 @@ fn put_array_piece(
     ensures { λ q. ⌜ Filled (pick libraries (needInfoOut (now (s .entry)) (rowsOf n (now (table .entry))) (getD (now (s .entry)) p 0) e) (bodyOut (now (s .entry)) (rowsOf n (now (table .entry))) p e r)) (now (out .entry)) (now (out .exit)) q ⌝ }
 {
     if libraries {
-        let kind = types::byte_at(s, p);
+        let kind = codes::byte_at(s, p);
         return writing::put_need_info(out, s, table, n, kind, e);
     }
     put_body(out, s, table, n, p, e, r)
@@ -80,7 +80,7 @@ fn put_array(out: &mut [u8], s: &[u8], table: &[u32], n: usize, r: Row) -> usize
     ensures { λ q. ⌜ Filled (arrayOut (now (s .entry)) (rowsOf n (now (table .entry))) r) (now (out .entry)) (now (out .exit)) q ⌝ }
 {
     let p = marks::item_type(s, r);
-    let kind = types::byte_at(s, p);
+    let kind = codes::byte_at(s, p);
     let e = marks::after_info(s, kind, p + 1);
     let a = put_array_piece(out, s, table, n, p, e, r, true);
     let from = put::least(a, out.len());
@@ -94,7 +94,7 @@ fn put_array(out: &mut [u8], s: &[u8], table: &[u32], n: usize, r: Row) -> usize
 fn put_kept(out: &mut [u8], s: &[u8], r: Row) -> usize
     ensures { λ q. ⌜ Filled (keptOut (now (s .entry)) r) (now (out .entry)) (now (out .exit)) q ⌝ }
 {
-    let a = put::put_head(out, (r.kind % 256) as u8, r.id);
+    let a = heads::put_head(out, (r.kind % 256) as u8, r.id);
     let from = put::least(a, out.len());
     let b = put::put_part(&mut out[from..], s, (r.offset as usize) + 5, r.end as usize);
     put::add_up(a, b)
@@ -103,7 +103,7 @@ fn put_kept(out: &mut [u8], s: &[u8], r: Row) -> usize
 fn put_string(out: &mut [u8], s: &[u8], r: Row) -> usize
     ensures { λ q. ⌜ Filled (stringOut (now (s .entry)) r) (now (out .entry)) (now (out .exit)) q ⌝ }
 {
-    let a = put::put_head(out, 6, r.id);
+    let a = heads::put_head(out, 6, r.id);
     let from = put::least(a, out.len());
     let b = put::put_text(&mut out[from..], s, (r.offset as usize) + 5, r.end as usize);
     put::add_up(a, b)
@@ -118,12 +118,12 @@ pub fn put_record(out: &mut [u8], s: &[u8], table: &[u32], n: usize, i: usize, r
     match kind {
         0 => {
             let t = marks::row_named(table, n, r.link);
-            put::put_header(out, ObjectNo(t.id))
+            heads::put_header(out, ObjectNo(t.id))
         }
         1 => {
             let c = marks::row_named(table, n, r.link);
             let t = marks::row_named(table, n, c.link);
-            put::put_by_id(out, ObjectNo(r.id), ObjectNo(t.id))
+            heads::put_by_id(out, ObjectNo(r.id), ObjectNo(t.id))
         }
         4 => writing::put_object(out, s, table, n, i, r),
         5 => writing::put_object(out, s, table, n, i, r),
@@ -131,7 +131,7 @@ pub fn put_record(out: &mut [u8], s: &[u8], table: &[u32], n: usize, i: usize, r
         7 => put_array(out, s, table, n, r),
         9 => {
             let t = marks::row_named(table, n, r.link);
-            put::put_head(out, 9, t.id)
+            heads::put_head(out, 9, t.id)
         }
         10 => 0,
         12 => 0,

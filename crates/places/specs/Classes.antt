@@ -19,7 +19,7 @@ use Rattle.format.specs.Says.{textFrom}
 use Rattle.format.specs.Grammar.{ClassInfo, typesOf}
 use Rattle.num.specs.Le.{Bytes}
 use Rattle.types.specs.Keeps.{name-moves}
-use Rattle.classes.specs.Moves.{names-there, types-there}
+use Rattle.class_info.specs.Moves.{names-there, types-there}
 use Rattle.places.specs.Env.{envOf, slotsFrom, typesAt}
 use Rattle.places.specs.Stand.{Stand, stand-then, stand-split}
 use Rattle.places.specs.Fields.{number-there, number-back, not-negative, below-negative, name-there, name-back}

@@ -24,10 +24,10 @@ use Rattle.format.specs.Grammar.{LibraryId, GoodDetail}
 use Rattle.fields.specs.Judged.{no-end}
 use Rattle.fields.specs.Sequence.{through}
 use Rattle.num.specs.Le.{Bytes}
-use Rattle.types.specs.Ends.{library-end}
+use Rattle.codes.specs.Ends.{library-end}
 use Rattle.types.specs.Keeps.{library-told}
 use Rattle.laws.specs.Fields.{by-type, positive-bits}
-use Rattle.classes.specs.Moves.{known-moves}
+use Rattle.class_info.specs.Moves.{known-moves}
 use Rattle.places.specs.Env.{envOf, library-id, library-id-good}
 use Rattle.places.specs.Stand.{Stand, stand-size, stand-none, stand-then, stand-split}
 use Rattle.places.specs.Fields.{Number, number-size, number-there, number-back, number-from, name-there, name-text, name-after, name-back, code-there, code-from, code-back}

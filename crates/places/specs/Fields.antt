@@ -27,8 +27,8 @@ use Rattle.num.specs.Le.{Bytes, bytes-part, length-leBytes, leBytes-le}
 use Rattle.num.specs.Read.{u32-says, u32-written, says-below}
 use Rattle.prefix.specs.Laws.{bound}
 use Rattle.strings.specs.Laws.{string-told, string-moves, string-well, string-round, string-converse}
-use Rattle.types.specs.Codes.{primitive-number, number-primitive}
-use Rattle.types.specs.Ends.{code-end, name-end}
+use Rattle.codes.specs.Codes.{primitive-number, number-primitive}
+use Rattle.codes.specs.Ends.{code-end, name-end}
 use Rattle.types.specs.Keeps.{code-told, name-told}
 use Rattle.places.specs.Stand.{Stand, stand-size, stand-same, stand-part, stand-byte, stand-split, stand-inside, stand-here}
 

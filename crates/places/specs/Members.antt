@@ -18,10 +18,10 @@ use Rattle.format.specs.Says.{textFrom, afterText, afterInfo}
 use Rattle.format.specs.Grammar.{Entry, Members, no-more, member, typesOf}
 use Rattle.fields.specs.Sequence.{through}
 use Rattle.num.specs.Le.{Bytes}
-use Rattle.types.specs.Ends.{type-end}
+use Rattle.codes.specs.Ends.{type-end}
 use Rattle.types.specs.Keeps.{type-told, name-moves}
-use Rattle.types.specs.Slots.{moved-on}
-use Rattle.classes.specs.Moves.{info-plain, info-known-moves}
+use Rattle.slots.specs.Slots.{moved-on}
+use Rattle.class_info.specs.Moves.{info-plain, info-known-moves}
 use Rattle.places.specs.Env.{envOf, slotsFrom}
 use Rattle.places.specs.Stand.{Stand, stand-size, stand-none, stand-byte, stand-then, stand-split, stand-inside, stand-here, stand-after}
 use Rattle.places.specs.Fields.{name-there, name-text, name-back}

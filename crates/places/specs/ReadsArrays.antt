@@ -20,7 +20,7 @@ use Rattle.format.specs.Rows.{isClass}
 use Rattle.format.specs.Records.{slotArrayAt, primitiveArrayAt, lengthsAt, itemsOf, itemTypeAt, rankAt, binaryArrayAt, headingAt}
 use Rattle.format.specs.Contents.{Detail, typeByte, infoBytes, slotFor, Rec, array, primitive, primitiveArray, objectArray, stringArray, numbersBytes, enc}
 use Rattle.format.specs.Grammar.{GoodDetail, ObjectId, Values, Shape, product, Array, of-objects, of-strings, of-primitives, of-any, of-values}
-use Rattle.types.specs.Ends.{type-end}
+use Rattle.codes.specs.Ends.{type-end}
 use Rattle.laws.specs.Fields.{positive-bits}
 use Rattle.places.specs.Env.{envOf, entryOf, object-id-good}
 use Rattle.places.specs.Stand.{Stand, stand-size, stand-split, stand-inside, stand-here, stand-after}

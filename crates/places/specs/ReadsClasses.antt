@@ -13,7 +13,7 @@ use Rattle.format.specs.Rows.{blank, classRow}
 use Rattle.format.specs.Records.{afterInfos, membersAt, classAt, classByIdAt, headingAt}
 use Rattle.format.specs.Contents.{Member, classBytes, classById, systemClass, libraryClass, enc}
 use Rattle.format.specs.Grammar.{aClass, ClassId, LibraryId, ClassInfo, typesOf, classed, classOf}
-use Rattle.classes.specs.Stages.{namedClassAt}
+use Rattle.class_info.specs.Stages.{namedClassAt}
 use Rattle.places.specs.Env.{envOf, class-told, class-id-good}
 use Rattle.places.specs.Stand.{Stand, stand-split, stand-inside, stand-here, stand-after}
 use Rattle.places.specs.Fields.{number-there}

@@ -17,7 +17,7 @@ use Rattle.format.specs.Rows.{isClass}
 use Rattle.format.specs.Records.{isKind, notTaken, within, headingAt}
 use Rattle.format.specs.Contents.{Member, Rec, header, classById, systemClass, libraryClass, string, array, typedPrimitive, reference, null, nulls, manyNulls, end, library, primitiveArray, objectArray, stringArray, value, enc}
 use Rattle.format.specs.Grammar.{Entry, aClass, another, aLibrary, known, classed, classOf, ClassId, ObjectId, LibraryId, Name, Value, ClassInfo, typesOf, size, Array, of-objects, of-strings, of-primitives, of-any, of-values}
-use Rattle.types.specs.Slots.{moved-alike}
+use Rattle.slots.specs.Slots.{moved-alike}
 use Rattle.places.specs.Env.{slotsFrom, typesAt, classSlots, entryOf, envOf, env-more}
 use Rattle.places.specs.Stand.{Stand, stand-size}
 

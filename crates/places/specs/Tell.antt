@@ -22,7 +22,7 @@ use Rattle.format.specs.Records.{isKind, notTaken, kindAt, slotArrayAt, heading
 use Rattle.format.specs.Contents.{value, enc}
 use Rattle.format.specs.Grammar.{Value}
 use Rattle.num.specs.Le.{Bytes}
-use Rattle.records.specs.Kinds.{kind-within, kind-byte}
+use Rattle.kinds.specs.Kinds.{kind-within, kind-byte}
 use Rattle.places.specs.Stand.{Stand}
 use Rattle.places.specs.Values.{value-back}
 use Rattle.places.specs.Recs.{Back}

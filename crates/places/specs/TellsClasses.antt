@@ -19,7 +19,7 @@ use Rattle.format.specs.Contents.{Member, classBytes, classById, systemClass, l
 use Rattle.format.specs.Says.{textFrom, numberFrom}
 use Rattle.format.specs.Grammar.{aClass, typesOf}
 use Rattle.num.specs.Le.{Bytes}
-use Rattle.classes.specs.Stages.{namedClassAt}
+use Rattle.class_info.specs.Stages.{namedClassAt}
 use Rattle.places.specs.Env.{classSlots, class-found, class-id}
 use Rattle.places.specs.Stand.{Stand, stand-is, stand-then}
 use Rattle.places.specs.Fields.{number-back}

@@ -24,10 +24,10 @@ use Rattle.prefix.specs.Laws.{bound}
 use Rattle.prefix.specs.Both.{round-trip, taken}
 use Rattle.strings.specs.Counted.{counted-moves}
 use Rattle.text.specs.Laws.{need-bound}
-use Rattle.values.specs.Ends.{bytes-end, boolean-end}
-use Rattle.values.specs.Judged.{any, truth, bytes-judged, boolean-judged, date-judged, char-taken, char-of, decimal-told, decimal-of}
-use Rattle.values.specs.Judged as J
-use Rattle.values.specs.Keeps.{value-moves, items-kept}
+use Rattle.value_forms.specs.Ends.{bytes-end, boolean-end}
+use Rattle.items.specs.Judged.{any, truth, bytes-judged, boolean-judged, date-judged, char-taken, char-of, decimal-told, decimal-of}
+use Rattle.items.specs.Judged as J
+use Rattle.items.specs.Keeps.{value-moves, items-kept}
 use Rattle.places.specs.Stand.{Stand, stand-size, stand-same, stand-part, stand-split, stand-inside, stand-here}
 
 -- ---- values whose every pattern is taken

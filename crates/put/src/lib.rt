@@ -1,12 +1,11 @@
 // Writers into the unwritten rest of the output. Each answers the length that its bytes need, whether they fit or not; where they fit
 // they are written.
-use format::ObjectNo;
 use format::Prefix;
 ghost use mathlib.Core.Path.{_≡_};
-ghost use mathlib.Core.List.{[], _∷_, _++_};
+ghost use mathlib.Core.List.{[], _∷_};
 ghost use Prim.Native.Nat.{_+_};
 ghost use Rattle.format.specs.Numbers.{leBytes};
-ghost use Rattle.put.specs.Out.{between, textOut, headOut, byIdOut, headerOut, runOut};
+ghost use Rattle.put.specs.Out.{between, textOut};
 ghost use Rattle.put.specs.Put.{capped, Filled, Least};
 
 // ---- totals
@@ -67,35 +66,6 @@ pub fn put_number(out: &mut [u8], n: u32) -> usize
     4
 }
 
-fn put_numbers(out: &mut [u8], n: u32, m: u32) -> usize
-    ensures { λ r. ⌜ Filled (leBytes 4 n ++ leBytes 4 m) (now (out .entry)) (now (out .exit)) r ⌝ }
-{
-    let a = put_number(out, n);
-    let from = least(a, out.len());
-    let b = put_number(&mut out[from..], m);
-    add_up(a, b)
-}
-
-// A kind byte and a number.
-pub fn put_head(out: &mut [u8], kind: u8, n: u32) -> usize
-    ensures { λ r. ⌜ Filled (headOut kind n) (now (out .entry)) (now (out .exit)) r ⌝ }
-{
-    let a = put_byte(out, kind);
-    let from = least(a, out.len());
-    let b = put_number(&mut out[from..], n);
-    add_up(a, b)
-}
-
-// A kind byte and two numbers.
-fn put_heads(out: &mut [u8], kind: u8, n: u32, m: u32) -> usize
-    ensures { λ r. ⌜ Filled (headOut kind n ++ leBytes 4 m) (now (out .entry)) (now (out .exit)) r ⌝ }
-{
-    let a = put_head(out, kind, n);
-    let from = least(a, out.len());
-    let b = put_number(&mut out[from..], m);
-    add_up(a, b)
-}
-
 // ---- parts of the stream
 
 // The bytes of s from a to b, as far as there are any.
@@ -127,42 +97,4 @@ pub fn put_text(out: &mut [u8], s: &[u8], p: usize, e: usize) -> usize
         }
         Prefix::Fault(_) => put_part(out, s, p, e),
     }
-}
-
-// ---- records
-
-// An object by the first of its class.
-pub fn put_by_id(out: &mut [u8], id: ObjectNo, first: ObjectNo) -> usize
-    ensures { λ r. ⌜ Filled (byIdOut (id .0) (first .0)) (now (out .entry)) (now (out .exit)) r ⌝ }
-{
-    let n = id.0;
-    let m = first.0;
-    put_heads(out, 1, n, m)
-}
-
-// RootId and HeaderId alike, then the version.
-pub fn put_header(out: &mut [u8], root: ObjectNo) -> usize
-    ensures { λ r. ⌜ Filled (headerOut (root .0)) (now (out .entry)) (now (out .exit)) r ⌝ }
-{
-    let n = root.0;
-    let a = put_heads(out, 0, n, n);
-    let from = least(a, out.len());
-    let b = put_numbers(&mut out[from..], 1, 0);
-    add_up(a, b)
-}
-
-// A null run: kind 10 for one, 13 for 2 to 255, 14 from 256.
-pub fn put_run(out: &mut [u8], n: usize) -> usize
-    ensures { λ r. ⌜ Filled (runOut n) (now (out .entry)) (now (out .exit)) r ⌝ }
-{
-    if n == 0 {
-        return 0;
-    }
-    if n == 1 {
-        return put_byte(out, 10);
-    }
-    if n <= 255 {
-        return put_two(out, 13, n as u8);
-    }
-    put_head(out, 14, (n % 4294967296) as u32)
 }

@@ -16,9 +16,9 @@ use Rattle.format.specs.Rows.{blank, roomOf, rowsOf, words, objectRow, findFrom
 use Rattle.format.specs.Machine.{State, Next, go, ended, Outcome, accepted, refused, finish, begin, start, topLevel, recordStep, readOf, readAnswer, tableWords}
 use Rattle.table.specs.Rows.{length-rowsOf}
 use Rattle.frames.specs.Frames.{saved}
-use Rattle.steps.specs.declared.Step.{Step}
-use Rattle.steps.specs.declared.Step.the-variants as Q
-use Rattle.steps.specs.Held.{stateOf, after, Held}
+use Rattle.adding.specs.declared.Step.{Step}
+use Rattle.adding.specs.declared.Step.the-variants as Q
+use Rattle.adding.specs.Held.{stateOf, after, Held}
 use Rattle.reader.specs.Fine.{Fine, NextFine, record-fine}
 use Rattle.reader.specs.Loop.{Runs}
 

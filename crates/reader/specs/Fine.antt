@@ -32,9 +32,9 @@ use Rattle.format.specs.Rows.{isObject}
 use Rattle.format.specs.Records.{kindAt, kindOf, headingAt}
 use Rattle.format.specs.Machine.{Open, State, Next, go, ended, refuse, close, filledBy, filled, opened, rowIn, rowApart, add, object, runOver, nullRun, ending, act, onKind, recordStep, valueHead, onValue, valueStep, whereIn, bySlot, step}
 use Rattle.fields.specs.Judged.{picked}
-use Rattle.values.specs.Keeps.{value-moves}
-use Rattle.classes.specs.Ends.{EndsIn}
-use Rattle.records.specs.Moves.{heading-ends}
+use Rattle.items.specs.Keeps.{value-moves}
+use Rattle.class_info.specs.Ends.{EndsIn}
+use Rattle.ends.specs.Headings.{heading-ends}
 
 pub record Fine (s : List ℕ) (room : ℕ) (st : State) : Type 0 where
   pub inside : st .at ≤ length s

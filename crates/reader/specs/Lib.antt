@@ -1,6 +1,4 @@
 -- The laws of the loop: what holds between two steps, what is left to run, and the ends of a stream.
-pub mod Due
-pub mod Records
 pub mod Fine
 pub mod Loop
 pub mod Ends

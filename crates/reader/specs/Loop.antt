@@ -23,9 +23,9 @@ use Rattle.prefix.specs.Laws.{short}
 use Rattle.num.specs.Read.{u64-short}
 use Rattle.table.specs.Rows.{length-rowsOf}
 use Rattle.frames.specs.Laws.{length-saved}
-use Rattle.steps.specs.declared.Step.{Step}
-use Rattle.steps.specs.declared.Step.the-variants as Q
-use Rattle.steps.specs.Held.{stateOf, after, Held}
+use Rattle.adding.specs.declared.Step.{Step}
+use Rattle.adding.specs.declared.Step.the-variants as Q
+use Rattle.adding.specs.Held.{stateOf, after, Held}
 use Rattle.reader.specs.Fine.{Fine, NextFine, step-fine}
 
 -- ---- past the end a step is cut short, which is what no fuel says

@@ -21,8 +21,8 @@ use Rattle.format.specs.Contents.{Rec, header, string, typedPrimitive, referenc
 use Rattle.format.specs.Grammar.{Entry, another, aLibrary, Value, typesOf, Cur, cur, size, rowOf, Object, system-class, library-class, class-by-id, Body, hollow, Slots, full, member-value, an-object, a-string, a-typed-primitive, a-reference, a-null, a-run, a-long-run, a-library, Array, of-objects, of-strings, of-primitives, of-any, of-values, Objects, the-end, one-object, one-string, one-array, one-library, Reading}
 use Rattle.format.specs.Grammar as G
 use Rattle.format.specs.Machine.{Open, State, Outcome, accepted, go, ended, close, filledBy, filled, opened, rowIn, valueHead, step, finish, onward, run, start, begin, readOf}
-use Rattle.table.specs.Links.{length-linked}
-use Rattle.values.specs.Keeps.{value-moves}
+use Rattle.links.specs.Links.{length-linked}
+use Rattle.items.specs.Keeps.{value-moves}
 use Rattle.laws.specs.Fields.{size-header}
 use Rattle.laws.specs.Ids.{Shown, objects-shown, id-there}
 use Rattle.places.specs.Env.{slotsFrom, envFrom, entryOf, envOf, env-more}

@@ -26,11 +26,11 @@ use Rattle.format.specs.Grammar.{Reading, Entry, cur, rowOf, Objects}
 use Rattle.format.specs.Machine.{State, Next, go, ended, refuse, close, filled, add, act, onKind, recordStep, topLevel, step, Outcome, accepted, refused, finish, onward, run, start, begin, readOf}
 use Rattle.fields.specs.Judged.{picked}
 use Rattle.num.specs.Le.{Bytes}
-use Rattle.table.specs.Links.{length-linked}
+use Rattle.links.specs.Links.{length-linked}
 use Rattle.laws.specs.Tests.{apart}
 use Rattle.laws.specs.Fields.{size-header}
 use Rattle.laws.specs.Ids.{shown-more, objects-shown, id-back}
-use Rattle.records.specs.Kinds.{kind-byte}
+use Rattle.kinds.specs.Kinds.{kind-byte}
 use Rattle.places.specs.Env.{envFrom}
 use Rattle.places.specs.Recs.{Good, is-header, Told, Back, rowWith, told-env, told-end}
 use Rattle.places.specs.Tell.{record-told}

@@ -19,10 +19,10 @@ use Rattle.format.specs.Rows.{blank, isClass, classRow}
 use Rattle.format.specs.Records.{goodClassId, infosAt, afterInfos, membersAt, classAt, classByIdAt, headingAt}
 use Rattle.format.specs.Contents.{Rec}
 use Rattle.format.specs.Grammar.{Entry, Array, of-objects, of-strings, of-primitives, of-any, of-values}
-use Rattle.table.specs.Find.{class-at}
-use Rattle.classes.specs.Ends.{number-moves}
-use Rattle.classes.specs.Moves.{names-there}
-use Rattle.records.specs.Headings.{by-id-heading, system-heading, class-heading}
+use Rattle.lookups.specs.Find.{class-at}
+use Rattle.class_info.specs.Ends.{number-moves}
+use Rattle.class_info.specs.Moves.{names-there}
+use Rattle.headings.specs.Headings.{by-id-heading, system-heading, class-heading}
 use Rattle.places.specs.Env.{slotsFrom}
 use Rattle.places.specs.Recs.{Good, is-header, is-class-by-id, is-system-class, is-library-class, is-string, is-typed-primitive, is-reference, is-null, is-end, is-library, is-nulls, is-many-nulls, is-array, Back, told-slots}
 use Rattle.places.specs.Tells.{Said, said-number, said-field, said-if}

@@ -24,7 +24,7 @@ use Rattle.format.specs.Records.{inSlot, isClassKind, allowed}
 use Rattle.format.specs.Contents.{Rec}
 use Rattle.format.specs.Grammar.{Entry, takesObjects, takesStrings, somePrimitive, Array, of-objects, of-strings, of-primitives, of-any, of-values}
 use Rattle.format.specs.Machine.{Open, close, filledBy, filled, opened, start}
-use Rattle.types.specs.Slots.{moved-alike, passed-alike, passed-walk}
+use Rattle.slots.specs.Slots.{moved-alike, passed-alike, passed-walk}
 use Rattle.laws.specs.Tests.{or-right}
 use Rattle.places.specs.Env.{slotsFrom}
 use Rattle.places.specs.Recs.{length-slots}

@@ -16,7 +16,7 @@ use Rattle.format.specs.Types.{typedAt, moved, isPrimitive, passed, passedOf}
 use Rattle.format.specs.Grammar.{somePrimitive}
 use Rattle.format.specs.Machine.{Open, close, filledBy, topLevel}
 use Rattle.fields.specs.Judged.{picked}
-use Rattle.types.specs.Slots.{moved-alike, passed-alike, passed-walk}
+use Rattle.slots.specs.Slots.{moved-alike, passed-alike, passed-walk}
 use Rattle.places.specs.Env.{slotsFrom}
 use Rattle.readings.specs.Frames.{spent}
 

@@ -20,7 +20,7 @@ use Rattle.format.specs.Records.{allowed, kindAt, headingAt}
 use Rattle.format.specs.Machine.{State, Next, rowApart, add, act, onKind, recordStep, whereIn, bySlot, step}
 use Rattle.fields.specs.Judged.{picked}
 use Rattle.num.specs.Le.{Bytes}
-use Rattle.records.specs.Kinds.{kind-byte}
+use Rattle.kinds.specs.Kinds.{kind-byte}
 use Rattle.places.specs.Recs.{Back}
 use Rattle.places.specs.Tell.{record-told}
 use Rattle.readings.specs.Steps.{stateAt, whereOf}

@@ -25,10 +25,10 @@ use Rattle.format.specs.Records.{isKind, notTaken, allowed, kindOf, kindAt, hea
 use Rattle.format.specs.Contents.{Rec, value, enc}
 use Rattle.format.specs.Grammar.{Value}
 use Rattle.format.specs.Machine.{Open, State, go, ended, close, filled, opened, rowIn, rowApart, add, object, nullRun, ending, act, onKind, recordStep, valueHead, onValue, valueStep, whereIn, bySlot, step, start}
-use Rattle.classes.specs.Ends.{EndsIn}
-use Rattle.records.specs.Moves.{heading-ends}
-use Rattle.records.specs.Kinds.{kind-there, kind-taken}
-use Rattle.types.specs.Slots.{moved-alike}
+use Rattle.class_info.specs.Ends.{EndsIn}
+use Rattle.ends.specs.Headings.{heading-ends}
+use Rattle.kinds.specs.Kinds.{kind-there, kind-taken}
+use Rattle.slots.specs.Slots.{moved-alike}
 use Rattle.places.specs.Env.{envOf}
 use Rattle.places.specs.Stand.{Stand, stand-size}
 use Rattle.places.specs.Recs.{Good, good-kind, Told, told-end, told-slots}

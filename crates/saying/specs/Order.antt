@@ -12,8 +12,8 @@ use Rattle.format.specs.declared.Row.{Row}
 use Rattle.format.specs.Bytes.{pick}
 use Rattle.format.specs.Rows.{blank, isObject, objectRow, linked}
 use Rattle.format.specs.Says.{objectsIn, orderOf, nodesOf, nodesFrom}
-use Rattle.table.specs.Find.{object-at}
-use Rattle.table.specs.Links.{object-linked}
+use Rattle.lookups.specs.Find.{object-at}
+use Rattle.links.specs.Links.{object-linked}
 use Rattle.laws.specs.Orders.{objects-append, order-next}
 
 -- ---- a list from a place on

@@ -27,8 +27,8 @@ use Rattle.format.specs.Grammar.{Name, GoodDetail, Members, no-more, member, En
 use Rattle.num.specs.Le.{length-leBytes}
 use Rattle.num.specs.Read.{says-written, u32-written}
 use Rattle.strings.specs.Laws.{string-round}
-use Rattle.types.specs.Codes.{primitive-number}
-use Rattle.types.specs.Ends.{code-end, name-end, library-end}
+use Rattle.codes.specs.Codes.{primitive-number}
+use Rattle.codes.specs.Ends.{code-end, name-end, library-end}
 use Rattle.laws.specs.Fields.{positive-bits, length-numbers-bytes}
 use Rattle.saying.specs.Said.{named, namedAll, classOfAll, saidBy}
 use Rattle.saying.specs.Good.{slotsOf}

@@ -14,8 +14,8 @@ use Rattle.format.specs.Rows.{blank, isObject, objectRow, findFrom, isLost, lin
 use Rattle.format.specs.Records.{allowed}
 use Rattle.format.specs.Machine.{State, Next, go, ended, refuse, Outcome, accepted, refused, step, recordStep, targets, finish, onward, run, start, begin, readOf}
 use Rattle.fields.specs.Judged.{picked}
-use Rattle.table.specs.Find.{find-none}
-use Rattle.table.specs.Links.{length-linked, lost-if}
+use Rattle.lookups.specs.Find.{find-none}
+use Rattle.links.specs.Links.{length-linked, lost-if}
 use Rattle.reader.specs.Fine.{Fine, NextFine, record-fine, step-fine}
 use Rattle.standing.specs.Standing.{stood-moves, Owned, apart, within, Standing}
 use Rattle.standing.specs.Steps.{endOf, Placed, Gathered, Whole, NextGathered, each-more, length-more, end-more, record-gathered, step-gathered}

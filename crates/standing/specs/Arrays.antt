@@ -22,10 +22,10 @@ use Rattle.format.specs.Types.{primitiveOf, coded, codeAt, typeByteAt, typedAt}
 use Rattle.format.specs.Records.{onSlots, goodId, infoKnown, slotArrayAt, withItems, primitiveArrayAt, goodRank, onLength, lengthsAt, itemsOf, itemTypeAt, rankAt, binaryArrayAt, headingAt}
 use Rattle.fields.specs.Judged.{picked}
 use Rattle.types.specs.Keeps.{code-told, type-told}
-use Rattle.values.specs.Keeps.{items-kept}
-use Rattle.classes.specs.Ends.{number-moves}
-use Rattle.classes.specs.Moves.{info-known-moves}
-use Rattle.records.specs.Headings.{array-heading, primitives-heading, objects-heading}
+use Rattle.items.specs.Keeps.{items-kept}
+use Rattle.class_info.specs.Ends.{number-moves}
+use Rattle.class_info.specs.Moves.{info-known-moves}
+use Rattle.headings.specs.Headings.{array-heading, primitives-heading, objects-heading}
 use Rattle.standing.specs.Standing.{Recorded}
 use Rattle.standing.specs.Fields.{Of, of-number, of-field, row-said}
 

@@ -22,9 +22,9 @@ use Rattle.format.specs.Rows.{blank, classRow}
 use Rattle.format.specs.Records.{onNumber, onField, goodClassId, infosAt, afterInfos, membersAt, classAt, classByIdAt, headingAt}
 use Rattle.fields.specs.Judged.{picked}
 use Rattle.types.specs.Keeps.{name-moves, types-end}
-use Rattle.classes.specs.Ends.{number-moves}
-use Rattle.classes.specs.Moves.{names-there, types-there, infos-moves, own-library-moves}
-use Rattle.records.specs.Headings.{by-id-heading, system-heading, class-heading}
+use Rattle.class_info.specs.Ends.{number-moves}
+use Rattle.class_info.specs.Moves.{names-there, types-there, infos-moves, own-library-moves}
+use Rattle.headings.specs.Headings.{by-id-heading, system-heading, class-heading}
 use Rattle.standing.specs.Standing.{Recorded}
 
 -- kinds 4 and 5: where each field ends

@@ -10,8 +10,8 @@ use lib.Dec.{ltb, eqb}
 use borrow.Author.Tests.{ltb-true, ltb-false}
 use Rattle.format.specs.declared.Row.{Row}
 use Rattle.format.specs.Rows.{blank, isObject, isClass, findFrom, objectRow, classRow, libraryRow, withLink, linkOf, linked}
-use Rattle.table.specs.Find.{Found, object-at, class-at}
-use Rattle.table.specs.Links.{length-linked, linked-at, object-linked, link-reference, link-root, link-kept}
+use Rattle.lookups.specs.Find.{Found, object-at, class-at}
+use Rattle.links.specs.Links.{length-linked, linked-at, object-linked, link-reference, link-root, link-kept}
 use Rattle.standing.specs.Standing.{Owned, apart, within, Standing, record-at}
 use Rattle.standing.specs.Accepted.{Taken}
 use Rattle.standing.specs.Fields.{by-id-row}

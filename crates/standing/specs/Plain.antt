@@ -19,10 +19,10 @@ use Rattle.format.specs.Types.{primitiveOf, coded, codeAt, nameAt, positive}
 use Rattle.format.specs.Records.{goodId, typedPrimitiveAt, nullsAt, longNullsAt, plain, headingAt}
 use Rattle.fields.specs.Judged.{picked}
 use Rattle.types.specs.Keeps.{code-told}
-use Rattle.values.specs.Keeps.{value-moves}
-use Rattle.classes.specs.Ends.{number-moves}
+use Rattle.items.specs.Keeps.{value-moves}
+use Rattle.class_info.specs.Ends.{number-moves}
 use Rattle.records.specs.Stages.{namedAt, freeLibrary, onJudged, string-parts, library-parts}
-use Rattle.records.specs.Headings.{string-heading, typed-heading, null-heading, end-heading, library-heading, nulls-heading, long-nulls-heading}
+use Rattle.headings.specs.Headings.{string-heading, typed-heading, null-heading, end-heading, library-heading, nulls-heading, long-nulls-heading}
 use Rattle.standing.specs.Standing.{Recorded}
 use Rattle.standing.specs.Fields.{Of, of-number, of-field, row-said}
 

@@ -18,8 +18,8 @@ use Rattle.format.specs.declared.Row.{Row}
 use Rattle.format.specs.Values.{valueAt}
 use Rattle.format.specs.Rows.{blank, isObject}
 use Rattle.format.specs.Records.{isKind, notTaken, inSlot, isClassKind, allowed, headingAt}
-use Rattle.values.specs.Keeps.{value-moves}
-use Rattle.records.specs.Moves.{heading-moves}
+use Rattle.items.specs.Keeps.{value-moves}
+use Rattle.ends.specs.Headings.{heading-moves}
 
 -- ---- one row
 

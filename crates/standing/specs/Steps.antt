@@ -31,7 +31,7 @@ use Rattle.format.specs.Rows.{blank, isObject}
 use Rattle.format.specs.Records.{allowed, kindAt, headingAt}
 use Rattle.format.specs.Machine.{Open, State, Next, go, ended, refuse, close, filledBy, filled, opened, rowIn, rowApart, add, object, runOver, nullRun, ending, act, onKind, recordStep, valueHead, onValue, valueStep, whereIn, bySlot, step}
 use Rattle.fields.specs.Judged.{picked}
-use Rattle.records.specs.Kinds.{kind-within, kind-byte}
+use Rattle.kinds.specs.Kinds.{kind-within, kind-byte}
 use Rattle.standing.specs.Standing.{Known, value, Stood, a-record, a-value, Owned, apart, within, allowed-known, taken-low}
 
 -- ---- a row after others

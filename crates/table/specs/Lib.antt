@@ -1,5 +1,3 @@
 -- The laws of the table: any width of row, the rows of eight words, the lookups, the links.
 pub mod Chunks
 pub mod Rows
-pub mod Find
-pub mod Links

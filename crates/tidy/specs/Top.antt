@@ -18,7 +18,7 @@ use Rattle.format.specs.Machine.{Outcome, accepted, refused, readOf, readAnswer
 use Rattle.format.specs.Says.{says}
 use Rattle.format.specs.Tidy.{tidyOf, fits, answerBy, outBy, tidyAnswer, tidyOutput, tidyTable}
 use Rattle.table.specs.Rows.{rowsOf-words, length-rowsOf, room-kept}
-use Rattle.table.specs.Links.{length-linked}
+use Rattle.links.specs.Links.{length-linked}
 use Rattle.laws.specs.Answers.{accepted-of, refused-of}
 use Rattle.standing.specs.Accepted.{accepted-stands}
 use Rattle.marks.specs.Marks.{marked}

@@ -28,7 +28,7 @@ use Rattle.fields.specs.Parts.{part-first}
 use Rattle.fields.specs.Judged.{no-end, judgedAt, judged-taken, judged-local}
 use Rattle.fields.specs.Sequence.{Kept, local-kept, same-local, through, then-kept, times-kept}
 use Rattle.strings.specs.Laws.{string-moves, string-only}
-use Rattle.types.specs.Ends.{name-end}
+use Rattle.codes.specs.Ends.{name-end}
 
 -- ---- one byte that a test judges
 

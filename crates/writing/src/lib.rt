@@ -34,7 +34,7 @@ fn library_number(s: &[u8], table: &[u32], n: usize, p: usize) -> LibraryNo
 fn put_library(out: &mut [u8], s: &[u8], g: Row) -> usize
     ensures { λ q. ⌜ Filled (libraryOut (now (s .entry)) g) (now (out .entry)) (now (out .exit)) q ⌝ }
 {
-    let a = put::put_head(out, 12, g.link);
+    let a = heads::put_head(out, 12, g.link);
     let from = put::least(a, out.len());
     let b = put::put_text(&mut out[from..], s, (g.offset as usize) + 5, g.end as usize);
     put::add_up(a, b)
@@ -77,7 +77,7 @@ fn put_need_infos(out: &mut [u8], s: &[u8], table: &[u32], n: usize, r: Row) -> 
     let mut p = kinds + count;
     let mut i: usize = 0;
     while i < count {
-        let kind = types::byte_at(s, kinds + i);
+        let kind = codes::byte_at(s, kinds + i);
         let e = marks::after_info(s, kind, p);
         let from = put::least(at, out.len());
         let b = put_need_info(&mut out[from..], s, table, n, kind, e);
@@ -147,7 +147,7 @@ fn put_infos(out: &mut [u8], s: &[u8], table: &[u32], n: usize, r: Row) -> usize
     let mut p = kinds + count;
     let mut i: usize = 0;
     while i < count {
-        let kind = types::byte_at(s, kinds + i);
+        let kind = codes::byte_at(s, kinds + i);
         let e = marks::after_info(s, kind, p);
         let from = put::least(at, out.len());
         let b = put_info(&mut out[from..], s, table, n, kind, p, e);
@@ -201,7 +201,7 @@ fn put_class(out: &mut [u8], s: &[u8], table: &[u32], n: usize, r: Row) -> usize
     requires { ⌜ (n ≤ roomOf (now table)) × (n < 4294967296) ⌝ }
     ensures { λ q. ⌜ Filled (classOut (now (s .entry)) (rowsOf n (now (table .entry))) r) (now (out .entry)) (now (out .exit)) q ⌝ }
 {
-    let a = put::put_head(out, (r.kind % 256) as u8, r.id);
+    let a = heads::put_head(out, (r.kind % 256) as u8, r.id);
     let from = put::least(a, out.len());
     let b = put_class_fields(&mut out[from..], s, table, n, r);
     put::add_up(a, b)
@@ -238,5 +238,5 @@ pub fn put_object(out: &mut [u8], s: &[u8], table: &[u32], n: usize, i: usize, r
         return put_first(out, s, table, n, r);
     }
     let t = marks::row_named(table, n, r.link);
-    put::put_by_id(out, ObjectNo(r.id), ObjectNo(t.id))
+    heads::put_by_id(out, ObjectNo(r.id), ObjectNo(t.id))
 }

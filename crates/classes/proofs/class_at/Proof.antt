@@ -1,7 +1,7 @@
 -- One law for each answer.
 use borrow.Author.Needs.{needs}
 use mathlib.Core.Path.{sym, _∙_}
-use Rattle.classes.specs.Stages.{class-short, class-used, class-free}
+use Rattle.class_info.specs.Stages.{class-short, class-used, class-free}
 use Rattle.classes.proofs.class_at.Statement.{statement}
 use Rattle.classes.proofs.class_at.Tie as tie
 

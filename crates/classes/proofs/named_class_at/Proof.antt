@@ -1,8 +1,8 @@
 -- One law for each answer; the members begin where the count ends, which is within the stream.
 use borrow.Author.Needs.{needs}
 use mathlib.Core.Path.{sym, _∙_}
-use Rattle.classes.specs.Ends.{number-moves}
-use Rattle.classes.specs.Stages.{name-bad, count-short, count-bad, count-good}
+use Rattle.class_info.specs.Ends.{number-moves}
+use Rattle.class_info.specs.Stages.{name-bad, count-short, count-bad, count-good}
 use Rattle.classes.proofs.named_class_at.Statement.{statement}
 use Rattle.classes.proofs.named_class_at.Tie as tie
 

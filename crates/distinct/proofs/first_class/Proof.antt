@@ -2,7 +2,7 @@
 use Prim.Native.Nat.{_-_}
 use native.Mathlib.Omega.{arith}
 use Rattle.format.specs.Rows.{rowsOf}
-use Rattle.table.specs.Find.{Scan, scan-start, scan-end, scan-hit, scan-miss}
+use Rattle.lookups.specs.Find.{Scan, scan-start, scan-end, scan-hit, scan-miss}
 use Rattle.marks.specs.Marks.{sameClassRow, firstClass}
 use Rattle.distinct.proofs.first_class.Statement.{statement}
 use Rattle.distinct.proofs.first_class.Tie as tie

@@ -2,7 +2,7 @@
 use borrow.Author.Needs.{needs}
 use Prim.Native.Nat.{_-_}
 use native.Mathlib.Omega.{arith}
-use Rattle.table.specs.Find.{Scan, scan-start, scan-end, scan-hit, scan-miss}
+use Rattle.lookups.specs.Find.{Scan, scan-start, scan-end, scan-hit, scan-miss}
 use Rattle.marks.specs.Marks.{sameName, firstLibrary}
 use Rattle.distinct.proofs.first_library.Statement.{statement}
 use Rattle.distinct.proofs.first_library.Tie as tie

@@ -6,7 +6,7 @@ use borrow.Author.Needs.{needs}
 use lib.ListN.{length}
 use Rattle.format.specs.Rows.{roomOf}
 use Rattle.format.specs.Machine.{readOf}
-use Rattle.steps.specs.Held.{stateOf, after}
+use Rattle.adding.specs.Held.{stateOf, after}
 use Rattle.reader.specs.Loop.{Runs, held, same-room, held-room, moves-on, gone, ends, ends-roomy, refuses}
 use Rattle.reader.specs.Ends.{within-room}
 use Rattle.reader.proofs.drive.Statement.{statement}

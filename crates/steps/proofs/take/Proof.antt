@@ -1,8 +1,8 @@
 -- A heading is good or bad; `act` is handed on by what it is known to be.
 use mathlib.Core.Path.{_∙_}
 use Rattle.format.specs.Rows.{roomOf}
-use Rattle.steps.specs.Held.{stateOf}
-use Rattle.steps.specs.Laws.{act-as, act-bad, short-of}
+use Rattle.adding.specs.Held.{stateOf}
+use Rattle.adding.specs.Laws.{act-as, act-bad, short-of}
 use borrow.Author.Needs.{needs}
 use Rattle.steps.proofs.take.Statement.{statement}
 use Rattle.steps.proofs.take.Tie as tie

@@ -1,8 +1,8 @@
 -- The clause of `act` for each kind, after what the callee ensures.
 use mathlib.Core.Path.{sym, _∙_}
 use Rattle.format.specs.Rows.{roomOf}
-use Rattle.steps.specs.Held.{stateOf}
-use Rattle.steps.specs.Laws.{act-13, act-14, act-12, act-11, act-object, act-plain}
+use Rattle.adding.specs.Held.{stateOf}
+use Rattle.adding.specs.Laws.{act-13, act-14, act-12, act-11, act-object, act-plain}
 use borrow.Author.Needs.{needs}
 use Rattle.steps.proofs.take_fields.Statement.{statement}
 use Rattle.steps.proofs.take_fields.Tie as tie

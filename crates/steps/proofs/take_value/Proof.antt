@@ -1,8 +1,8 @@
 -- The value's end bounds the row; the callee's slots are the definition's.
 use mathlib.Core.Path.{_∙_}
 use Rattle.format.specs.Rows.{roomOf}
-use Rattle.steps.specs.Held.{stateOf}
-use Rattle.steps.specs.Laws.{value-took, value-short, value-bad}
+use Rattle.adding.specs.Held.{stateOf}
+use Rattle.adding.specs.Laws.{value-took, value-short, value-bad}
 use borrow.Author.Needs.{needs}
 use Rattle.steps.proofs.take_value.Statement.{statement}
 use Rattle.steps.proofs.take_value.Tie as tie

@@ -1,6 +1,6 @@
 -- Each return is one case of `hiOf`: the tests of the branches decide it.
 use Rattle.format.specs.Text.{hiOf}
-use Rattle.text.proofs.Auto.{auto}
+use Rattle.fields.specs.Auto.{auto}
 use Rattle.text.proofs.hi_of.Statement.{statement}
 use Rattle.text.proofs.hi_of.Tie as tie
 

@@ -1,6 +1,6 @@
 -- Each return is one case of `loOf`: the tests of the branches decide it.
 use Rattle.format.specs.Text.{loOf}
-use Rattle.text.proofs.Auto.{auto}
+use Rattle.fields.specs.Auto.{auto}
 use Rattle.text.proofs.lo_of.Statement.{statement}
 use Rattle.text.proofs.lo_of.Tie as tie
 

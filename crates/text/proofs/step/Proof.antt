@@ -1,6 +1,6 @@
 -- Each return is one case of `stepOf`, `leadOf` shut.
 use Rattle.format.specs.Text.{stepOf}
-use Rattle.text.proofs.Auto.{auto}
+use Rattle.fields.specs.Auto.{auto}
 use borrow.Author.Needs.{needs}
 use Rattle.text.proofs.step.Statement.{statement}
 use Rattle.text.proofs.step.Tie as tie

@@ -1,7 +1,7 @@
 -- One law for each type byte that has a detail, and one for all others.
 use borrow.Author.Needs.{needs}
 use mathlib.Core.Path.{sym, _∙_}
-use Rattle.types.specs.Ends.{info-primitive, info-array, info-system, info-class, info-none}
+use Rattle.codes.specs.Ends.{info-primitive, info-array, info-system, info-class, info-none}
 use Rattle.types.proofs.info_at.Statement.{statement}
 use Rattle.types.proofs.info_at.Tie as tie
 

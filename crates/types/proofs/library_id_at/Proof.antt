@@ -1,7 +1,7 @@
 -- One law for each answer, from the number that is read.
 use borrow.Author.Needs.{needs}
 use mathlib.Core.Path.{sym, _∙_}
-use Rattle.types.specs.Ends.{library-short, library-end, library-bad}
+use Rattle.codes.specs.Ends.{library-short, library-end, library-bad}
 use Rattle.types.proofs.library_id_at.Statement.{statement}
 use Rattle.types.proofs.library_id_at.Tie as tie
 

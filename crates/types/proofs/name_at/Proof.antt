@@ -1,7 +1,7 @@
 -- One law for each answer of the string.
 use borrow.Author.Needs.{needs}
 use mathlib.Core.Path.{sym, _∙_}
-use Rattle.types.specs.Ends.{name-end, name-bad}
+use Rattle.codes.specs.Ends.{name-end, name-bad}
 use Rattle.types.proofs.name_at.Statement.{statement}
 use Rattle.types.proofs.name_at.Tie as tie
 

@@ -1,0 +1,3 @@
+-- Where the fields of a record end.
+pub mod Arrays
+pub mod Headings

@@ -1,0 +1,2 @@
+-- The fields of a record by its kind.
+pub mod Headings

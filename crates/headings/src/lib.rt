@@ -1,0 +1,35 @@
+// The fields of a record, whatever its kind: the one function that asks the kind byte.
+use format::Heading;
+use format::SlotType;
+ghost use Prim.Native.Nat.{_≤_, _<_};
+ghost use mathlib.Core.Path.{_≡_};
+ghost use lib.ListN.{length};
+ghost use Rattle.format.specs.Rows.{roomOf, rowsOf};
+ghost use Rattle.format.specs.Records.{headingAt};
+
+// ---- all kinds
+
+// The fields of a record of a kind that is taken. 10 and 11 have none.
+pub fn heading_at(s: &[u8], table: &[u32], n: usize, k: u8, at: usize) -> Heading
+    requires { ⌜ (n ≤ roomOf (now table)) × (length (now s) ≤ 16777216) × (n ≤ 16777216) × (at < length (now s)) ⌝ }
+    ensures { λ r. ⌜ r ≡ headingAt (now (s .entry)) (rowsOf n (now (table .entry))) k at ⌝ }
+{
+    match k {
+        0 => records::header_at(s, at),
+        1 => class_by_id::class_by_id_at(s, table, n, at),
+        4 => classes::class_at(s, table, n, false, at),
+        5 => classes::class_at(s, table, n, true, at),
+        6 => records::string_record_at(s, table, n, at),
+        7 => binary_arrays::binary_array_at(s, table, n, at),
+        8 => records::typed_primitive_at(s, at),
+        9 => records::reference_at(s, at),
+        10 => arrays::plain_head(0, at + 1, 1),
+        11 => arrays::plain_head(0, at + 1, 0),
+        12 => records::library_at(s, table, n, at),
+        13 => records::nulls_at(s, at),
+        14 => records::long_nulls_at(s, at),
+        15 => arrays::primitive_array_at(s, table, n, at),
+        16 => arrays::slot_array_at(s, table, n, SlotType::Object, at),
+        _ => arrays::slot_array_at(s, table, n, SlotType::Text, at),
+    }
+}

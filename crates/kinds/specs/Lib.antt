@@ -1,0 +1,2 @@
+-- What a kind byte says.
+pub mod Kinds

@@ -1,0 +1,129 @@
+// What may stand where: the kind byte, judged by the place where it stands.
+use format::Kind;
+use format::Refusal;
+use format::Where;
+ghost use Prim.Native.Nat.{_<_};
+ghost use mathlib.Core.Path.{_≡_};
+ghost use Rattle.format.specs.declared.Where.the-variants as W;
+ghost use Rattle.format.specs.Records.{isKind, notTaken, inSlot, allowed, kindOf, kindAt};
+
+// ---- what may stand where
+
+// 0 to 17, 21 and 22.
+fn is_kind(k: u8) -> bool
+    ensures { λ r. ⌜ r ≡ isKind k ⌝ }
+{
+    if k <= 17 {
+        return true;
+    }
+    match k {
+        21 => true,
+        22 => true,
+        _ => false,
+    }
+}
+
+// Refused by name.
+fn not_taken(k: u8) -> bool
+    ensures { λ r. ⌜ r ≡ notTaken k ⌝ }
+{
+    match k {
+        2 => true,
+        3 => true,
+        21 => true,
+        22 => true,
+        _ => false,
+    }
+}
+
+// References, nulls and libraries stand in every slot that waits for a record.
+fn in_slot(k: u8) -> bool
+    ensures { λ r. ⌜ r ≡ inSlot k ⌝ }
+{
+    match k {
+        9 => true,
+        10 => true,
+        12 => true, // wherever a kind byte is expected after the header
+        13 => true,
+        14 => true,
+        _ => false,
+    }
+}
+
+fn at_top(k: u8) -> bool
+    ensures { λ r. ⌜ r ≡ allowed W.Top k ⌝ }
+{
+    match k {
+        1 => true,
+        4 => true,
+        5 => true,
+        6 => true,
+        7 => true,
+        11 => true,
+        12 => true,
+        15 => true,
+        16 => true,
+        17 => true,
+        _ => false,
+    }
+}
+
+fn in_string_slot(k: u8) -> bool
+    ensures { λ r. ⌜ r ≡ allowed W.StringSlot k ⌝ }
+{
+    match k {
+        6 => true,
+        _ => in_slot(k),
+    }
+}
+
+fn in_object_slot(k: u8) -> bool
+    ensures { λ r. ⌜ r ≡ allowed W.ObjectSlot k ⌝ }
+{
+    match k {
+        1 => true,
+        4 => true,
+        5 => true,
+        6 => true,
+        8 => true,
+        _ => in_slot(k),
+    }
+}
+
+// The header stands first and nowhere else.
+fn allowed(w: Where, k: u8) -> bool
+    ensures { λ r. ⌜ r ≡ allowed w k ⌝ }
+{
+    match w {
+        Where::Start => k == 0,
+        Where::Top => at_top(k),
+        Where::StringSlot => in_string_slot(k),
+        Where::ObjectSlot => in_object_slot(k),
+        Where::ArraySlot => in_slot(k),
+    }
+}
+
+// A kind byte where it stands: unknown, then refused by name, then in the wrong place.
+fn kind_of(w: Where, k: u8) -> Kind
+    ensures { λ r. ⌜ r ≡ kindOf w k ⌝ }
+{
+    if is_kind(k) {
+        if not_taken(k) {
+            return Kind::Wrong(Refusal::NotTaken);
+        }
+        if allowed(w, k) {
+            return Kind::Taken(k);
+        }
+        return Kind::Wrong(Refusal::WrongPlace);
+    }
+    Kind::Wrong(Refusal::UnknownKind)
+}
+
+pub fn kind_at(s: &[u8], w: Where, at: usize) -> Kind
+    ensures { λ r. ⌜ r ≡ kindAt (now (s .entry)) w at ⌝ }
+{
+    if at < s.len() {
+        return kind_of(w, s[at]);
+    }
+    Kind::Wrong(Refusal::CutShort)
+}

@@ -1,0 +1,2 @@
+-- Laws of the links.
+pub mod Links

@@ -1,0 +1,124 @@
+-- The pass that puts in the links, in place: a lookup does not see a link, so rows that have theirs do not disturb it.
+use mathlib.Core.Path.{_≡_, refl, sym, _∙_}
+use mathlib.Core.List.{List, [], _∷_, _++_, append-nil, append-assoc, map, map-append}
+use mathlib.Core.Bool.{false}
+use Prim.Native.Nat.{ℕ, zero, suc, _+_, _<_}
+use native.Mathlib.Omega.{arith}
+use native.Mathlib.Numerals.{add-one}
+use borrow.Author.Tests.{ne-eqb}
+use lib.Dec.{eqb}
+use lib.ListN.{length, getD, take, drop, set, length-map, take-append-drop}
+use lib.Seq.{take-length, drop-length, take-suc, drop-cons, set-at, getD-at, length-take-le}
+use Rattle.format.specs.declared.Row.{Row}
+use Rattle.format.specs.Rows.{blank, rowsOf, isObject, findFrom, objectRow, withLink, linkOf, linked, isLost}
+use Rattle.table.specs.Rows.{length-rowsOf}
+use Rattle.lookups.specs.Find.{named}
+
+-- ---- one row
+
+module _ (rows : List Row) (r row : Row) (e : r ≡ row) where
+  pub lost-not : (r .kind ≡ 9 → ⊥) → false ≡ isLost rows row
+  lost-not k = rw (← e, ne-eqb (r .kind) 9 k)
+
+  pub lost-if : (f : ℕ) → r .kind ≡ 9 → f ≡ objectRow (r .id) rows → eqb f 0 ≡ isLost rows row
+  lost-if f k q = rw (← e, k, q)
+
+  pub link-reference : (f : ℕ) → r .kind ≡ 9 → f ≡ objectRow (r .id) rows → f ≡ linkOf rows row
+  unfolding linkOf
+  link-reference f k q = rw (← e, k, q)
+
+  pub link-root : (f : ℕ) → r .kind ≡ 0 → f ≡ objectRow (r .id) rows → f ≡ linkOf rows row
+  unfolding linkOf
+  link-root f k q = rw (← e, k, q)
+
+  pub link-kept : r .kind ≡ 1 → r .link ≡ linkOf rows row
+  unfolding linkOf
+  link-kept k = rw (← e, k)
+
+  pub link-none : (r .kind ≡ 9 → ⊥) → (r .kind ≡ 0 → ⊥) → (r .kind ≡ 1 → ⊥) → 0 ≡ linkOf rows row
+  unfolding linkOf
+  link-none a b c = rw (← e, ne-eqb (r .kind) 9 a, ne-eqb (r .kind) 0 b, ne-eqb (r .kind) 1 c)
+
+-- ---- the pass
+
+abbrev withOwn : List Row → Row → Row
+withOwn rows r = withLink r (linkOf rows r)
+
+-- the rows before i have their links
+unfoldable pub half : ℕ → List Row → List Row
+half i rows = map (withOwn rows) (take i rows) ++ drop i rows
+
+pub half-none : (rows : List Row) → rows ≡ half 0 rows
+unfolding half
+half-none rows = refl
+
+half-all : (rows : List Row) → half (length rows) rows ≡ linked rows
+unfolding half linked
+half-all rows = rw (take-length, drop-length, append-nil)
+
+pub half-end : (n i : ℕ) (t : List ℕ) → i ≡ n → half i (rowsOf n t) ≡ linked (rowsOf n t)
+half-end n i t e =
+    let q : i ≡ length (rowsOf n t) = e ∙ sym (length-rowsOf n t) in
+    rw q (half-all (rowsOf n t))
+
+find-map : (id k : ℕ) (rows xs ys : List Row)
+    → findFrom (named isObject id) k (map (withOwn rows) xs ++ ys) ≡ findFrom (named isObject id) k (xs ++ ys)
+unfolding findFrom named
+find-map id k rows [] ys = refl
+find-map id k rows (r ∷ xs) ys = rw (find-map id (k + 1) rows xs ys)
+
+object-half : (id i : ℕ) (rows : List Row) → objectRow id (half i rows) ≡ objectRow id rows
+unfolding objectRow half named
+object-half id i rows = find-map id 0 rows (take i rows) (drop i rows) ∙ rw take-append-drop
+
+-- the links that the pass puts in change no lookup
+pub object-linked : (id : ℕ) (rows : List Row) → objectRow id (linked rows) ≡ objectRow id rows
+object-linked id rows = rw (← half-all rows) (object-half id (length rows) rows)
+
+link-half : (i : ℕ) (rows : List Row) (r : Row) → linkOf (half i rows) r ≡ linkOf rows r
+unfolding linkOf
+link-half i rows r = rw (object-half (r .id) i rows)
+
+module _ (rows : List Row) (i : ℕ) (h : i < length rows) where
+  front : length (map (withOwn rows) (take i rows)) ≡ i
+  front = length-map (take i rows) (withOwn rows) ∙ length-take-le i rows (omega arith)
+
+  half-split : half i rows ≡ map (withOwn rows) (take i rows) ++ getD rows i blank ∷ drop (suc i) rows
+  unfolding half
+  half-split = rw (drop-cons rows i blank h)
+
+  half-at : getD (half i rows) i blank ≡ getD rows i blank
+  half-at = rw half-split (getD-at (map (withOwn rows) (take i rows)) (getD rows i blank) (drop (suc i) rows) blank i front)
+
+  half-next : half (i + 1) rows ≡ set (half i rows) i (withOwn rows (getD rows i blank))
+  unfolding half
+  half-next =
+      let e : half (suc i) rows ≡ map (withOwn rows) (take i rows) ++ withOwn rows (getD rows i blank) ∷ drop (suc i) rows =
+      rw (take-suc rows i blank h, map-append, append-assoc) in
+      let q : set (half i rows) i (withOwn rows (getD rows i blank)) ≡ map (withOwn rows) (take i rows) ++ withOwn rows (getD rows i blank) ∷ drop (suc i) rows =
+      rw half-split (set-at (map (withOwn rows) (take i rows)) (getD rows i blank) (drop (suc i) rows) (withOwn rows (getD rows i blank)) i front) in
+      rw (add-one, q) e
+
+-- row i of xs gets its link
+pub half-step : (n i v : ℕ) (t : List ℕ) (xs ys : List Row) → i < n → xs ≡ half i (rowsOf n t) → v ≡ linkOf xs (getD xs i blank)
+    → ys ≡ set xs i (withLink (getD xs i blank) v) → ys ≡ half (i + 1) (rowsOf n t)
+half-step n i v t xs ys h e f g =
+    let l : length (rowsOf n t) ≡ n = length-rowsOf n t in
+    let a : getD xs i blank ≡ getD (rowsOf n t) i blank = rw e (half-at (rowsOf n t) i (omega arith)) in
+    let q : v ≡ linkOf (rowsOf n t) (getD (rowsOf n t) i blank) = f ∙ rw (a, e) (link-half i (rowsOf n t) (getD (rowsOf n t) i blank)) in
+    g ∙ rw (a, q, e) (sym (half-next (rowsOf n t) i (omega arith)))
+
+-- ---- the rows with their links
+
+pub length-linked : (rows : List Row) → length (linked rows) ≡ length rows
+unfolding linked
+length-linked rows = length-map rows (withOwn rows)
+
+getD-map-in : (f : Row → Row) (rows : List Row) (i : ℕ) → i < length rows → getD (map f rows) i blank ≡ f (getD rows i blank)
+getD-map-in f [] i h = absurd (omega arith)
+getD-map-in f (r ∷ rows) zero h = refl
+getD-map-in f (r ∷ rows) (suc i) h = getD-map-in f rows i (omega arith)
+
+pub linked-at : (rows : List Row) (i : ℕ) → i < length rows → getD (linked rows) i blank ≡ withLink (getD rows i blank) (linkOf rows (getD rows i blank))
+unfolding linked
+linked-at rows i h = getD-map-in (withOwn rows) rows i h

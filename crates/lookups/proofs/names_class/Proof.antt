@@ -1,0 +1,19 @@
+-- The row's number decides (`other-number`), then its kind (`this-number`).
+use mathlib.Core.Path.{_∙_}
+use borrow.Author.Needs.{needs}
+use Rattle.format.specs.Rows.{isClass}
+use Rattle.lookups.specs.Find.{other-number, this-number}
+use Rattle.lookups.proofs.names_class.Statement.{statement}
+use Rattle.lookups.proofs.names_class.Tie as tie
+
+pub names-class-spec : {M : Type 1} → statement M
+names-class-spec =
+    tie.close
+    (tie.spec
+    (λ c κs. search needs)
+    (λ c. other-number isClass _ _ _ (c .before .id-at .ensures) (c .if1 .taken))
+    (λ c κs. search needs)
+    (λ c κs. search needs)
+    (λ c.
+    c .is-class .ensures
+    ∙ this-number isClass _ _ _ (c .before .before .before .id-at .ensures) (c .before .before .if1 .left) _ (c .before .kind-at .ensures)))

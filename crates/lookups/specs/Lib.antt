@@ -1,0 +1,2 @@
+-- Laws of the lookups.
+pub mod Find

@@ -1,0 +1,2 @@
+-- Laws of lengths and their product.
+pub mod Lengths

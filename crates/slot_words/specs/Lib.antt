@@ -1,0 +1,2 @@
+-- A slot type as a word.
+pub mod Words

@@ -1,0 +1,111 @@
+// The types of the slots that follow a record, one after the other: where the next one stands, and what waits there.
+use format::Field;
+use format::Passed;
+use format::SlotType;
+use format::Text;
+use format::Typed;
+ghost use Prim.Native.Nat.{_≤_};
+ghost use mathlib.Core.Path.{_≡_};
+ghost use lib.ListN.{length};
+ghost use Rattle.format.specs.Types.{infoAt, slotOf, typedAt, past, placeOr, moved, isPrimitive, passedOf};
+
+// ---- the types of slots
+
+// The slot type of a type byte and, where it has one, its primitive code.
+pub fn slot_of(kind: u8, code: u8) -> SlotType
+    ensures { λ r. ⌜ r ≡ slotOf kind code ⌝ }
+{
+    match kind {
+        0 => SlotType::Primitive(codes::coded_of(codes::primitive_of(code))),
+        1 => SlotType::Text,
+        2 => SlotType::Object,
+        3 => SlotType::SystemClass,
+        4 => SlotType::Class,
+        5 => SlotType::ObjectArray,
+        6 => SlotType::StringArray,
+        _ => SlotType::PrimitiveArray(codes::coded_of(codes::primitive_of(code))),
+    }
+}
+
+// The type whose byte stands at one place and whose detail stands at another.
+pub fn typed_at(s: &[u8], types: u32, infos: u32) -> Typed
+    ensures { λ r. ⌜ r ≡ typedAt (now (s .entry)) types infos ⌝ }
+{
+    let slot = slot_of(
+        codes::byte_at(s, types as usize),
+        codes::byte_at(s, infos as usize),
+    );
+    Typed { slot, types, infos }
+}
+
+// The next place, never past the end.
+fn next_place(s: &[u8], p: u32) -> u32
+    requires { ⌜ length (now s) ≤ 16777216 ⌝ }
+    ensures { λ r. ⌜ r ≡ past (length (now (s .entry))) p ⌝ }
+{
+    if (p as usize) < s.len() {
+        return p + 1;
+    }
+    p
+}
+
+// The place after a detail; a bad one is not passed.
+fn after_info(s: &[u8], kind: u8, p: u32) -> u32
+    requires { ⌜ length (now s) ≤ 16777216 ⌝ }
+    ensures { λ r. ⌜ r ≡ placeOr p (infoAt (now (s .entry)) kind p) ⌝ }
+{
+    match types::info_at(s, kind, p as usize) {
+        Field::End(next) => next as u32,
+        Field::Fault(_) => p,
+    }
+}
+
+// The type of the slot after this one.
+pub fn move_on(s: &[u8], t: Typed) -> Typed
+    requires { ⌜ length (now s) ≤ 16777216 ⌝ }
+    ensures { λ r. ⌜ r ≡ moved (now (s .entry)) t ⌝ }
+{
+    let types = t.types;
+    if types == 0 {
+        return t;
+    }
+    let infos = after_info(s, codes::byte_at(s, types as usize), t.infos);
+    typed_at(s, next_place(s, types), infos)
+}
+
+fn is_primitive(slot: SlotType) -> bool
+    ensures { λ r. ⌜ r ≡ isPrimitive slot ⌝ }
+{
+    match slot {
+        SlotType::Primitive(_) => true,
+        SlotType::Text => false,
+        SlotType::Object => false,
+        SlotType::SystemClass => false,
+        SlotType::Class => false,
+        SlotType::ObjectArray => false,
+        SlotType::StringArray => false,
+        SlotType::PrimitiveArray(_) => false,
+    }
+}
+
+// The type of the slot after a null run of n. The slots of an array are alike, and none of them is walked.
+pub fn pass(s: &[u8], t: Typed, n: u32) -> Passed
+    requires { ⌜ length (now s) ≤ 16777216 ⌝ }
+    ensures { λ r. ⌜ r ≡ passedOf (now (s .entry)) t n ⌝ }
+{
+    let types = t.types;
+    if types == 0 {
+        return Passed::Over(t);
+    }
+    let mut u = t;
+    let mut left = n;
+    while left > 0 {
+        let slot = u.slot;
+        if is_primitive(slot) {
+            return Passed::Crossed;
+        }
+        u = move_on(s, u);
+        left -= 1;
+    }
+    Passed::Over(u)
+}

@@ -1,0 +1,90 @@
+// One turn of the reader: what the next slot waits for, then a member value or a record.
+use adding::Step;
+use format::Kind;
+use format::PrimitiveCode;
+use format::Reader;
+use format::SlotType;
+use format::Where;
+ghost use mathlib.Core.Path.{_≡_};
+ghost use mathlib.Core.List.{List};
+ghost use Prim.Native.Nat.{ℕ, _≤_};
+ghost use lib.ListN.{length};
+ghost use Rattle.format.specs.Rows.{roomOf};
+ghost use Rattle.format.specs.Machine.{recordStep, whereIn, step};
+ghost use Rattle.frames.specs.Frames.{saved};
+ghost use Rattle.adding.specs.Held.{stateOf, after, Held};
+ghost use Rattle.turns.specs.Due.{dueOf};
+
+// What a slot waits for: a member value, or a kind byte where one stands.
+pub enum Due {
+    Value(PrimitiveCode),
+    Record(Where),
+}
+
+fn due_in(slot: SlotType) -> Due
+    ensures { λ r. ⌜ r ≡ dueOf slot ⌝ }
+{
+    match slot {
+        SlotType::Primitive(c) => Due::Value(c),
+        SlotType::Text => Due::Record(Where::StringSlot),
+        SlotType::Object => Due::Record(Where::ObjectSlot),
+        SlotType::SystemClass => Due::Record(Where::ObjectSlot),
+        SlotType::Class => Due::Record(Where::ObjectSlot),
+        SlotType::ObjectArray => Due::Record(Where::ArraySlot),
+        SlotType::StringArray => Due::Record(Where::ArraySlot),
+        SlotType::PrimitiveArray(_) => Due::Record(Where::ArraySlot),
+    }
+}
+
+// The top level has no object around it.
+fn where_in(depth: usize, w: Where) -> Where
+    ensures { λ r. ⌜ ((f : List ℕ) → r ≡ whereIn (saved f depth) w) ⌝ }
+{
+    if depth == 0 {
+        return Where::Top;
+    }
+    w
+}
+
+// A kind byte and its record.
+pub fn record_step(
+    s: &[u8],
+    table: &mut [u32],
+    frames: &mut [u32; 384],
+    m: Reader,
+    w: Where,
+) -> Step
+    requires { ⌜ Held (roomOf (now table)) m × (length (now frames) ≡ 384) × (length (now s) ≤ 16777216) ⌝ }
+    ensures { λ q. ⌜ (after (now (table .exit)) (now (frames .exit)) q
+        ≡ recordStep (now (s .entry)) (roomOf (now (table .entry))) (stateOf (now (table .entry)) (now (frames .entry)) m) w)
+        × (length (now (frames .exit)) ≡ 384) ⌝ }
+{
+    let at = m.at;
+    let k = kinds::kind_at(s, w, at);
+    match k {
+        Kind::Taken(kind) => {
+            let h = headings::heading_at(s, table, m.rows, kind, at);
+            steps::take(s, table, frames, m, kind as u32, h)
+        }
+        Kind::Wrong(f) => Step::Refuse(f, at),
+    }
+}
+
+// A member value at once, or a record.
+pub fn one_step(s: &[u8], table: &mut [u32], frames: &mut [u32; 384], m: Reader) -> Step
+    requires { ⌜ Held (roomOf (now table)) m × (length (now frames) ≡ 384) × (length (now s) ≤ 16777216) ⌝ }
+    ensures { λ q. ⌜ (after (now (table .exit)) (now (frames .exit)) q
+        ≡ step (now (s .entry)) (roomOf (now (table .entry))) (stateOf (now (table .entry)) (now (frames .entry)) m))
+        × (length (now (frames .exit)) ≡ 384) ⌝ }
+{
+    let typed = m.top.typed;
+    let slot = typed.slot;
+    let d = due_in(slot);
+    match d {
+        Due::Value(c) => steps::take_value(s, table, frames, m, c),
+        Due::Record(w) => {
+            let v = where_in(m.depth, w);
+            record_step(s, table, frames, m, v)
+        }
+    }
+}
