@@ -1,9 +1,7 @@
 // Writes the records of the tidy copy from marked rows: libraries and classes. Every writer takes the unwritten rest of the output and answers the
 // length that its bytes need; so the same functions measure and write.
-use format::LibraryNo;
 use format::ObjectNo;
 use format::Row;
-ghost use mathlib.Core.Path.{_≡_};
 ghost use mathlib.Core.List.{_++_};
 ghost use Prim.Native.Nat.{_+_, _-_, _≤_, _<_};
 ghost use Rattle.format.specs.Bytes.{pick};
@@ -11,175 +9,7 @@ ghost use Rattle.format.specs.Rows.{rowsOf, roomOf};
 ghost use Rattle.put.specs.Out.{between};
 ghost use Rattle.put.specs.Put.{Filled};
 ghost use Rattle.marks.specs.Marks.{infosPlace};
-ghost use Rattle.writing.specs.Copy.{libraryNumber, libraryOut, needOut, needInfoOut, needInfosOut, needOwnOut, needClassOut, infoOut, infosOut, ownOut, detailsOut, classOut, objectOut};
-
-// Nulls of one object that wait to be written: the row of the object plus 1, and how many.
-pub struct Gathered {
-    pub owner: u32,
-    pub count: usize,
-}
-
-// ---- libraries, each before the first record that needs it
-
-// The new number of the library whose number stands at p.
-fn library_number(s: &[u8], table: &[u32], n: usize, p: usize) -> LibraryNo
-    requires { ⌜ (n ≤ roomOf (now table)) × (n < 4294967296) ⌝ }
-    ensures { λ r. ⌜ r .0 ≡ libraryNumber (now (s .entry)) (rowsOf n (now (table .entry))) p ⌝ }
-{
-    let f = marks::library_at(s, table, n, p);
-    let g = marks::row_named(table, n, f);
-    LibraryNo(g.link)
-}
-
-fn put_library(out: &mut [u8], s: &[u8], g: Row) -> usize
-    ensures { λ q. ⌜ Filled (libraryOut (now (s .entry)) g) (now (out .entry)) (now (out .exit)) q ⌝ }
-{
-    let a = heads::put_head(out, 12, g.link);
-    let from = put::least(a, out.len());
-    let b = put::put_text(&mut out[from..], s, (g.offset as usize) + 5, g.end as usize);
-    put::add_up(a, b)
-}
-
-// The record of the library that the field at p is the first to need.
-fn put_need(out: &mut [u8], s: &[u8], table: &[u32], n: usize, p: usize) -> usize
-    requires { ⌜ (n ≤ roomOf (now table)) × (n < 4294967296) × (p < 18446744073709551615) ⌝ }
-    ensures { λ q. ⌜ Filled (needOut (now (s .entry)) (rowsOf n (now (table .entry))) p) (now (out .entry)) (now (out .exit)) q ⌝ }
-{
-    let f = marks::library_at(s, table, n, p);
-    let g = marks::row_named(table, n, f);
-    let mark = marks::word(p + 1);
-    if g.slot == mark {
-        return put_library(out, s, g);
-    }
-    0
-}
-
-// For a detail that ends at e.
-pub fn put_need_info(out: &mut [u8], s: &[u8], table: &[u32], n: usize, kind: u8, e: usize) -> usize
-    requires { ⌜ (n ≤ roomOf (now table)) × (n < 4294967296) ⌝ }
-    ensures { λ q. ⌜ Filled (needInfoOut (now (s .entry)) (rowsOf n (now (table .entry))) kind e) (now (out .entry)) (now (out .exit)) q ⌝ }
-{
-    if kind == 4 {
-        let p = marks::less(e, 4);
-        return put_need(out, s, table, n, p);
-    }
-    0
-}
-
-// For the details of a class's members.
-fn put_need_infos(out: &mut [u8], s: &[u8], table: &[u32], n: usize, r: Row) -> usize
-    requires { ⌜ (n ≤ roomOf (now table)) × (n < 4294967296) ⌝ }
-    ensures { λ q. ⌜ Filled (needInfosOut (now (s .entry)) (rowsOf n (now (table .entry))) (r .count) (r .slot) (infosPlace r)) (now (out .entry)) (now (out .exit)) q ⌝ }
-{
-    let count = r.count as usize;
-    let kinds = r.slot as usize;
-    let mut at: usize = 0;
-    let mut p = kinds + count;
-    let mut i: usize = 0;
-    while i < count {
-        let kind = codes::byte_at(s, kinds + i);
-        let e = marks::after_info(s, kind, p);
-        let from = put::least(at, out.len());
-        let b = put_need_info(&mut out[from..], s, table, n, kind, e);
-        at = put::add_up(at, b);
-        p = e;
-        i += 1;
-    }
-    at
-}
-
-// For a class of a library.
-fn put_need_own(out: &mut [u8], s: &[u8], table: &[u32], n: usize, r: Row) -> usize
-    requires { ⌜ (n ≤ roomOf (now table)) × (n < 4294967296) ⌝ }
-    ensures { λ q. ⌜ Filled (needOwnOut (now (s .entry)) (rowsOf n (now (table .entry))) r) (now (out .entry)) (now (out .exit)) q ⌝ }
-{
-    if r.kind == 5 {
-        let p = marks::less(r.end as usize, 4);
-        return put_need(out, s, table, n, p);
-    }
-    0
-}
-
-fn put_need_class(out: &mut [u8], s: &[u8], table: &[u32], n: usize, r: Row) -> usize
-    requires { ⌜ (n ≤ roomOf (now table)) × (n < 4294967296) ⌝ }
-    ensures { λ q. ⌜ Filled (needClassOut (now (s .entry)) (rowsOf n (now (table .entry))) r) (now (out .entry)) (now (out .exit)) q ⌝ }
-{
-    let a = put_need_infos(out, s, table, n, r);
-    let from = put::least(a, out.len());
-    let b = put_need_own(&mut out[from..], s, table, n, r);
-    put::add_up(a, b)
-}
-
-// ---- classes
-
-// A detail from p to e, its library by the new number.
-pub fn put_info(
-    out: &mut [u8],
-    s: &[u8],
-    table: &[u32],
-    n: usize,
-    kind: u8,
-    p: usize,
-    e: usize,
-) -> usize
-    requires { ⌜ (n ≤ roomOf (now table)) × (n < 4294967296) ⌝ }
-    ensures { λ q. ⌜ Filled (infoOut (now (s .entry)) (rowsOf n (now (table .entry))) kind p e) (now (out .entry)) (now (out .exit)) q ⌝ }
-{
-    if kind == 4 {
-        let m = marks::less(e, 4);
-        let l = library_number(s, table, n, m);
-        let a = put::put_part(out, s, p, m);
-        let from = put::least(a, out.len());
-        let b = put::put_number(&mut out[from..], l.0);
-        return put::add_up(a, b);
-    }
-    put::put_part(out, s, p, e)
-}
-
-// The details of a class's members.
-fn put_infos(out: &mut [u8], s: &[u8], table: &[u32], n: usize, r: Row) -> usize
-    requires { ⌜ (n ≤ roomOf (now table)) × (n < 4294967296) ⌝ }
-    ensures { λ q. ⌜ Filled (infosOut (now (s .entry)) (rowsOf n (now (table .entry))) (r .count) (r .slot) (infosPlace r)) (now (out .entry)) (now (out .exit)) q ⌝ }
-{
-    let count = r.count as usize;
-    let kinds = r.slot as usize;
-    let mut at: usize = 0;
-    let mut p = kinds + count;
-    let mut i: usize = 0;
-    while i < count {
-        let kind = codes::byte_at(s, kinds + i);
-        let e = marks::after_info(s, kind, p);
-        let from = put::least(at, out.len());
-        let b = put_info(&mut out[from..], s, table, n, kind, p, e);
-        at = put::add_up(at, b);
-        p = e;
-        i += 1;
-    }
-    at
-}
-
-// The library of a class that comes from one.
-fn put_own(out: &mut [u8], s: &[u8], table: &[u32], n: usize, r: Row) -> usize
-    requires { ⌜ (n ≤ roomOf (now table)) × (n < 4294967296) ⌝ }
-    ensures { λ q. ⌜ Filled (ownOut (now (s .entry)) (rowsOf n (now (table .entry))) r) (now (out .entry)) (now (out .exit)) q ⌝ }
-{
-    if r.kind == 5 {
-        let p = marks::less(r.end as usize, 4);
-        let l = library_number(s, table, n, p);
-        return put::put_number(out, l.0);
-    }
-    0
-}
-
-fn put_details(out: &mut [u8], s: &[u8], table: &[u32], n: usize, r: Row) -> usize
-    requires { ⌜ (n ≤ roomOf (now table)) × (n < 4294967296) ⌝ }
-    ensures { λ q. ⌜ Filled (detailsOut (now (s .entry)) (rowsOf n (now (table .entry))) r) (now (out .entry)) (now (out .exit)) q ⌝ }
-{
-    let a = put_infos(out, s, table, n, r);
-    let from = put::least(a, out.len());
-    let b = put_own(&mut out[from..], s, table, n, r);
-    put::add_up(a, b)
-}
+ghost use Rattle.libraries_out.specs.Copy.{needClassOut, detailsOut, classOut, objectOut};
 
 // A class after its ObjectId: name, member count, names and type bytes are kept.
 fn put_class_fields(out: &mut [u8], s: &[u8], table: &[u32], n: usize, r: Row) -> usize
@@ -193,7 +23,7 @@ fn put_class_fields(out: &mut [u8], s: &[u8], table: &[u32], n: usize, r: Row) -
         (r.slot as usize) + (r.count as usize),
     );
     let from = put::least(a, out.len());
-    let b = put_details(&mut out[from..], s, table, n, r);
+    let b = details_out::put_details(&mut out[from..], s, table, n, r);
     put::add_up(a, b)
 }
 
@@ -213,7 +43,7 @@ fn put_piece(out: &mut [u8], s: &[u8], table: &[u32], n: usize, r: Row, librarie
     ensures { λ q. ⌜ Filled (pick libraries (needClassOut (now (s .entry)) (rowsOf n (now (table .entry))) r) (classOut (now (s .entry)) (rowsOf n (now (table .entry))) r)) (now (out .entry)) (now (out .exit)) q ⌝ }
 {
     if libraries {
-        return put_need_class(out, s, table, n, r);
+        return libraries_out::put_need_class(out, s, table, n, r);
     }
     put_class(out, s, table, n, r)
 }

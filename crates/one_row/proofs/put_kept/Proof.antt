@@ -1,6 +1,6 @@
 -- The kind and the new number, then what is kept.
 use Rattle.put.specs.Put.{joined-as}
-use Rattle.one_row.specs.Laws.{kept-is}
+use Rattle.arrays_out.specs.Laws.{kept-is}
 use borrow.Author.Needs.{needs}
 use Rattle.one_row.proofs.put_kept.Statement.{statement}
 use Rattle.one_row.proofs.put_kept.Tie as tie

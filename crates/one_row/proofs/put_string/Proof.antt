@@ -1,6 +1,6 @@
 -- The kind and the new number, then the text.
 use Rattle.put.specs.Put.{joined-as}
-use Rattle.one_row.specs.Laws.{string-is}
+use Rattle.arrays_out.specs.Laws.{string-is}
 use borrow.Author.Needs.{needs}
 use Rattle.one_row.proofs.put_string.Statement.{statement}
 use Rattle.one_row.proofs.put_string.Tie as tie

@@ -1,0 +1,77 @@
+-- What each writer of arrays and of kept objects puts out, and one law for each kind of row.
+use Prim.Native.Nat.{ℕ, _+_, _%_}
+use mathlib.Core.Path.{_≡_, refl, sym, ap, _∙_}
+use mathlib.Core.List.{List, _++_}
+use lib.ListN.{getD}
+use borrow.Author.Tests.{ne-eqb}
+use Rattle.format.specs.declared.Row.{Row}
+use Rattle.format.specs.Says.{afterInfo}
+use Rattle.put.specs.Out.{between, textOut, headOut, byIdOut, headerOut}
+use Rattle.marks.specs.Marks.{rowAt, itemType}
+use Rattle.libraries_out.specs.Laws.{record-as}
+use Rattle.libraries_out.specs.Copy.{needInfoOut, infoOut, itemsOut, bodyOut, arrayOut, keptOut, stringOut, recordOut}
+
+-- ---- what is written as two pieces
+pub kept-is : (s : List ℕ) (r : Row) → keptOut s r ≡ headOut (r .kind % 256) (r .id) ++ between s (r .offset + 5) (r .end)
+unfolding keptOut
+kept-is s r = refl
+
+pub string-is : (s : List ℕ) (r : Row) → stringOut s r ≡ headOut 6 (r .id) ++ textOut s (r .offset + 5) (r .end)
+unfolding stringOut
+string-is s r = refl
+
+pub need-item-is : (s : List ℕ) (rs : List Row) (p e kind : ℕ) → kind ≡ getD s p 0 → needInfoOut s rs (getD s p 0) e ≡ needInfoOut s rs kind e
+need-item-is s rs p e kind x = rw x
+
+module _ (s : List ℕ) (rs : List Row) (r : Row) where
+  -- kind is the byte of the item type at p
+  module _ (p e kind : ℕ) (x : kind ≡ getD s p 0) where
+    pub items-is : itemsOut s rs p e r ≡ infoOut s rs kind (p + 1) e ++ between s e (r .end)
+    unfolding itemsOut
+    items-is = ap (λ (k : ℕ). infoOut s rs k (p + 1) e ++ between s e (r .end)) (sym x)
+
+    pub array-is : p ≡ itemType s r → e ≡ afterInfo s kind (p + 1) → arrayOut s rs r ≡ needInfoOut s rs (getD s p 0) e ++ bodyOut s rs p e r
+    unfolding arrayOut
+    array-is y z =
+        let t : e ≡ afterInfo s (getD s p 0) (p + 1) = z ∙ ap (λ (k : ℕ). afterInfo s k (p + 1)) x in
+        rw (← y, ← t)
+
+  pub body-is : (p e : ℕ) → bodyOut s rs p e r ≡ headOut 7 (r .id) ++ (between s (r .offset + 5) (p + 1) ++ itemsOut s rs p e r)
+  unfolding bodyOut
+  body-is p e = refl
+
+-- ---- one clause for each kind
+module _ (s : List ℕ) (rs : List Row) (i : ℕ) (r : Row) where
+  pub record-0 : (t : Row) → r .kind ≡ 0 → t ≡ rowAt rs (r .link) → recordOut s rs i r ≡ headerOut (t .id)
+  record-0 t h x = record-as s rs i r 0 h ∙ ap (λ (q : Row). headerOut (q .id)) (sym x)
+
+  pub record-1 : (c t : Row) → r .kind ≡ 1 → c ≡ rowAt rs (r .link) → t ≡ rowAt rs (c .link) → recordOut s rs i r ≡ byIdOut (r .id) (t .id)
+  record-1 c t h x y =
+      record-as s rs i r 1 h ∙ ap (λ (q : Row). byIdOut (r .id) (q .id)) (sym (y ∙ ap (λ (q : Row). rowAt rs (q .link)) x))
+
+  pub record-9 : (t : Row) → r .kind ≡ 9 → t ≡ rowAt rs (r .link) → recordOut s rs i r ≡ headOut 9 (t .id)
+  record-9 t h x = record-as s rs i r 9 h ∙ ap (λ (q : Row). headOut 9 (q .id)) (sym x)
+
+  abbrev Not : ℕ → Type 0
+  Not k = r .kind ≡ k → ⊥
+
+  pub record-other : Not 0 → Not 1 → Not 4 → Not 5 → Not 6 → Not 7 → Not 9 → Not 10 → Not 12 → Not 13 → Not 14 → Not 15 → Not 16 → Not 17
+      → recordOut s rs i r ≡ between s (r .offset) (r .end)
+  record-other a b c d e f g h j k l m n o =
+      record-as s rs i r (r .kind) refl
+      ∙ rw (
+        ne-eqb _ _ a,
+        ne-eqb _ _ b,
+        ne-eqb _ _ c,
+        ne-eqb _ _ d,
+        ne-eqb _ _ e,
+        ne-eqb _ _ f,
+        ne-eqb _ _ g,
+        ne-eqb _ _ h,
+        ne-eqb _ _ k,
+        ne-eqb _ _ l,
+        ne-eqb _ _ j,
+        ne-eqb _ _ m,
+        ne-eqb _ _ n,
+        ne-eqb _ _ o,
+      )

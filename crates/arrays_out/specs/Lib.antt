@@ -1,0 +1,2 @@
+-- Laws of one row's record.
+pub mod Laws

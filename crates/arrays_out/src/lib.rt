@@ -1,0 +1,88 @@
+// The record of an array as the tidy copy has it: the libraries that it needs first, then its fields, then the items of a primitive one.
+use format::Row;
+ghost use mathlib.Core.List.{_++_};
+ghost use Prim.Native.Nat.{_+_, _-_, _≤_, _<_};
+ghost use Rattle.format.specs.Bytes.{pick};
+ghost use Rattle.format.specs.Rows.{rowsOf, roomOf};
+ghost use Rattle.put.specs.Out.{between};
+ghost use Rattle.put.specs.Put.{Filled};
+ghost use lib.ListN.{getD};
+ghost use Rattle.libraries_out.specs.Copy.{needInfoOut, itemsOut, bodyOut, arrayOut};
+
+// ---- arrays
+
+// From the item type at p on, its detail ending at e.
+fn put_items(out: &mut [u8], s: &[u8], table: &[u32], n: usize, p: usize, e: usize, r: Row) -> usize
+    requires { ⌜ (n ≤ roomOf (now table)) × (n < 4294967296) × (p < 18446744073709551615) ⌝ }
+    ensures { λ q. ⌜ Filled (itemsOut (now (s .entry)) (rowsOf n (now (table .entry))) p e r) (now (out .entry)) (now (out .exit)) q ⌝ }
+{
+    let kind = codes::byte_at(s, p);
+    let a = details_out::put_info(out, s, table, n, kind, p + 1, e);
+    let from = put::least(a, out.len());
+    let b = put::put_part(&mut out[from..], s, e, r.end as usize);
+    put::add_up(a, b)
+}
+
+// An array after its ObjectId: array type, rank, lengths and item type are kept.
+fn put_array_fields(
+    out: &mut [u8],
+    s: &[u8],
+    table: &[u32],
+    n: usize,
+    p: usize,
+    e: usize,
+    r: Row,
+) -> usize
+    requires { ⌜ (n ≤ roomOf (now table)) × (n < 4294967296) × (p < 18446744073709551615) ⌝ }
+    ensures { λ q. ⌜ Filled (between (now (s .entry)) (r .offset + 5) (p + 1) ++ itemsOut (now (s .entry)) (rowsOf n (now (table .entry))) p e r) (now (out .entry)) (now (out .exit)) q ⌝ }
+{
+    let a = put::put_part(out, s, (r.offset as usize) + 5, p + 1);
+    let from = put::least(a, out.len());
+    let b = put_items(&mut out[from..], s, table, n, p, e, r);
+    put::add_up(a, b)
+}
+
+fn put_body(out: &mut [u8], s: &[u8], table: &[u32], n: usize, p: usize, e: usize, r: Row) -> usize
+    requires { ⌜ (n ≤ roomOf (now table)) × (n < 4294967296) × (p < 18446744073709551615) ⌝ }
+    ensures { λ q. ⌜ Filled (bodyOut (now (s .entry)) (rowsOf n (now (table .entry))) p e r) (now (out .entry)) (now (out .exit)) q ⌝ }
+{
+    let a = heads::put_head(out, 7, r.id);
+    let from = put::least(a, out.len());
+    let b = put_array_fields(&mut out[from..], s, table, n, p, e, r);
+    put::add_up(a, b)
+}
+
+// The record of the library that the item type at p needs, or else the array's own record.
+fn put_array_piece(
+    out: &mut [u8],
+    s: &[u8],
+    table: &[u32],
+    n: usize,
+    p: usize,
+    e: usize,
+    r: Row,
+    libraries: bool,
+) -> usize
+    requires { ⌜ (n ≤ roomOf (now table)) × (n < 4294967296) × (p < 18446744073709551615) ⌝ }
+    ensures { λ q. ⌜ Filled (pick libraries (needInfoOut (now (s .entry)) (rowsOf n (now (table .entry))) (getD (now (s .entry)) p 0) e) (bodyOut (now (s .entry)) (rowsOf n (now (table .entry))) p e r)) (now (out .entry)) (now (out .exit)) q ⌝ }
+{
+    if libraries {
+        let kind = codes::byte_at(s, p);
+        return libraries_out::put_need_info(out, s, table, n, kind, e);
+    }
+    put_body(out, s, table, n, p, e, r)
+}
+
+// An array, after the library that its item type needs.
+pub fn put_array(out: &mut [u8], s: &[u8], table: &[u32], n: usize, r: Row) -> usize
+    requires { ⌜ (n ≤ roomOf (now table)) × (n < 4294967296) ⌝ }
+    ensures { λ q. ⌜ Filled (arrayOut (now (s .entry)) (rowsOf n (now (table .entry))) r) (now (out .entry)) (now (out .exit)) q ⌝ }
+{
+    let p = marks::item_type(s, r);
+    let kind = codes::byte_at(s, p);
+    let e = marks::after_info(s, kind, p + 1);
+    let a = put_array_piece(out, s, table, n, p, e, r, true);
+    let from = put::least(a, out.len());
+    let b = put_array_piece(&mut out[from..], s, table, n, p, e, r, false);
+    put::add_up(a, b)
+}

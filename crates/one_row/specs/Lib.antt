@@ -1,2 +1,0 @@
--- The laws of what a row is written as.
-pub mod Laws
