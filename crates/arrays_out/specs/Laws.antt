@@ -8,8 +8,8 @@ use Rattle.format.specs.declared.Row.{Row}
 use Rattle.format.specs.Says.{afterInfo}
 use Rattle.put.specs.Out.{between, textOut, headOut, byIdOut, headerOut}
 use Rattle.marks.specs.Marks.{rowAt, itemType}
-use Rattle.libraries_out.specs.Laws.{record-as}
-use Rattle.libraries_out.specs.Copy.{needInfoOut, infoOut, itemsOut, bodyOut, arrayOut, keptOut, stringOut, recordOut}
+use Rattle.pieces.specs.Laws.{record-as}
+use Rattle.pieces.specs.Copy.{needInfoOut, infoOut, itemsOut, bodyOut, arrayOut, keptOut, stringOut, recordOut}
 
 -- ---- what is written as two pieces
 pub kept-is : (s : List ℕ) (r : Row) → keptOut s r ≡ headOut (r .kind % 256) (r .id) ++ between s (r .offset + 5) (r .end)

@@ -7,7 +7,7 @@ ghost use Rattle.format.specs.Rows.{rowsOf, roomOf};
 ghost use Rattle.put.specs.Out.{between};
 ghost use Rattle.put.specs.Put.{Filled};
 ghost use lib.ListN.{getD};
-ghost use Rattle.libraries_out.specs.Copy.{needInfoOut, itemsOut, bodyOut, arrayOut};
+ghost use Rattle.pieces.specs.Copy.{needInfoOut, itemsOut, bodyOut, arrayOut};
 
 // ---- arrays
 

@@ -19,8 +19,8 @@ use Rattle.format.specs.Tidy.{answerBy, outBy}
 use Rattle.fields.specs.Judged.{picked}
 use Rattle.put.specs.Out.{runOut}
 use Rattle.put.specs.Put.{most, capped, Filled, Least, Along, along-start, along-more, capped-below}
-use Rattle.libraries_out.specs.declared.Gathered.{Gathered}
-use Rattle.libraries_out.specs.Copy.{recordOut, noneYet, isPassed, beforeOut, moreOf, runAfter, rowOut, copyFrom, copyOf}
+use Rattle.pieces.specs.declared.Gathered.{Gathered}
+use Rattle.pieces.specs.Copy.{recordOut, noneYet, isPassed, beforeOut, moreOf, runAfter, rowOut, copyFrom, copyOf}
 
 -- ---- null runs
 pub nulls-known : (kind n : ℕ) → kind ≡ n → isNulls n ≡ isNulls kind

@@ -2,7 +2,7 @@
 // and writes.
 use format::Row;
 use format::TidyAnswer;
-use libraries_out::Gathered;
+use pieces::Gathered;
 ghost use mathlib.Core.Path.{_≡_};
 ghost use Prim.Native.Nat.{_≤_, _<_};
 ghost use lib.ListN.{length};
@@ -10,7 +10,7 @@ ghost use Rattle.format.specs.Rows.{rowsOf, roomOf};
 ghost use Rattle.format.specs.Says.{isNulls};
 ghost use Rattle.format.specs.Tidy.{answerBy, outBy};
 ghost use Rattle.put.specs.Put.{Filled};
-ghost use Rattle.libraries_out.specs.Copy.{isPassed, beforeOut, runAfter, rowOut, copyOf};
+ghost use Rattle.pieces.specs.Copy.{isPassed, beforeOut, runAfter, rowOut, copyOf};
 
 // ---- null runs
 

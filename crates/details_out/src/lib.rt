@@ -4,7 +4,7 @@ ghost use Prim.Native.Nat.{_+_, _-_, _≤_, _<_};
 ghost use Rattle.format.specs.Rows.{rowsOf, roomOf};
 ghost use Rattle.put.specs.Put.{Filled};
 ghost use Rattle.marks.specs.Marks.{infosPlace};
-ghost use Rattle.libraries_out.specs.Copy.{infoOut, infosOut, ownOut, detailsOut};
+ghost use Rattle.pieces.specs.Copy.{infoOut, infosOut, ownOut, detailsOut};
 
 // ---- classes
 

@@ -1,4 +1,2 @@
--- What is written, by parts, and the laws of it.
-pub mod Copy
+-- The places of the writer: where a library stands that a record names.
 pub mod Places
-pub mod Laws

@@ -4,7 +4,7 @@ use mathlib.Core.Path.{_≡_, ap, _∙_}
 use mathlib.Core.List.{List}
 use Rattle.format.specs.declared.Row.{Row}
 use Rattle.marks.specs.Marks.{rowAt, libraryAt}
-use Rattle.libraries_out.specs.Copy.{libraryNumber}
+use Rattle.pieces.specs.Copy.{libraryNumber}
 
 pub library-number-is : (s : List ℕ) (rs : List Row) (p f : ℕ) (g : Row) → f ≡ libraryAt s rs p → g ≡ rowAt rs f → g .link ≡ libraryNumber s rs p
 unfolding libraryNumber

@@ -6,13 +6,7 @@ ghost use Prim.Native.Nat.{_+_, _-_, _≤_, _<_};
 ghost use Rattle.format.specs.Rows.{rowsOf, roomOf};
 ghost use Rattle.put.specs.Put.{Filled};
 ghost use Rattle.marks.specs.Marks.{infosPlace};
-ghost use Rattle.libraries_out.specs.Copy.{libraryNumber, libraryOut, needOut, needInfoOut, needInfosOut, needOwnOut, needClassOut};
-
-// Nulls of one object that wait to be written: the row of the object plus 1, and how many.
-pub struct Gathered {
-    pub owner: u32,
-    pub count: usize,
-}
+ghost use Rattle.pieces.specs.Copy.{libraryNumber, libraryOut, needOut, needInfoOut, needInfosOut, needOwnOut, needClassOut};
 
 // ---- libraries, each before the first record that needs it
 

@@ -21,7 +21,7 @@ use Rattle.types.specs.Keeps.{type-told}
 use Rattle.laws.specs.Fields.{length-numbers}
 use Rattle.put.specs.Out.{between, headOut}
 use Rattle.marks.specs.Marks.{itemType}
-use Rattle.libraries_out.specs.Copy.{infoOut, itemsOut, bodyOut}
+use Rattle.pieces.specs.Copy.{infoOut, itemsOut, bodyOut}
 use Rattle.meaning.specs.Stands.{ArrayStands}
 use Rattle.meaning.specs.Marked.{All, arrayFields, namesOf}
 use Rattle.meaning.specs.Bytes.{joined, number-there, between-none, info-place, type-is, same-type, needs-is, Numbered, field-of, info-is}

@@ -31,7 +31,7 @@ use Rattle.types.specs.Keeps.{code-told, type-told, name-told, name-moves, libr
 use Rattle.laws.specs.Fields.{by-type}
 use Rattle.class_info.specs.Moves.{known-moves, info-plain}
 use Rattle.put.specs.Out.{between, textOut}
-use Rattle.libraries_out.specs.Copy.{libraryNumber, infoOut, infosOut}
+use Rattle.pieces.specs.Copy.{libraryNumber, infoOut, infosOut}
 use Rattle.meaning.specs.Stands.{StringStands}
 use Rattle.meaning.specs.Marked.{All, none, both, infoFields, nameAtField, namesOf}
 use Rattle.meaning.specs.Entered.{names-append}

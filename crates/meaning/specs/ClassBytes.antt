@@ -21,7 +21,7 @@ use Rattle.fields.specs.Sequence.{through}
 use Rattle.num.specs.Le.{Bytes}
 use Rattle.types.specs.Keeps.{type-told, name-moves, names-within, types-end}
 use Rattle.put.specs.Out.{between, headOut}
-use Rattle.libraries_out.specs.Copy.{libraryNumber, infosOut, classOut, detailsOut}
+use Rattle.pieces.specs.Copy.{libraryNumber, infosOut, classOut, detailsOut}
 use Rattle.meaning.specs.Stands.{OwnStands, of-system, of-library, ClassStands}
 use Rattle.meaning.specs.Marked.{All, infoFields, classFields, nameAtField, namesOf}
 use Rattle.meaning.specs.Bytes.{joined, text-kept, number-is, name-stands, between-none, type-is, same-type, Numbered, all-left, all-right, all-first, infos-need, infos-is}

@@ -15,7 +15,7 @@ use Rattle.format.specs.Tidy.{numberIn, Libraries, entered, allEntered, library
 use Rattle.same.specs.Laws.{same-refl}
 use Rattle.laws.specs.Numbers.{Counted, all-counted, number-new, entered-new}
 use Rattle.marks.specs.Marks.{rowAt, libraryAt, itemType, infosPlace, needed}
-use Rattle.libraries_out.specs.Copy.{libraryNumber, libraryOut, needOut, needInfoOut, needInfosOut, needClassOut}
+use Rattle.pieces.specs.Copy.{libraryNumber, libraryOut, needOut, needInfoOut, needInfosOut, needClassOut}
 use Rattle.meaning.specs.Marked.{infoFields, classFields, arrayFields, fieldsFrom, All, none, both, nameAtField, namesOf}
 use Rattle.meaning.specs.Entered.{librariesFor, libraries-append}
 use Rattle.meaning.specs.Needs.{unneeded, like-at, all-left, all-right}

@@ -18,8 +18,8 @@ use Rattle.laws.specs.Kinds.{class-kind, class-is-object}
 use Rattle.laws.specs.Runs.{encs-append}
 use Rattle.put.specs.Out.{between, headOut, byIdOut, headerOut}
 use Rattle.marks.specs.Marks.{rowAt, withId, itemType, numbered, placed, firsts, needed, marked, isFirst}
-use Rattle.libraries_out.specs.Copy.{needClassOut, classOut, objectOut, arrayOut, bodyOut, needInfoOut, recordOut, copyOf}
-use Rattle.libraries_out.specs.Laws.{recordAs, record-as}
+use Rattle.pieces.specs.Copy.{needClassOut, classOut, objectOut, arrayOut, bodyOut, needInfoOut, recordOut, copyOf}
+use Rattle.pieces.specs.Laws.{recordAs, record-as}
 use Rattle.meaning.specs.Stands.{RowStands, the-header, by-id, a-class, a-string, an-array, a-primitive, a-reference, nulls, the-end, a-library, primitives, objects, texts, a-value, ArrayStands, Stands}
 use Rattle.meaning.specs.Marked.{Placed, Firsts, classFields, arrayFields, rowFields, fieldsFrom, All, classFirst}
 use Rattle.meaning.specs.Names.{class-at, array-at}

@@ -17,7 +17,7 @@ use Rattle.fields.specs.Parts.{part-to, part-through}
 use Rattle.num.specs.Le.{Bytes}
 use Rattle.types.specs.Keeps.{code-told}
 use Rattle.put.specs.Out.{between, textOut, headOut, byIdOut, headerOut}
-use Rattle.libraries_out.specs.Copy.{libraryOut, keptOut, stringOut}
+use Rattle.pieces.specs.Copy.{libraryOut, keptOut, stringOut}
 use Rattle.meaning.specs.Stands.{StringStands}
 use Rattle.meaning.specs.Bytes.{text-is, number-is, code-kept}
 

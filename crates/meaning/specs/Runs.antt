@@ -16,8 +16,8 @@ use Rattle.fields.specs.Judged.{picked}
 use Rattle.laws.specs.Tests.{differ, either}
 use Rattle.laws.specs.Runs.{encs-append, Plain, Sort, a-null, plain, sort-of, squeeze-records}
 use Rattle.put.specs.Out.{runOut}
-use Rattle.libraries_out.specs.declared.Gathered.{Gathered}
-use Rattle.libraries_out.specs.Copy.{noneYet, isPassed, beforeOut, runAfter}
+use Rattle.pieces.specs.declared.Gathered.{Gathered}
+use Rattle.pieces.specs.Copy.{noneYet, isPassed, beforeOut, runAfter}
 use Rattle.meaning.specs.Stands.{Owner, no-owner, owned}
 use Rattle.meaning.specs.Orders.{order-object, order-le, nodes-silent, nodes-nulls, nodes-one, said-other}
 

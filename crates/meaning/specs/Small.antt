@@ -23,8 +23,8 @@ use Rattle.fields.specs.Judged.{picked}
 use Rattle.standing.specs.Members.{membersOf, membersIn}
 use Rattle.put.specs.Out.{textOver, textOut, byIdOut, headerOut, runOut}
 use Rattle.marks.specs.Marks.{Pass, pass, sweep, rowAt, withId, withSlot, withCount, word, numberOne, numbered, firstLibrary, typesPlace, placeOne, placed, libraryAt, infosPlace, firstClass, firstOne, firsts, need, needInfo, needInfos, needClass, itemType, needArray, isFirst, needOne, needed, marked}
-use Rattle.libraries_out.specs.declared.Gathered.{Gathered}
-use Rattle.libraries_out.specs.Copy.{libraryNumber, libraryOut, needOut, needInfoOut, needInfosOut, needOwnOut, needClassOut, infoOut, infosOut, ownOut, detailsOut, classOut, objectOut, itemsOut, bodyOut, arrayOut, keptOut, stringOut, recordOut, beforeOut, isPassed, runAfter, rowOut, noneYet, copyFrom, copyOf}
+use Rattle.pieces.specs.declared.Gathered.{Gathered}
+use Rattle.pieces.specs.Copy.{libraryNumber, libraryOut, needOut, needInfoOut, needInfosOut, needOwnOut, needClassOut, infoOut, infosOut, ownOut, detailsOut, classOut, objectOut, itemsOut, bodyOut, arrayOut, keptOut, stringOut, recordOut, beforeOut, isPassed, runAfter, rowOut, noneYet, copyFrom, copyOf}
 use Rattle.meaning.specs.Passes.{swept}
 
 -- ---- lengths: a part of the stream has at most 16777216 bytes; what is added to it are prefixes, kind bytes and numbers

@@ -17,9 +17,9 @@ use Rattle.format.specs.Tidy.{Progress, nothing, recordsOf, afterWhat, pack, Ru
 use Rattle.laws.specs.Tests.{differ, either}
 use Rattle.laws.specs.Runs.{encs-append}
 use Rattle.put.specs.Out.{runOut}
-use Rattle.libraries_out.specs.declared.Gathered.{Gathered}
-use Rattle.libraries_out.specs.Copy.{recordOut, noneYet, isPassed, beforeOut, runAfter, rowOut, copyFrom, copyOf}
-use Rattle.libraries_out.specs.Laws.{record-as}
+use Rattle.pieces.specs.declared.Gathered.{Gathered}
+use Rattle.pieces.specs.Copy.{recordOut, noneYet, isPassed, beforeOut, runAfter, rowOut, copyFrom, copyOf}
+use Rattle.pieces.specs.Laws.{record-as}
 use Rattle.meaning.specs.Stands.{RowStands, the-header, by-id, a-class, a-string, an-array, a-primitive, a-reference, nulls, the-end, a-library, primitives, objects, texts, a-value, Stands}
 use Rattle.meaning.specs.Orders.{said-other, nodes-silent, after-silent, after-run, after-said, progressTo, progress-none, progress-next}
 use Rattle.meaning.specs.Runs.{Match, match-none, nulls-kind, nulls-speak, nodes-passed, passed-library, before-passed, run-passed, before-other, run-other, nullsAfter, null-match, null-row, end-row, other-row}

@@ -4,7 +4,7 @@ use format::Row;
 ghost use Prim.Native.Nat.{_+_, _-_, _≤_, _<_};
 ghost use Rattle.format.specs.Rows.{rowsOf, roomOf};
 ghost use Rattle.put.specs.Put.{Filled};
-ghost use Rattle.libraries_out.specs.Copy.{keptOut, stringOut, recordOut};
+ghost use Rattle.pieces.specs.Copy.{keptOut, stringOut, recordOut};
 
 // ---- a row
 

@@ -22,7 +22,7 @@ use Rattle.links.specs.Links.{length-linked}
 use Rattle.laws.specs.Answers.{accepted-of, refused-of}
 use Rattle.standing.specs.Accepted.{accepted-stands}
 use Rattle.marks.specs.Marks.{marked}
-use Rattle.libraries_out.specs.Copy.{copyOf}
+use Rattle.pieces.specs.Copy.{copyOf}
 use Rattle.meaning.specs.FromReading.{stands, members-small, library-slots}
 use Rattle.meaning.specs.Link.{copy-is-tidy}
 use Rattle.meaning.specs.Small.{copy-small}

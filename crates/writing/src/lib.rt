@@ -9,7 +9,7 @@ ghost use Rattle.format.specs.Rows.{rowsOf, roomOf};
 ghost use Rattle.put.specs.Out.{between};
 ghost use Rattle.put.specs.Put.{Filled};
 ghost use Rattle.marks.specs.Marks.{infosPlace};
-ghost use Rattle.libraries_out.specs.Copy.{needClassOut, detailsOut, classOut, objectOut};
+ghost use Rattle.pieces.specs.Copy.{needClassOut, detailsOut, classOut, objectOut};
 
 // A class after its ObjectId: name, member count, names and type bytes are kept.
 fn put_class_fields(out: &mut [u8], s: &[u8], table: &[u32], n: usize, r: Row) -> usize

@@ -1,6 +1,6 @@
 -- The one piece or the other; the item type's byte stands in the stream.
 use Rattle.put.specs.Put.{became}
-use Rattle.libraries_out.specs.Laws.{first-piece, second-piece}
+use Rattle.pieces.specs.Laws.{first-piece, second-piece}
 use Rattle.arrays_out.specs.Laws.{need-item-is}
 use borrow.Author.Needs.{needs}
 use Rattle.arrays_out.proofs.put_array_piece.Statement.{statement}

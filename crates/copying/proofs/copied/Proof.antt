@@ -1,7 +1,7 @@
 -- The same traversal measures over an empty part, which nothing can change, and writes where there is room.
 use native.Mathlib.Omega.{arith}
 use Rattle.format.specs.Rows.{rowsOf}
-use Rattle.libraries_out.specs.Copy.{copyOf}
+use Rattle.pieces.specs.Copy.{copyOf}
 use Rattle.copying.specs.Laws.{dry, full-room, full-limit, copied-all}
 use borrow.Author.Needs.{needs}
 use Rattle.copying.proofs.copied.Statement.{statement}

@@ -7,7 +7,7 @@ use borrow.Rule.Slice.PartMut.{same-len-mid}
 use Rattle.format.specs.Rows.{rowsOf}
 use Rattle.table.specs.Rows.{length-rowsOf}
 use Rattle.put.specs.Put.{Along, along-last, became}
-use Rattle.libraries_out.specs.Copy.{copyFrom, copyOf}
+use Rattle.pieces.specs.Copy.{copyFrom, copyOf}
 use Rattle.copying.specs.Laws.{copy-start, row-copied, copy-end}
 use borrow.Author.Needs.{needs}
 use Rattle.copying.proofs.copy_all.Statement.{statement}

@@ -1,6 +1,6 @@
 -- The members' details, then the class's own library.
 use Rattle.put.specs.Put.{joined-as}
-use Rattle.libraries_out.specs.Laws.{details-is}
+use Rattle.pieces.specs.Laws.{details-is}
 use borrow.Author.Needs.{needs}
 use Rattle.details_out.proofs.put_details.Statement.{statement}
 use Rattle.details_out.proofs.put_details.Tie as tie

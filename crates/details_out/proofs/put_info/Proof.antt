@@ -1,6 +1,6 @@
 -- The detail up to its library and the new number, or all of it.
 use Rattle.put.specs.Put.{became, joined-as}
-use Rattle.libraries_out.specs.Laws.{info-4, info-none}
+use Rattle.pieces.specs.Laws.{info-4, info-none}
 use borrow.Author.Needs.{needs}
 use Rattle.details_out.proofs.put_info.Statement.{statement}
 use Rattle.details_out.proofs.put_info.Tie as tie

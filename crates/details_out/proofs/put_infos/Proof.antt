@@ -3,8 +3,8 @@ use Prim.Native.Nat.{_≤_, _+_, _-_}
 use native.Mathlib.Omega.{arith}
 use Rattle.format.specs.Rows.{rowsOf}
 use Rattle.put.specs.Put.{Along, along-more, along-end}
-use Rattle.libraries_out.specs.Copy.{infosOut}
-use Rattle.libraries_out.specs.Laws.{infos-start, infos-more, infos-end}
+use Rattle.pieces.specs.Copy.{infosOut}
+use Rattle.pieces.specs.Laws.{infos-start, infos-more, infos-end}
 use borrow.Author.Needs.{needs}
 use Rattle.details_out.proofs.put_infos.Statement.{statement}
 use Rattle.details_out.proofs.put_infos.Tie as tie

@@ -1,7 +1,7 @@
 -- The new number of the library, for kind 5.
 use Rattle.format.specs.Rows.{rowsOf}
 use Rattle.put.specs.Put.{became, nothing}
-use Rattle.libraries_out.specs.Laws.{own-5, own-none}
+use Rattle.pieces.specs.Laws.{own-5, own-none}
 use borrow.Author.Needs.{needs}
 use Rattle.details_out.proofs.put_own.Statement.{statement}
 use Rattle.details_out.proofs.put_own.Tie as tie

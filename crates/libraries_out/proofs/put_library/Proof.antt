@@ -1,6 +1,6 @@
 -- The kind and the new number, then the name.
 use Rattle.put.specs.Put.{joined-as}
-use Rattle.libraries_out.specs.Laws.{library-is}
+use Rattle.pieces.specs.Laws.{library-is}
 use borrow.Author.Needs.{needs}
 use Rattle.libraries_out.proofs.put_library.Statement.{statement}
 use Rattle.libraries_out.proofs.put_library.Tie as tie

@@ -1,6 +1,6 @@
 -- The library's record, if its mark is this field.
 use Rattle.put.specs.Put.{became, nothing}
-use Rattle.libraries_out.specs.Laws.{need-here, need-none}
+use Rattle.pieces.specs.Laws.{need-here, need-none}
 use borrow.Author.Needs.{needs}
 use Rattle.libraries_out.proofs.put_need.Statement.{statement}
 use Rattle.libraries_out.proofs.put_need.Tie as tie

@@ -1,6 +1,6 @@
 -- The records for the members, then the one for the class itself.
 use Rattle.put.specs.Put.{joined-as}
-use Rattle.libraries_out.specs.Laws.{need-class-is}
+use Rattle.pieces.specs.Laws.{need-class-is}
 use borrow.Author.Needs.{needs}
 use Rattle.libraries_out.proofs.put_need_class.Statement.{statement}
 use Rattle.libraries_out.proofs.put_need_class.Tie as tie

@@ -1,6 +1,6 @@
 -- Only a detail of type 4 names a library.
 use Rattle.put.specs.Put.{became, nothing}
-use Rattle.libraries_out.specs.Laws.{need-info-4, need-info-none}
+use Rattle.pieces.specs.Laws.{need-info-4, need-info-none}
 use borrow.Author.Needs.{needs}
 use Rattle.libraries_out.proofs.put_need_info.Statement.{statement}
 use Rattle.libraries_out.proofs.put_need_info.Tie as tie

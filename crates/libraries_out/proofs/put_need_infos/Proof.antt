@@ -3,8 +3,8 @@ use Prim.Native.Nat.{_≤_, _+_, _-_}
 use native.Mathlib.Omega.{arith}
 use Rattle.format.specs.Rows.{rowsOf}
 use Rattle.put.specs.Put.{Along, along-more, along-end}
-use Rattle.libraries_out.specs.Copy.{needInfosOut}
-use Rattle.libraries_out.specs.Laws.{needs-start, needs-more, needs-end}
+use Rattle.pieces.specs.Copy.{needInfosOut}
+use Rattle.pieces.specs.Laws.{needs-start, needs-more, needs-end}
 use borrow.Author.Needs.{needs}
 use Rattle.libraries_out.proofs.put_need_infos.Statement.{statement}
 use Rattle.libraries_out.proofs.put_need_infos.Tie as tie

@@ -1,7 +1,7 @@
 -- Only a class of kind 5 names a library.
 use Rattle.format.specs.Rows.{rowsOf}
 use Rattle.put.specs.Put.{became, nothing}
-use Rattle.libraries_out.specs.Laws.{need-own-5, need-own-none}
+use Rattle.pieces.specs.Laws.{need-own-5, need-own-none}
 use borrow.Author.Needs.{needs}
 use Rattle.libraries_out.proofs.put_need_own.Statement.{statement}
 use Rattle.libraries_out.proofs.put_need_own.Tie as tie

@@ -1,6 +1,6 @@
 -- One clause for each kind.
 use Rattle.put.specs.Put.{became, nothing}
-use Rattle.libraries_out.specs.Laws.{record-as}
+use Rattle.pieces.specs.Laws.{record-as}
 use Rattle.arrays_out.specs.Laws.{record-0, record-1, record-9, record-other}
 use borrow.Author.Needs.{needs}
 use Rattle.one_row.proofs.put_record.Statement.{statement}

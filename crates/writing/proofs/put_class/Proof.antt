@@ -1,6 +1,6 @@
 -- The kind and the new number, then the fields.
 use Rattle.put.specs.Put.{joined-as}
-use Rattle.libraries_out.specs.Laws.{class-is}
+use Rattle.pieces.specs.Laws.{class-is}
 use borrow.Author.Needs.{needs}
 use Rattle.writing.proofs.put_class.Statement.{statement}
 use Rattle.writing.proofs.put_class.Tie as tie

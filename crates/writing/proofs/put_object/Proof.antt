@@ -1,6 +1,6 @@
 -- In full, or by the first object of the class.
 use Rattle.put.specs.Put.{became}
-use Rattle.libraries_out.specs.Laws.{object-first, object-later}
+use Rattle.pieces.specs.Laws.{object-first, object-later}
 use borrow.Author.Needs.{needs}
 use Rattle.writing.proofs.put_object.Statement.{statement}
 use Rattle.writing.proofs.put_object.Tie as tie

@@ -1,5 +1,5 @@
 -- The one piece or the other.
-use Rattle.libraries_out.specs.Laws.{first-piece, second-piece}
+use Rattle.pieces.specs.Laws.{first-piece, second-piece}
 use borrow.Author.Needs.{needs}
 use Rattle.writing.proofs.put_piece.Statement.{statement}
 use Rattle.writing.proofs.put_piece.Tie as tie

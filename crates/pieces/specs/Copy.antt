@@ -11,7 +11,7 @@ use Rattle.format.specs.Numbers.{leBytes}
 use Rattle.format.specs.Rows.{isClass}
 use Rattle.format.specs.Says.{afterInfo, isNulls}
 use Rattle.put.specs.Out.{between, textOut, headOut, byIdOut, headerOut, runOut}
-use Rattle.libraries_out.specs.declared.Gathered.{Gathered}
+use Rattle.pieces.specs.declared.Gathered.{Gathered}
 use Rattle.marks.specs.Marks.{rowAt, word, libraryAt, infosPlace, itemType, isFirst}
 
 -- ---- libraries, each before the first record that needs it

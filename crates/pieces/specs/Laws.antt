@@ -15,7 +15,7 @@ use Rattle.format.specs.Says.{afterInfo, isNulls}
 use Rattle.put.specs.Out.{between, textOut, headOut, byIdOut, headerOut}
 use Rattle.put.specs.Put.{Filled, Along, along-start}
 use Rattle.marks.specs.Marks.{rowAt, word, libraryAt, infosPlace, isFirst}
-use Rattle.libraries_out.specs.Copy.{libraryNumber, libraryOut, needOut, needInfoOut, needInfosOut, needOwnOut, needClassOut, infoOut, infosOut, ownOut, detailsOut, classOut, objectOut, stringOut, arrayOut, keptOut, recordOut}
+use Rattle.pieces.specs.Copy.{libraryNumber, libraryOut, needOut, needInfoOut, needInfosOut, needOwnOut, needClassOut, infoOut, infosOut, ownOut, detailsOut, classOut, objectOut, stringOut, arrayOut, keptOut, recordOut}
 
 -- ---- what is written as two pieces
 pub library-is : (s : List ℕ) (g : Row) → libraryOut s g ≡ headOut 12 (g .link) ++ textOut s (g .offset + 5) (g .end)
