@@ -1,53 +1,36 @@
 -- What the exported forms answer: the number, the place and the value of the reply that the job has, and where the text of a row stands.
 use Prim.Native.Nat.{ℕ, _+_, _-_, _≤_}
-use mathlib.Core.Path.{_≡_, refl, sym, ap, subst, _∙_}
+use mathlib.Core.Path.{_≡_, refl, ap, ap₂, subst, _∙_}
 use mathlib.Core.List.{List}
 use native.Mathlib.Omega.{arith}
 use lib.ListN.{length}
 use Rattle.format.specs.declared.Refusal.{Refusal}
 use Rattle.format.specs.declared.Refusal.the-variants as R
 use Rattle.format.specs.declared.ReadAnswer.{ReadAnswer}
-use Rattle.format.specs.declared.ReadAnswer.the-variants as A
 use Rattle.format.specs.declared.RowAnswer.{RowAnswer}
-use Rattle.format.specs.declared.RowAnswer.the-variants as Q
 use Rattle.format.specs.declared.TidyAnswer.{TidyAnswer}
-use Rattle.format.specs.declared.TidyAnswer.the-variants as C
 use Rattle.format.specs.declared.Text.{Text}
 use Rattle.format.specs.declared.Text.the-variants as T
 use Rattle.format.specs.Bytes.{part, sameBytes}
-use Rattle.format.specs.Replies.{numberOf, Reply, reply, readReply, rowReply, tidyReply}
+use Rattle.format.specs.Replies.{numberOf, reply, readReply, rowReply, tidyReply}
 use Rattle.format.specs.Rows.{roomOf}
 use Rattle.format.specs.Machine.{readOf}
 use Rattle.format.specs.Tidy.{tidyAnswer, tidyTable, tidyOutput}
 use Rattle.format.specs.View.{rowText, rowQuestion, textView}
 use Rattle.sameness.specs.declared.Sameness.{Sameness}
-use Rattle.sameness.specs.declared.Sameness.the-variants as S
 use Rattle.sameness.specs.Sameness as W
+use Rattle.replies.specs.Replies.{Answered, answered, textReply, endingOf, listOf, sameOf}
 use Rattle.view.specs.Laws.{question-part, question-fault, view-part, view-fault, row-inside}
 
-pub record Answered (r : Reply) (number place value : ℕ) : Type 0 where
-  pub number-is : number ≡ r .number
-  pub place-is : place ≡ r .place
-  pub value-is : value ≡ r .value
+-- ---- reading, and the row question: a job's answer has the reply of what the job promises
 
--- the number, the place and the value of a reply that is another, as soon as its number is known
-pub answered : (r : Reply) (n k p v : ℕ) → reply n p v ≡ r → k ≡ n → Answered r k p v
-answered r n k p v e w =
-    record { number-is = w ∙ ap (λ (x : Reply). x .number) e; place-is = ap (λ (x : Reply). x .place) e; value-is = ap (λ (x : Reply). x .value) e }
+pub read-told : (a b : ReadAnswer) (n p v : ℕ) → a ≡ b → Answered (readReply a) n p v → Answered (readReply b) n p v
+read-told a b n p v e h = answered _ _ n p v (ap readReply e) h
 
--- ---- reading
-
-module _ (a b : ReadAnswer) (e : a ≡ b) where
-  pub accepted : (n : ℕ) → a ≡ A.Accepted n → Answered (readReply b) 0 0 n
-  accepted n q = answered _ _ _ _ _ (ap readReply (sym q ∙ e)) refl
-
-  pub refused : (r : Refusal) (p k : ℕ) → a ≡ A.Refused r p → k ≡ numberOf r → Answered (readReply b) k p 0
-  refused r p k q w = answered _ _ _ _ _ (ap readReply (sym q ∙ e)) w
+pub row-told : (a b : RowAnswer) (n : ℕ) → a ≡ b → n ≡ rowReply a .number → n ≡ rowReply b .number
+row-told a b n e h = h ∙ ap (λ (x : RowAnswer). rowReply x .number) e
 
 -- ---- tidying
-
-pub not-read : (a : TidyAnswer) (r : Refusal) (p k : ℕ) → a ≡ C.Refused r p → k ≡ numberOf r → Answered (tidyReply a) k p 0
-not-read a r p k q w = answered _ _ _ _ _ (ap tidyReply (sym q)) w
 
 -- what a tidying leaves in the table and the output, beside its reply
 pub record Tidied (s t out t' out' : List ℕ) (number place value : ℕ) : Type 0 where
@@ -62,35 +45,9 @@ pub tidied : (s t out t' out' : List ℕ) (number place value : ℕ) (a : TidyAn
     → Answered (tidyReply a) number place value
     → Tidied s t out t' out' number place value
 tidied s t out t' out' number place value a e et eo h =
-    record { answer-is = subst (λ (x : TidyAnswer). Answered (tidyReply x) number place value) e h; table-is = et; out-is = eo }
+    record { answer-is = answered _ _ number place value (ap tidyReply e) h; table-is = et; out-is = eo }
 
 -- ---- comparing
-
--- the answer of the tidying that ends a comparing: 0 and no length where both copies are written
-abbrev pub endingOf : Sameness → TidyAnswer
-endingOf S.Same = C.Written 0
-endingOf S.Different = C.Written 0
-endingOf (S.FirstRefused r p) = C.Refused r p
-endingOf (S.SecondRefused r p) = C.Refused r p
-endingOf (S.FirstFull n) = C.OutFull n
-endingOf (S.SecondFull n) = C.OutFull n
-
--- the list that is refused or has no room for its copy
-abbrev pub listOf : Sameness → ℕ
-listOf S.Same = 0
-listOf S.Different = 0
-listOf (S.FirstRefused r p) = 1
-listOf (S.SecondRefused r p) = 2
-listOf (S.FirstFull n) = 1
-listOf (S.SecondFull n) = 2
-
-abbrev pub sameOf : Sameness → ℕ
-sameOf S.Same = 1
-sameOf S.Different = 0
-sameOf (S.FirstRefused r p) = 0
-sameOf (S.SecondRefused r p) = 0
-sameOf (S.FirstFull n) = 0
-sameOf (S.SecondFull n) = 0
 
 -- the answer that the lists a and b have with a table that held t and outputs that held c and d
 abbrev pub saidOf : List ℕ → List ℕ → List ℕ → List ℕ → List ℕ → Sameness
@@ -107,28 +64,17 @@ pub record Compared (a b t c d u e f : List ℕ) (number same list place needed 
 
 pub compared : (a b t c d u e f : List ℕ) (number same list place needed : ℕ) (q : Sameness)
     → W.Answered a b t c d u e f q
-    → (x : TidyAnswer)
-    → x ≡ endingOf q
-    → Answered (tidyReply x) number place needed
+    → Answered (tidyReply (endingOf q)) number place needed
     → same ≡ sameOf q
     → list ≡ listOf q
     → Compared a b t c d u e f number same list place needed
-compared a b t c d u e f number same list place needed q w x i h k l =
+compared a b t c d u e f number same list place needed q w h k l =
     record {
       said = subst (λ (y : Sameness). W.Answered a b t c d u e f y) (w .answer) w;
-      answer-is = subst (λ (y : TidyAnswer). Answered (tidyReply y) number place needed) (i ∙ ap endingOf (w .answer)) h;
+      answer-is = answered _ _ number place needed (ap (λ (y : Sameness). tidyReply (endingOf y)) (w .answer)) h;
       same-is = k ∙ ap sameOf (w .answer);
       list-is = l ∙ ap listOf (w .answer);
     }
-
--- ---- the row question
-
-module _ (a b : RowAnswer) (e : a ≡ b) where
-  pub has-text : a ≡ Q.HasText → 0 ≡ rowReply b .number
-  has-text q = ap (λ (x : RowAnswer). rowReply x .number) (sym q ∙ e)
-
-  pub has-none : (k : ℕ) → a ≡ Q.NoSuchRow → k ≡ numberOf R.NoSuchRow → k ≡ rowReply b .number
-  has-none k q w = w ∙ ap (λ (x : RowAnswer). rowReply x .number) (sym q ∙ e)
 
 -- ---- the text view
 
@@ -148,24 +94,35 @@ pub record Shown (s t : List ℕ) (row number from count : ℕ) : Type 0 where
   pub inside : from + count ≤ length s
   pub text-is : part s from count ≡ textView s t row
 
-module _ (s t : List ℕ) (row : ℕ) (x : Text) (e : x ≡ rowText s t row) where
-  pub text-shown : (from to : ℕ) → x ≡ T.Part from to → Shown s t row 0 from (to - from)
-  text-shown from to q =
-      let w = row-inside s t row from to x e q in
+-- the reply of the row's text shows it, one law for a part and one for a fault
+module _ (s t : List ℕ) (row : ℕ) where
+  part-shown : (from to number place count : ℕ) → T.Part from to ≡ rowText s t row → Answered (reply 0 from (to - from)) number place count
+      → Shown s t row number place count
+  part-shown from to number place count e h =
+      let w = row-inside s t row from to (T.Part from to) e refl in
+      let p = h .place-is in
+      let v = h .value-is in
       record {
-        number-is = has-text _ _ (question-part s t row x e from to q) refl;
-        from-is = ap fromOf (sym q ∙ e);
-        length-is = ap lengthOf (sym q ∙ e);
+        number-is = h .number-is ∙ ap (λ (x : RowAnswer). rowReply x .number) (question-part s t row (T.Part from to) e from to refl);
+        from-is = p ∙ ap fromOf e;
+        length-is = v ∙ ap lengthOf e;
         inside = omega arith;
-        text-is = view-part s t row x e from to q;
+        text-is = ap₂ (λ (x y : ℕ). part s x y) p v ∙ view-part s t row (T.Part from to) e from to refl;
       }
 
-  pub none-shown : (f : Refusal) (k : ℕ) → x ≡ T.Fault f → k ≡ numberOf R.NoSuchRow → Shown s t row k 0 0
-  none-shown f k q w =
+  none-shown : (f : Refusal) (number place count : ℕ) → T.Fault f ≡ rowText s t row → Answered (reply (numberOf R.NoSuchRow) 0 0) number place count
+      → Shown s t row number place count
+  none-shown f number place count e h =
+      let p = h .place-is in
+      let v = h .value-is in
       record {
-        number-is = has-none _ _ (question-fault s t row x e f q) k refl w;
-        from-is = ap fromOf (sym q ∙ e);
-        length-is = ap lengthOf (sym q ∙ e);
+        number-is = h .number-is ∙ ap (λ (x : RowAnswer). rowReply x .number) (question-fault s t row (T.Fault f) e f refl);
+        from-is = p ∙ ap fromOf e;
+        length-is = v ∙ ap lengthOf e;
         inside = omega arith;
-        text-is = view-fault s t row x e f q;
+        text-is = ap₂ (λ (x y : ℕ). part s x y) p v ∙ view-fault s t row (T.Fault f) e f refl;
       }
+
+  pub shown : (x : Text) (number place count : ℕ) → x ≡ rowText s t row → Answered (textReply x) number place count → Shown s t row number place count
+  shown (T.Part from to) number place count e h = part-shown from to number place count e h
+  shown (T.Fault f) number place count e h = none-shown f number place count e h

@@ -1,5 +1,5 @@
--- The reply is that of `read`, whose promise each arm hands on.
-use Rattle.terminal.specs.Terminal.{accepted, refused}
+-- The reply and the table are those of `read`.
+use Rattle.terminal.specs.Terminal.{read-told}
 use borrow.Author.Needs.{needs}
 use Rattle.terminal.proofs.strelinga_read.Statement.{statement}
 use Rattle.terminal.proofs.strelinga_read.Tie as tie
@@ -9,14 +9,6 @@ strelinga-read-spec =
     tie.close
     (tie.spec
     (λ c κs. search needs)
-    (λ c. search needs)
-    (λ c. search needs)
     (λ c κs. search needs)
     (λ c. search needs)
-    (λ c.
-    let r = c .before .before .before .before .before .read in
-    (accepted (r .result) _ (r .ensures .0) _ (c .before .a .given .1), r .ensures .1))
-    (λ c. search needs)
-    (λ c.
-    let r = c .before .before .before .before .before .before .read in
-    (refused (r .result) _ (r .ensures .0) _ _ _ (c .before .before .a2 .given .1) (c .number-of .ensures), r .ensures .1)))
+    (λ c. search (read-told, needs)))

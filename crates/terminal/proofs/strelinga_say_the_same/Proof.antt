@@ -12,11 +12,7 @@ strelinga-say-the-same-spec =
     (λ c κs. search needs)
     (λ c κs. search needs)
     (λ c κs. search needs)
-    (λ c κs. search needs)
     (λ c. search needs)
     (λ c. search needs)
     (λ c. search needs)
-    (λ c.
-    let w = c .before .before .before .before .before .before .before .before .before .before .say-the-same in
-    compared _ _ _ _ _ _ _ _ _ _ _ _ _ _ (w .ensures) _ (c .before .before .before .ending-of .ensures) (c .before .before .tidy-reply .ensures)
-    (c .before .same-of .ensures) (c .list-of .ensures)))
+    (λ c. search (compared, needs)))

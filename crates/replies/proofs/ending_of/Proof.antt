@@ -1,7 +1,7 @@
 -- Each arm is a clause of `endingOf`.
 use borrow.Author.Needs.{needs}
-use Rattle.terminal.proofs.ending_of.Statement.{statement}
-use Rattle.terminal.proofs.ending_of.Tie as tie
+use Rattle.replies.proofs.ending_of.Statement.{statement}
+use Rattle.replies.proofs.ending_of.Tie as tie
 
 pub ending-of-spec : {M : Type 1} → statement M
 ending-of-spec =

@@ -1,0 +1,2 @@
+-- What the public jobs reply, as numbers.
+pub mod Replies
