@@ -1,5 +1,5 @@
--- What the grammar allows and does not, on worked lists of records: a library in a slot and a reference to what the list has; no null run past an
--- object's end, none over a primitive member, no library twice, no class that comes later.
+-- What the grammar allows and does not, on worked lists of records: a library in a slot, a reference to what the list has before it or after it, an
+-- object of a class that is still open; no null run past an object's end, none over a primitive member, no library twice, no class that comes later.
 use Prim.Native.Nat.{ℕ, suc, _≤_, _<_}
 use mathlib.Core.Path.{_≡_, refl}
 use mathlib.Core.Bool.{Bool, true, false, _||_}
@@ -12,31 +12,41 @@ use Rattle.format.specs.declared.PrimitiveCode.the-variants as C
 use Rattle.format.specs.declared.SlotType.{SlotType}
 use Rattle.format.specs.declared.SlotType.the-variants as S
 use Rattle.format.specs.declared.Row.{Row}
+use Rattle.format.specs.Bytes.{pick}
 use Rattle.format.specs.Numbers.{leBytes}
 use Rattle.format.specs.Prefix.{groupsOf}
 use Rattle.format.specs.Text.{needOf, loOf, hiOf, leadOf, stepOf, after, wellFormed}
 use Rattle.format.specs.Rows.{findFrom, objectRow, linkOf, linked, withLink, rowsOf}
 use Rattle.format.specs.Contents.{text, Rec, header, classById, nulls, end, library, objectArray, enc, encs}
-use Rattle.format.specs.Grammar.{Name, Entry, no-more, member, Cur, cur, Object, library-class, Body, hollow, filled, Slots, full, somePrimitive, class-by-id, an-object, a-string, a-reference, a-run, a-library, Array, of-objects, Objects, the-end, one-object, one-array, one-library, among, Reading}
+use Rattle.format.specs.Contents.{object as anything}
+use Rattle.format.specs.Grammar.{Name, Entry, no-more, member, Cur, cur, Object, system-class, library-class, Body, hollow, filled, Slots, full, somePrimitive, class-by-id, an-object, a-string, a-reference, a-run, a-library, Array, of-objects, Objects, the-end, one-object, one-string, one-array, one-library, among, Reading}
 use Rattle.format.specs.Examples.{hexOnto}
-use Rattle.format.specs.Lists.{jaw, named, inSlot, inSlotRows}
+use Rattle.format.specs.Lists.{jaw, named, inSlot, inSlotRows, forwards, forwardsRows}
 
 -- ---- allowed
 
 name-of : (t : List ℕ) → wellFormed t ≡ true → length t < 2147483648 → Name t
 name-of t a b = record { good = a; short = b }
 
+-- a row before the links of references are made
+abbrev unlinked : Row → Row
+unlinked r = pick (eqb (r .kind) 9) (withLink r 0) r
+
 -- what follows the header
 abbrev rest : List Rec
 rest = drop 1 (inSlot 4294967295 4 6 2 9 text 2)
 
--- the one reference names the text
-to-text : (i : ℕ) → among i (2 ∷ []) ≡ true → among i (4 ∷ 6 ∷ 2 ∷ []) ≡ true
-to-text i e = rw (eqb-true i 2 (either (eqb i 2) e))
+-- an id that is among one is that one
+only : (i j : ℕ) → among i (j ∷ []) ≡ true → i ≡ j
+only i j e = eqb-true i j (either (eqb i j) e)
   where
     either : (b : Bool) → (b || false) ≡ true → b ≡ true
     either true e = refl
     either false e = e
+
+-- the one reference names the text
+to-text : (i : ℕ) → among i (2 ∷ []) ≡ true → among i (4 ∷ 6 ∷ 2 ∷ []) ≡ true
+to-text i e = rw (only i 2 e)
 
 -- a library stands in a slot, and a reference names what the list has
 pub allowed-in-slot : Reading (encs (inSlot 4294967295 4 6 2 9 text 2)) (rowsOf 7 inSlotRows)
@@ -46,7 +56,7 @@ allowed-in-slot =
       root = 4;
       header-id = 4294967295;
       rs = rest;
-      is = map (λ (r : Row). withLink r 0) (drop 1 (rowsOf 7 inSlotRows));
+      is = map unlinked (drop 1 (rowsOf 7 inSlotRows));
       root-bits = omega arith;
       header-bits = omega arith;
       bytes-are = refl;
@@ -63,6 +73,37 @@ allowed-in-slot =
           (the-end refl);
       rooted = refl;
       targets = to-text;
+      rows-are = refl;
+    }
+
+-- the one reference names the text, which comes later
+to-later : (i : ℕ) → among i (3 ∷ []) ≡ true → among i (1 ∷ 2 ∷ 3 ∷ []) ≡ true
+to-later i e = rw (only i 3 e)
+
+-- a reference may point forwards, and an object may be of a class whose first object is still open
+pub allowed-forwards : Reading (encs forwards) (rowsOf 6 forwardsRows)
+unfolding rowsOf linked linkOf objectRow findFrom encs enc leBytes groupsOf wellFormed after stepOf leadOf hiOf loOf needOf hexOnto
+allowed-forwards =
+    record {
+      root = 1;
+      header-id = 1;
+      rs = drop 1 forwards;
+      is = map unlinked (drop 1 (rowsOf 6 forwardsRows));
+      root-bits = omega arith;
+      header-bits = omega arith;
+      bytes-are = refl;
+      small = omega arith;
+      objects-are =
+          one-object (system-class {i = 1} {n = 0x50 ∷ []} {ms = named anything} (record { apart = refl; bits = omega arith; fresh = refl })
+          (record { named = name-of (0x50 ∷ []) refl (omega arith); counted = omega arith; members = member (name-of (0x4E ∷ []) refl (omega arith)) tt no-more })
+          refl
+          (filled (an-object refl
+          (class-by-id {i = 2} {k = 1} (record { apart = refl; bits = omega arith; fresh = refl }) (omega arith) refl refl
+          (filled (a-reference refl refl refl full)))
+          full)))
+          (one-string (record { sign = refl; fresh = refl }) (name-of jaw refl (omega arith)) refl (the-end refl));
+      rooted = refl;
+      targets = to-later;
       rows-are = refl;
     }
 

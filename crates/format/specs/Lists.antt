@@ -15,7 +15,7 @@ use Rattle.format.specs.Rows.{words, findFrom, objectRow, classRow, libr
 use Rattle.format.specs.Records.{allowed, kindOf, kindAt, ownLibraryAt, headerAt, stringRecordAt, referenceAt, nullsAt, longNullsAt, libraryAt, infoKnown, infosAt, membersAt, classAt, classByIdAt, slotArrayAt, headingAt}
 use Rattle.format.specs.Machine.{close, filled, opened, add, object, nullRun, ending, act, recordStep, step, finish, run, Outcome, accepted, refused, readOf, readAnswer, tableWords}
 use Rattle.format.specs.View.{recordText, rowText, rowQuestion, textView}
-use Rattle.format.specs.Contents.{Detail, text, Member, typeByte, Rec, header, classById, libraryClass, string, reference, null, nulls, end, library, objectArray, enc, encs}
+use Rattle.format.specs.Contents.{Detail, text, Member, typeByte, Rec, header, classById, systemClass, libraryClass, string, reference, null, nulls, end, library, objectArray, enc, encs}
 use Rattle.format.specs.Contents.{object as anything}
 use Rattle.format.specs.Says.{numbersFrom, libraryName, detailFrom, membersFrom, classFrom, arrayFrom, objectsIn, orderOf, whatFrom, spread, nodesOf, nodesFrom, What, anObject, aString, anArray, aPrimitive, aReference, aNull, aPrimitiveArray, anObjectArray, aStringArray, aValue, Node, Model, says}
 use Rattle.format.specs.Tidy.{sameDetail, sameMembers, sameClass, numberIn, entered, allEntered, libraryRecords, recordsOf, afterWhat, pack, runOf, written, waiting, squeeze, tidyRecords, tidyOf, tidyAnswer, tidyOutput, tidyTable}
@@ -43,6 +43,10 @@ twoParts d =
     header 2 0 ∷ library 5 (0x4C ∷ []) ∷ libraryClass 4 (0x50 ∷ []) (named text) 5 ∷ null
     ∷ libraryClass 2 (0x50 ∷ []) (named d) 5 ∷ null ∷ end ∷ []
 
+-- a part P; in its slot another one, of the class whose first object is still open, with a reference to a text that comes later
+abbrev pub forwards : List Rec
+forwards = header 1 1 ∷ systemClass 1 (0x50 ∷ []) (named anything) ∷ classById 2 1 ∷ reference 3 ∷ string 3 jaw ∷ end ∷ []
+
 -- ---- read and tidied
 
 abbrev pub inSlotRows : List ℕ
@@ -65,6 +69,15 @@ twoPartsRows =
     ∷ 10 ∷ 61 ∷ 62 ∷ 0 ∷ 5 ∷ 0 ∷ 0 ∷ 1
     ∷ 11 ∷ 62 ∷ 63 ∷ 0 ∷ 0 ∷ 0 ∷ 0 ∷ 0 ∷ []
 
+abbrev pub forwardsRows : List ℕ
+forwardsRows =
+    0 ∷ 0 ∷ 17 ∷ 1 ∷ 0 ∷ 0 ∷ 2 ∷ 0
+    ∷ 4 ∷ 17 ∷ 31 ∷ 1 ∷ 0 ∷ 0 ∷ 0 ∷ 1
+    ∷ 1 ∷ 31 ∷ 40 ∷ 2 ∷ 2 ∷ 0 ∷ 2 ∷ 1
+    ∷ 9 ∷ 40 ∷ 45 ∷ 3 ∷ 3 ∷ 0 ∷ 5 ∷ 0
+    ∷ 6 ∷ 45 ∷ 55 ∷ 3 ∷ 0 ∷ 0 ∷ 0 ∷ 0
+    ∷ 11 ∷ 55 ∷ 56 ∷ 0 ∷ 0 ∷ 0 ∷ 0 ∷ 0 ∷ []
+
 -- the start of both tidy copies: the second object is the root, and the library stands before the first record that needs it
 abbrev pub firstPart : List Rec
 firstPart = header 2 2 ∷ library 1 (0x4C ∷ []) ∷ libraryClass 1 (0x50 ∷ []) (named text) 1 ∷ null ∷ []
@@ -74,6 +87,7 @@ lists =
     entry (encs (inSlot 4294967295 4 6 2 9 text 2)) 64 80 (accepts inSlotRows (4 ∷ 4 ∷ jaw)) (writes (encs (inSlot 1 1 2 3 1 text 3)))
     ∷ entry (encs (twoParts text)) 64 80 (accepts twoPartsRows []) (writes (encs (firstPart ++ (classById 2 1 ∷ null ∷ end ∷ []))))
     ∷ entry (encs (twoParts anything)) 64 80 (accepts twoPartsRows []) (writes (encs (firstPart ++ (libraryClass 2 (0x50 ∷ []) (named anything) 1 ∷ null ∷ end ∷ []))))
+    ∷ entry (encs forwards) 64 80 (accepts forwardsRows (4 ∷ 4 ∷ jaw)) (writes (encs forwards))
     ∷ []
 
 pub list-examples : None (failing 0 lists)
