@@ -1,8 +1,8 @@
 // Rows by the names of their words, and what the record of a class says of its members: names and primitive codes, found in the stream where the
 // class's row points. Every stream, table and row is taken; a row that is not there has words of 0.
 use format::Row;
-use spelling::Span;
-use spelling::on;
+use peeking::Span;
+use peeking::on;
 
 // ---- rows
 
@@ -74,7 +74,7 @@ pub fn class_row(table: &[u32], r: Row) -> Row {
 // The place of the first of a class's member names, after its name and its count.
 fn names_at(s: &[u8], r: Row) -> usize {
     let name = on(s, r.offset as usize, 5);
-    on(s, spelling::after_string(s, name), 4)
+    on(s, peeking::after_string(s, name), 4)
 }
 
 // The place after n strings.
@@ -82,7 +82,7 @@ fn after_strings(s: &[u8], from: usize, n: u32) -> usize {
     let mut at = from;
     let mut i: u32 = 0;
     while i < n {
-        at = spelling::after_string(s, at);
+        at = peeking::after_string(s, at);
         i += 1;
     }
     at
@@ -90,15 +90,15 @@ fn after_strings(s: &[u8], from: usize, n: u32) -> usize {
 
 // The name of member k.
 pub fn member_name(s: &[u8], r: Row, k: u32) -> Span {
-    spelling::string_at(s, after_strings(s, names_at(s, r), k))
+    peeking::string_at(s, after_strings(s, names_at(s, r), k))
 }
 
 // The place after the detail of a type.
 fn after_detail(s: &[u8], at: usize, t: u8) -> usize {
     match t {
         0 | 7 => on(s, at, 1),
-        3 => spelling::after_string(s, at),
-        4 => on(s, spelling::after_string(s, at), 4),
+        3 => peeking::after_string(s, at),
+        4 => on(s, peeking::after_string(s, at), 4),
         _ => at,
     }
 }
@@ -108,7 +108,7 @@ fn detail_of(s: &[u8], types: usize, details: usize, k: u32) -> usize {
     let mut at = details;
     let mut i: u32 = 0;
     while i < k {
-        at = after_detail(s, at, spelling::byte_at(s, on(s, types, i as usize)));
+        at = after_detail(s, at, peeking::byte_at(s, on(s, types, i as usize)));
         i += 1;
     }
     at
@@ -118,7 +118,7 @@ fn detail_of(s: &[u8], types: usize, details: usize, k: u32) -> usize {
 pub fn member_code(s: &[u8], r: Row, k: u32) -> u8 {
     let types = after_strings(s, names_at(s, r), r.count);
     let details = on(s, types, r.count as usize);
-    spelling::byte_at(s, detail_of(s, types, details, k))
+    peeking::byte_at(s, detail_of(s, types, details, k))
 }
 
 // The LibraryId of a class, its last four bytes.
@@ -126,10 +126,10 @@ pub fn library_of(s: &[u8], r: Row) -> u32 {
     if r.end < 4 {
         return 0;
     }
-    spelling::u32_at(s, (r.end as usize) - 4)
+    peeking::u32_at(s, (r.end as usize) - 4)
 }
 
 // The name of a class, from the row that has its fields.
 pub fn class_name(s: &[u8], r: Row) -> Span {
-    spelling::string_at(s, on(s, r.offset as usize, 5))
+    peeking::string_at(s, on(s, r.offset as usize, 5))
 }

@@ -86,7 +86,7 @@ fn byte(b: u8, marked: bool) {
 fn marked_bytes(s: &[u8], from: usize, to: usize, mark: usize) {
     let mut i = from;
     while i < to {
-        byte(spelling::byte_at(s, i), i == mark);
+        byte(peeking::byte_at(s, i), i == mark);
         i += 1;
     }
 }
@@ -105,7 +105,7 @@ pub fn around(s: &[u8], place: usize) {
     say(b"bytes from ");
     number(from as u64);
     say(b":");
-    marked_bytes(s, from, spelling::on(s, place, 12), place);
+    marked_bytes(s, from, peeking::on(s, place, 12), place);
     if s.len() <= place {
         say(b" [end]");
     }

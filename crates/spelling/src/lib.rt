@@ -1,107 +1,11 @@
 // Spells out what stands in the bytes of a stream, for people: numbers, texts with their control characters escaped, and primitive values by their
-// code. Every stream and every place is taken; past the end stand zeros and empty texts. What is written cannot be promised; the programs' stored
-// outputs hold it.
+// code. Every stream and every place is taken. What is written cannot be promised; the programs' stored outputs hold it.
 use libc::STDOUT_FILENO;
-ghost use Prim.Native.Nat.{_≤_, _<_};
-ghost use lib.ListN.{length};
-
-// ---- places
-
-// The place n bytes on, never past the end.
-pub fn on(s: &[u8], at: usize, n: usize) -> usize {
-    if s.len() <= at {
-        return s.len();
-    }
-    if s.len() - at < n {
-        return s.len();
-    }
-    at + n
-}
-
-// The byte at a place.
-pub fn byte_at(s: &[u8], at: usize) -> u8 {
-    if s.len() <= at {
-        return 0;
-    }
-    s[at]
-}
-
-// Two halves joined. They are parameters, so that each has its range at hand.
-fn join2(low: u8, high: u8) -> u16 {
-    (low as u16) + 256 * (high as u16)
-}
-
-fn join4(low: u16, high: u16) -> u32 {
-    (low as u32) + 65536 * (high as u32)
-}
-
-fn join8(low: u32, high: u32) -> u64 {
-    (low as u64) + 4294967296 * (high as u64)
-}
-
-// The number of two, four and eight bytes at a place.
-pub fn u16_at(s: &[u8], at: usize) -> u16 {
-    join2(byte_at(s, at), byte_at(s, on(s, at, 1)))
-}
-
-pub fn u32_at(s: &[u8], at: usize) -> u32 {
-    join4(u16_at(s, at), u16_at(s, on(s, at, 2)))
-}
-
-pub fn u64_at(s: &[u8], at: usize) -> u64 {
-    join8(u32_at(s, at), u32_at(s, on(s, at, 4)))
-}
-
-// Where a text begins and ends.
-pub struct Span {
-    pub from: usize,
-    pub to: usize,
-}
-
-// The low seven bits.
-fn group(b: u8) -> usize
-    ensures { λ r. ⌜ r < 128 ⌝ }
-{
-    (b % 128) as usize
-}
-
-// The text after a prefix of so many bytes.
-fn text_after(s: &[u8], at: usize, prefix: usize, n: usize) -> Span {
-    let from = on(s, at, prefix);
-    Span {
-        from: from,
-        to: on(s, from, n),
-    }
-}
-
-// The text of a prefixed string. No text of a stream within its limit has a prefix of five bytes.
-pub fn string_at(s: &[u8], at: usize) -> Span {
-    let a = byte_at(s, at);
-    if a < 128 {
-        return text_after(s, at, 1, group(a));
-    }
-    let b = byte_at(s, on(s, at, 1));
-    if b < 128 {
-        return text_after(s, at, 2, group(a) + 128 * group(b));
-    }
-    let c = byte_at(s, on(s, at, 2));
-    if c < 128 {
-        return text_after(s, at, 3, group(a) + 128 * group(b) + 16384 * group(c));
-    }
-    let d = byte_at(s, on(s, at, 3));
-    text_after(
-        s,
-        at,
-        4,
-        group(a) + 128 * group(b) + 16384 * group(c) + 2097152 * group(d),
-    )
-}
-
-// The place after a prefixed string.
-pub fn after_string(s: &[u8], at: usize) -> usize {
-    let t = string_at(s, at);
-    t.to
-}
+use peeking::Span;
+use peeking::byte_at;
+use peeking::u16_at;
+use peeking::u32_at;
+use peeking::u64_at;
 
 // ---- words, numbers and texts
 
@@ -131,32 +35,6 @@ pub fn int32(n: u32) {
     signed(n as u64, 4294967295);
 }
 
-// Whether a byte of a text is shown as it is: no control character and no backslash.
-fn is_plain(b: u8) -> bool {
-    if b < 32 {
-        return false;
-    }
-    if b == 92 {
-        return false;
-    }
-    b != 127
-}
-
-// Where the bytes from a place on that are shown as they are end.
-fn plain_end(s: &[u8], at: usize) -> usize
-    requires { ⌜ at ≤ length (now s) ⌝ }
-    ensures { λ r. ⌜ (at ≤ r) × (r ≤ length (now (s .entry))) ⌝ }
-{
-    let mut i = at;
-    while i < s.len() {
-        if !is_plain(s[i]) {
-            return i;
-        }
-        i += 1;
-    }
-    i
-}
-
 // A byte that is not shown as it is.
 fn escaped(b: u8) {
     match b {
@@ -174,7 +52,7 @@ fn escaped(b: u8) {
 pub fn text(s: &[u8]) {
     let mut at: usize = 0;
     while at < s.len() {
-        let end = plain_end(s, at);
+        let end = peeking::plain_end(s, at);
         say(&s[at..end]);
         if s.len() <= end {
             return;
@@ -219,39 +97,6 @@ pub fn code_name(code: u8) {
     }
 }
 
-// How many bytes a Char has, by the first of them.
-fn char_size(b: u8) -> usize {
-    if b < 128 {
-        return 1;
-    }
-    if b < 224 {
-        return 2;
-    }
-    if b < 240 {
-        return 3;
-    }
-    4
-}
-
-// How many bytes a value has whose code alone says so.
-fn fixed_size(code: u8) -> usize {
-    match code {
-        1 | 2 | 10 => 1,
-        7 | 14 => 2,
-        8 | 11 | 15 => 4,
-        _ => 8,
-    }
-}
-
-// The place after a value.
-pub fn after_value(s: &[u8], at: usize, code: u8) -> usize {
-    match code {
-        3 => on(s, at, char_size(byte_at(s, at))),
-        5 => after_string(s, at),
-        _ => on(s, at, fixed_size(code)),
-    }
-}
-
 fn boolean(b: u8) {
     if b == 0 {
         say(b"false");
@@ -267,7 +112,7 @@ fn char_value(s: &[u8], at: usize) {
         s,
         Span {
             from: at,
-            to: after_value(s, at, 3),
+            to: peeking::after_value(s, at, 3),
         },
     );
     say(b"'");
@@ -307,7 +152,7 @@ pub fn value(s: &[u8], at: usize, code: u8) {
         1 => boolean(byte_at(s, at)),
         2 => number(byte_at(s, at) as u64),
         3 => char_value(s, at),
-        5 => text_of(s, string_at(s, at)),
+        5 => text_of(s, peeking::string_at(s, at)),
         6 => bits(u64_at(s, at), 16),
         7 => signed(u16_at(s, at) as u64, 65535),
         8 => int32(u32_at(s, at)),

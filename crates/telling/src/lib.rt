@@ -4,9 +4,9 @@ use format::Row;
 use format::RowAnswer;
 use members::named_row;
 use members::row_at;
-use spelling::Span;
+use peeking::Span;
+use peeking::on;
 use spelling::number;
-use spelling::on;
 use spelling::say;
 
 // ---- words for what rows have in common
@@ -76,15 +76,15 @@ fn defined(r: Row) {
 // The type of an array's items, by its type byte and the place of its detail.
 fn type_name(s: &[u8], t: u8, detail: usize) {
     match t {
-        0 => spelling::code_name(spelling::byte_at(s, detail)),
+        0 => spelling::code_name(peeking::byte_at(s, detail)),
         1 => say(b"string"),
         2 => say(b"object"),
-        3 => quoted(s, spelling::string_at(s, detail)),
-        4 => quoted(s, spelling::string_at(s, detail)),
+        3 => quoted(s, peeking::string_at(s, detail)),
+        4 => quoted(s, peeking::string_at(s, detail)),
         5 => say(b"object array"),
         6 => say(b"string array"),
         _ => {
-            spelling::code_name(spelling::byte_at(s, detail));
+            spelling::code_name(peeking::byte_at(s, detail));
             say(b" array");
         }
     }
@@ -101,7 +101,7 @@ fn items(s: &[u8], from: usize, code: u8, n: u32) {
         }
         separator(i, b", ");
         spelling::value(s, at, code);
-        at = spelling::after_value(s, at, code);
+        at = peeking::after_value(s, at, code);
         i += 1;
     }
 }
@@ -128,7 +128,7 @@ fn lengths(s: &[u8], from: usize, rank: u32) {
     let mut i: u32 = 0;
     while i < rank {
         separator(i, b" x ");
-        number(spelling::u32_at(s, at) as u64);
+        number(peeking::u32_at(s, at) as u64);
         at = on(s, at, 4);
         i += 1;
     }
@@ -197,11 +197,11 @@ fn array_type(t: u8) {
 // An array of kind 7: its lengths, its slots and the type of its items; primitive items lie in it.
 fn array(s: &[u8], r: Row) {
     let at = on(s, r.offset as usize, 6);
-    let rank = spelling::u32_at(s, at);
+    let rank = peeking::u32_at(s, at);
     let after = after_lengths(s, at, rank);
-    let t = spelling::byte_at(s, after);
+    let t = peeking::byte_at(s, after);
     let detail = on(s, after, 1);
-    array_type(spelling::byte_at(s, on(s, r.offset as usize, 5)));
+    array_type(peeking::byte_at(s, on(s, r.offset as usize, 5)));
     defined(r);
     say(b", ");
     shape(s, on(s, at, 4), rank);
@@ -209,7 +209,7 @@ fn array(s: &[u8], r: Row) {
     say(b" of ");
     type_name(s, t, detail);
     if t == 0 {
-        listed(s, on(s, detail, 1), spelling::byte_at(s, detail), r.count);
+        listed(s, on(s, detail, 1), peeking::byte_at(s, detail), r.count);
     }
 }
 
@@ -227,7 +227,7 @@ fn typed(s: &[u8], at: usize, code: u8) {
 
 // A primitive array of kind 15.
 fn primitive_array(s: &[u8], r: Row) {
-    let code = spelling::byte_at(s, on(s, r.offset as usize, 9));
+    let code = peeking::byte_at(s, on(s, r.offset as usize, 9));
     defined(r);
     say(b", ");
     counted(r.count, b"item");
@@ -246,7 +246,7 @@ fn library(s: &[u8], r: Row) {
     say(b"library ");
     spelling::int32(r.id);
     say(b": ");
-    quoted(s, spelling::string_at(s, on(s, r.offset as usize, 5)));
+    quoted(s, peeking::string_at(s, on(s, r.offset as usize, 5)));
 }
 
 // A member value, whose code stands in its owner's class.
@@ -265,7 +265,7 @@ fn record(s: &[u8], table: &[u32], row: usize, r: Row) {
         4 | 5 => class(s, r),
         6 => string(s, table, row, r),
         7 => array(s, r),
-        8 => typed(s, on(s, at, 2), spelling::byte_at(s, on(s, at, 1))),
+        8 => typed(s, on(s, at, 2), peeking::byte_at(s, on(s, at, 1))),
         9 => arrow(r.id, r.link),
         10 | 13 | 14 => counted(r.count, b"empty slot"),
         11 => say(b"end"),

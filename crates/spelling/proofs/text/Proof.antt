@@ -1,7 +1,9 @@
 -- The place stays within the text; the measure is what is left.
 use Prim.Native.Nat.{_≤_, _-_}
 use lib.ListN.{length}
+use native.Mathlib.Omega.{arith}
 use borrow.Author.Needs.{needs}
+use Rattle.peeking.specs.Laws.{plain-within}
 use Rattle.spelling.proofs.text.Statement.{statement}
 use Rattle.spelling.proofs.text.Tie as tie
 
@@ -19,14 +21,14 @@ text-spec =
     μ-loop
     (λ c. search needs)
     (λ c κs. search needs)
-    (λ c. search needs)
-    (λ c. search needs)
-    (λ c. search needs)
+    (λ c. omega (arith, plain-within _ _ _ (c .plain-end .ensures) (omega arith)))
+    (λ c. omega (arith, plain-within _ _ _ (c .plain-end .ensures) (omega arith)))
+    (λ c. omega (arith, plain-within _ _ _ (c .plain-end .ensures) (omega arith)))
     (λ c κs. search needs)
     (λ c. search needs)
     (λ c. search needs)
     (λ c κs. search needs)
-    (λ c. search needs)
-    (λ c. search needs)
-    (λ c. search needs)
+    (λ c. omega (arith, plain-within _ _ _ (c .before .before .before .before .before .plain-end .ensures) (omega arith)))
+    (λ c. omega (arith, plain-within _ _ _ (c .before .before .before .before .before .plain-end .ensures) (omega arith)))
+    (λ c. omega (arith, plain-within _ _ _ (c .before .before .before .before .before .plain-end .ensures) (omega arith)))
     (λ c. search needs))

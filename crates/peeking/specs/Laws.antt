@@ -1,0 +1,104 @@
+-- Laws of places: one for each way that the code ends, and where plain bytes end.
+use Prim.Native.Nat.{ℕ, zero, suc, _+_, _≤_, _<_}
+use mathlib.Core.Path.{_≡_, refl, sym}
+use mathlib.Core.Bool.{Bool, true, false}
+use mathlib.Core.List.{List, [], _∷_}
+use native.Mathlib.Omega.{arith}
+use native.Mathlib.Numerals.{add-one}
+use lib.ListN.{length, getD, drop, length-drop, drop-of-length-le, List·getD-eq-default}
+use lib.Seq.{drop-cons}
+use lib.Dec.{leb}
+use borrow.Author.Needs.{needs}
+use borrow.Author.Tests.{lt-ltb, le-ltb, le-leb, lt-leb, eq-eqb, ne-eqb, leb-true}
+use Rattle.format.specs.Bytes.{pick}
+use Rattle.peeking.specs.declared.Span.{Span}
+use Rattle.peeking.specs.Peeking.{onward, byteAt, groupsSay, spanFrom, spanBy, spanAt, afterString, isPlain, plainCount, plainEnd, charSize, fixedSize, afterValue}
+
+-- closes a return whose definition picks its case by tests
+pub ruleset auto = (needs, lt-ltb, le-ltb, le-leb, lt-leb, eq-eqb, ne-eqb)
+
+-- ---- places
+
+pub onward-in : (s : List ℕ) (at n : ℕ) → at + n ≤ length s → at + n ≡ onward s at n
+unfolding onward
+onward-in s at n h = simp le-leb
+
+pub onward-end : (s : List ℕ) (at n : ℕ) → length s ≤ at → length s ≡ onward s at n
+unfolding onward
+onward-end s at n h = go (leb (at + n) (length s)) refl
+  where
+    go : (t : Bool) → leb (at + n) (length s) ≡ t → length s ≡ pick t (at + n) (length s)
+    go true e = omega (arith, leb-true (at + n) (length s) e)
+    go false e = refl
+
+pub onward-past : (s : List ℕ) (at n : ℕ) → length s < at + n → length s ≡ onward s at n
+unfolding onward
+onward-past s at n h = simp lt-leb
+
+pub byte-past : (s : List ℕ) (at : ℕ) → length s ≤ at → 0 ≡ byteAt s at
+byte-past s at h = sym (List·getD-eq-default s 0 {n = at} h)
+
+-- ---- the texts of strings
+
+module _ (s : List ℕ) (at n : ℕ) (r : Span) where
+  pub span-one : (a : ℕ) → r ≡ spanFrom s at 1 n → n ≡ groupsSay a 0 0 0 → a ≡ byteAt s at → a < 128 → r ≡ spanAt s at
+  unfolding spanAt spanBy
+  span-one a e g f h = rw (← f, lt-ltb a 128 h, ← g) e
+
+  pub span-two : (a b : ℕ) → r ≡ spanFrom s at 2 n → n ≡ groupsSay a b 0 0 → a ≡ byteAt s at → b ≡ byteAt s (onward s at 1)
+      → 128 ≤ a → b < 128 → r ≡ spanAt s at
+  unfolding spanAt spanBy
+  span-two a b e g f1 f2 h1 h2 = rw (← f1, ← f2, le-ltb a 128 h1, lt-ltb b 128 h2, ← g) e
+
+  pub span-three : (a b c : ℕ) → r ≡ spanFrom s at 3 n → n ≡ groupsSay a b c 0 → a ≡ byteAt s at → b ≡ byteAt s (onward s at 1)
+      → c ≡ byteAt s (onward s at 2) → 128 ≤ a → 128 ≤ b → c < 128 → r ≡ spanAt s at
+  unfolding spanAt spanBy
+  span-three a b c e g f1 f2 f3 h1 h2 h3 = rw (← f1, ← f2, ← f3, le-ltb a 128 h1, le-ltb b 128 h2, lt-ltb c 128 h3, ← g) e
+
+  pub span-four : (a b c d : ℕ) → r ≡ spanFrom s at 4 n → n ≡ groupsSay a b c d → a ≡ byteAt s at → b ≡ byteAt s (onward s at 1)
+      → c ≡ byteAt s (onward s at 2) → d ≡ byteAt s (onward s at 3) → 128 ≤ a → 128 ≤ b → 128 ≤ c → r ≡ spanAt s at
+  unfolding spanAt spanBy
+  span-four a b c d e g f1 f2 f3 f4 h1 h2 h3 = rw (← f1, ← f2, ← f3, ← f4, le-ltb a 128 h1, le-ltb b 128 h2, le-ltb c 128 h3, ← g) e
+
+-- ---- plain bytes
+
+pub plain-past : (s : List ℕ) (at : ℕ) → length s ≤ at → plainEnd s at ≡ at
+unfolding plainEnd plainCount
+plain-past s at h = rw (drop-of-length-le s h) (omega arith)
+
+pub plain-stop : (s : List ℕ) (at : ℕ) → at < length s → isPlain (getD s at 0) ≡ false → plainEnd s at ≡ at
+unfolding plainEnd plainCount
+plain-stop s at h e = rw (drop-cons s at 0, e) (omega arith)
+
+pub plain-on : (s : List ℕ) (at : ℕ) → at < length s → isPlain (getD s at 0) ≡ true → plainEnd s at ≡ plainEnd s (at + 1)
+unfolding plainEnd plainCount
+plain-on s at h e = rw (add-one, drop-cons s at 0, e) (omega arith)
+
+count-within : (l : List ℕ) → plainCount l ≤ length l
+unfolding plainCount
+count-within [] = omega arith
+count-within (b ∷ l) = go (isPlain b) (count-within l)
+  where
+    go : (t : Bool) → plainCount l ≤ length l → pick t (suc (plainCount l)) 0 ≤ suc (length l)
+    go true h = omega arith
+    go false h = omega arith
+
+-- it lies between the place and the end
+pub plain-within : (s : List ℕ) (at end : ℕ) → end ≡ plainEnd s at → at ≤ length s → (at ≤ end) × (end ≤ length s)
+unfolding plainEnd
+plain-within s at end e h = (omega arith, omega (arith, count-within (drop at s), length-drop at s))
+
+-- ---- primitive values
+
+module _ (s : List ℕ) (at code : ℕ) where
+  pub value-char : code ≡ 3 → onward s at (charSize (byteAt s at)) ≡ afterValue s at code
+  unfolding afterValue
+  value-char e = rw e
+
+  pub value-decimal : code ≡ 5 → afterString s at ≡ afterValue s at code
+  unfolding afterValue
+  value-decimal e = rw e
+
+  pub value-fixed : (code ≡ 3 → ⊥) → (code ≡ 5 → ⊥) → onward s at (fixedSize code) ≡ afterValue s at code
+  unfolding afterValue
+  value-fixed a b = simp ne-eqb

@@ -1,0 +1,82 @@
+-- What stands at a place of a stream: every place is taken, and past the end stand zeros and empty texts. Of a stream whose fields are good it
+-- is what the format's own definitions find there.
+use Prim.Native.Nat.{ℕ, zero, suc, _+_, _*_, _%_}
+use mathlib.Core.Bool.{Bool, true, false, _||_}
+use mathlib.Core.List.{List, [], _∷_}
+use lib.ListN.{length, getD, drop}
+use lib.Dec.{ltb, leb, eqb}
+use Rattle.format.specs.Bytes.{pick}
+use Rattle.peeking.specs.declared.Span.{Span}
+
+-- the place n bytes on, never past the end
+unfoldable pub onward : List ℕ → ℕ → ℕ → ℕ
+onward s at n = pick (leb (at + n) (length s)) (at + n) (length s)
+
+abbrev pub byteAt : List ℕ → ℕ → ℕ
+byteAt s at = getD s at 0
+
+-- ---- numbers, by halves
+
+unfoldable pub twoAt : List ℕ → ℕ → ℕ
+twoAt s at = byteAt s at + 256 * byteAt s (onward s at 1)
+
+unfoldable pub fourAt : List ℕ → ℕ → ℕ
+fourAt s at = twoAt s at + 65536 * twoAt s (onward s at 2)
+
+unfoldable pub eightAt : List ℕ → ℕ → ℕ
+eightAt s at = fourAt s at + 4294967296 * fourAt s (onward s at 4)
+
+-- ---- the texts of strings
+
+-- what the bytes of a prefix say: seven bits a byte, the low group first
+abbrev pub groupsSay : ℕ → ℕ → ℕ → ℕ → ℕ
+groupsSay a b c d = a % 128 + 128 * (b % 128) + 16384 * (c % 128) + 2097152 * (d % 128)
+
+-- n bytes after a prefix of k bytes
+unfoldable pub spanFrom : List ℕ → ℕ → ℕ → ℕ → Span
+spanFrom s at k n = record { from = onward s at k; to = onward s (onward s at k) n }
+
+-- the text of a string whose prefix begins with these four bytes, and ends at the first below 128
+unfoldable pub spanBy : List ℕ → ℕ → ℕ → ℕ → ℕ → ℕ → Span
+spanBy s at a b c d =
+    pick (ltb a 128) (spanFrom s at 1 (groupsSay a 0 0 0))
+    (pick (ltb b 128) (spanFrom s at 2 (groupsSay a b 0 0))
+    (pick (ltb c 128) (spanFrom s at 3 (groupsSay a b c 0)) (spanFrom s at 4 (groupsSay a b c d))))
+
+-- the text of a string
+unfoldable pub spanAt : List ℕ → ℕ → Span
+spanAt s at = spanBy s at (byteAt s at) (byteAt s (onward s at 1)) (byteAt s (onward s at 2)) (byteAt s (onward s at 3))
+
+unfoldable pub afterString : List ℕ → ℕ → ℕ
+afterString s at = spanAt s at .to
+
+-- no control character and no backslash
+unfoldable pub isPlain : ℕ → Bool
+isPlain b = pick (ltb b 32) false (pick (eqb b 92) false (pick (eqb b 127) false true))
+
+-- how many plain bytes begin a list
+unfoldable pub plainCount : List ℕ → ℕ
+plainCount [] = 0
+plainCount (b ∷ l) = pick (isPlain b) (suc (plainCount l)) 0
+
+-- the first place from at on whose byte is not plain, or the end
+unfoldable pub plainEnd : List ℕ → ℕ → ℕ
+plainEnd s at = at + plainCount (drop at s)
+
+-- ---- primitive values
+
+-- how many bytes a Char has, by the first of them
+unfoldable pub charSize : ℕ → ℕ
+charSize b = pick (ltb b 128) 1 (pick (ltb b 224) 2 (pick (ltb b 240) 3 4))
+
+-- how many bytes a value has whose code alone says so
+unfoldable pub fixedSize : ℕ → ℕ
+fixedSize code =
+    pick (eqb code 1 || (eqb code 2 || eqb code 10)) 1
+    (pick (eqb code 7 || eqb code 14) 2 (pick (eqb code 8 || (eqb code 11 || eqb code 15)) 4 8))
+
+-- the place after a value
+unfoldable pub afterValue : List ℕ → ℕ → ℕ → ℕ
+afterValue s at code =
+    pick (eqb code 3) (onward s at (charSize (byteAt s at)))
+    (pick (eqb code 5) (afterString s at) (onward s at (fixedSize code)))

@@ -1,0 +1,207 @@
+// What stands at a place of a stream, for programs that show lists: bytes, numbers, the texts of strings, where values end. Every stream and
+// every place is taken; past the end stand zeros and empty texts.
+ghost use Prim.Native.Nat.{_+_, _*_, _%_};
+ghost use mathlib.Core.Path.{_≡_};
+ghost use Rattle.peeking.specs.Peeking.{onward, byteAt, twoAt, fourAt, eightAt, groupsSay, spanFrom, spanAt, afterString};
+ghost use Rattle.peeking.specs.Peeking.{charSize, fixedSize, afterValue, isPlain, plainEnd};
+
+// ---- places
+
+// The place n bytes on, never past the end.
+pub fn on(s: &[u8], at: usize, n: usize) -> usize
+    ensures { λ r. ⌜ r ≡ onward (now (s .entry)) at n ⌝ }
+{
+    if s.len() <= at {
+        return s.len();
+    }
+    if s.len() - at < n {
+        return s.len();
+    }
+    at + n
+}
+
+// The byte at a place.
+pub fn byte_at(s: &[u8], at: usize) -> u8
+    ensures { λ r. ⌜ r ≡ byteAt (now (s .entry)) at ⌝ }
+{
+    if s.len() <= at {
+        return 0;
+    }
+    s[at]
+}
+
+// ---- numbers
+
+// Two halves joined. They are parameters, so that each has its range at hand.
+fn join2(low: u8, high: u8) -> u16
+    ensures { λ r. ⌜ r ≡ low + 256 * high ⌝ }
+{
+    (low as u16) + 256 * (high as u16)
+}
+
+fn join4(low: u16, high: u16) -> u32
+    ensures { λ r. ⌜ r ≡ low + 65536 * high ⌝ }
+{
+    (low as u32) + 65536 * (high as u32)
+}
+
+fn join8(low: u32, high: u32) -> u64
+    ensures { λ r. ⌜ r ≡ low + 4294967296 * high ⌝ }
+{
+    (low as u64) + 4294967296 * (high as u64)
+}
+
+// The number of two, four and eight bytes at a place.
+pub fn u16_at(s: &[u8], at: usize) -> u16
+    ensures { λ r. ⌜ r ≡ twoAt (now (s .entry)) at ⌝ }
+{
+    join2(byte_at(s, at), byte_at(s, on(s, at, 1)))
+}
+
+pub fn u32_at(s: &[u8], at: usize) -> u32
+    ensures { λ r. ⌜ r ≡ fourAt (now (s .entry)) at ⌝ }
+{
+    join4(u16_at(s, at), u16_at(s, on(s, at, 2)))
+}
+
+pub fn u64_at(s: &[u8], at: usize) -> u64
+    ensures { λ r. ⌜ r ≡ eightAt (now (s .entry)) at ⌝ }
+{
+    join8(u32_at(s, at), u32_at(s, on(s, at, 4)))
+}
+
+// ---- the texts of strings
+
+// Where a text begins and ends.
+pub struct Span {
+    pub from: usize,
+    pub to: usize,
+}
+
+// The low seven bits.
+fn group(b: u8) -> usize
+    ensures { λ r. ⌜ r ≡ b % 128 ⌝ }
+{
+    (b % 128) as usize
+}
+
+// What the bytes of a prefix say, the low group first; a byte that is not there is 0.
+fn groups(a: u8, b: u8, c: u8, d: u8) -> usize
+    ensures { λ r. ⌜ r ≡ groupsSay a b c d ⌝ }
+{
+    group(a) + 128 * group(b) + 16384 * group(c) + 2097152 * group(d)
+}
+
+// The text after a prefix of so many bytes.
+fn text_after(s: &[u8], at: usize, prefix: usize, n: usize) -> Span
+    ensures { λ r. ⌜ r ≡ spanFrom (now (s .entry)) at prefix n ⌝ }
+{
+    let from = on(s, at, prefix);
+    Span {
+        from: from,
+        to: on(s, from, n),
+    }
+}
+
+// The text of a prefixed string. No text of a stream within its limit has a prefix of five bytes.
+pub fn string_at(s: &[u8], at: usize) -> Span
+    ensures { λ r. ⌜ r ≡ spanAt (now (s .entry)) at ⌝ }
+{
+    let a = byte_at(s, at);
+    if a < 128 {
+        return text_after(s, at, 1, groups(a, 0, 0, 0));
+    }
+    let b = byte_at(s, on(s, at, 1));
+    if b < 128 {
+        return text_after(s, at, 2, groups(a, b, 0, 0));
+    }
+    let c = byte_at(s, on(s, at, 2));
+    if c < 128 {
+        return text_after(s, at, 3, groups(a, b, c, 0));
+    }
+    text_after(s, at, 4, groups(a, b, c, byte_at(s, on(s, at, 3))))
+}
+
+// The place after a prefixed string.
+pub fn after_string(s: &[u8], at: usize) -> usize
+    ensures { λ r. ⌜ r ≡ afterString (now (s .entry)) at ⌝ }
+{
+    let t = string_at(s, at);
+    t.to
+}
+
+// Whether a byte of a text is shown as it is: no control character and no backslash.
+pub fn is_plain(b: u8) -> bool
+    ensures { λ r. ⌜ r ≡ isPlain b ⌝ }
+{
+    if b < 32 {
+        return false;
+    }
+    if b == 92 {
+        return false;
+    }
+    if b == 127 {
+        return false;
+    }
+    true
+}
+
+// Where the bytes from a place on that are shown as they are end; a place past the end itself.
+pub fn plain_end(s: &[u8], at: usize) -> usize
+    ensures { λ r. ⌜ r ≡ plainEnd (now (s .entry)) at ⌝ }
+{
+    let mut i = at;
+    while i < s.len() {
+        if !is_plain(s[i]) {
+            return i;
+        }
+        i += 1;
+    }
+    i
+}
+
+// ---- primitive values
+
+// How many bytes a Char has, by the first of them.
+fn char_size(b: u8) -> usize
+    ensures { λ r. ⌜ r ≡ charSize b ⌝ }
+{
+    if b < 128 {
+        return 1;
+    }
+    if b < 224 {
+        return 2;
+    }
+    if b < 240 {
+        return 3;
+    }
+    4
+}
+
+// How many bytes a value has whose code alone says so.
+fn fixed_size(code: u8) -> usize
+    ensures { λ r. ⌜ r ≡ fixedSize code ⌝ }
+{
+    match code {
+        1 => 1,
+        2 => 1,
+        10 => 1,
+        7 => 2,
+        14 => 2,
+        8 => 4,
+        11 => 4,
+        15 => 4,
+        _ => 8,
+    }
+}
+
+// The place after a value.
+pub fn after_value(s: &[u8], at: usize, code: u8) -> usize
+    ensures { λ r. ⌜ r ≡ afterValue (now (s .entry)) at code ⌝ }
+{
+    match code {
+        3 => on(s, at, char_size(byte_at(s, at))),
+        5 => after_string(s, at),
+        _ => on(s, at, fixed_size(code)),
+    }
+}
