@@ -3,11 +3,16 @@
 use format::Row;
 use peeking::Span;
 use peeking::on;
+ghost use mathlib.Core.Path.{_≡_};
+ghost use Rattle.members.specs.Members.{wordOf, rowIn, namedRow, depthOf, hasMembers, fieldsRow, namesAt, afterStrings, memberName};
+ghost use Rattle.members.specs.Members.{afterDetail, detailOf, memberCode, libraryOf, className};
 
 // ---- rows
 
 // Word k of a row, 0 where there is none.
-fn word(table: &[u32], row: usize, k: usize) -> u32 {
+fn word(table: &[u32], row: usize, k: usize) -> u32
+    ensures { λ r. ⌜ r ≡ wordOf (now (table .entry)) row k ⌝ }
+{
     if table.len() / 8 <= row {
         return 0;
     }
@@ -18,7 +23,9 @@ fn word(table: &[u32], row: usize, k: usize) -> u32 {
 }
 
 // The words of a row by their names.
-pub fn row_at(table: &[u32], row: usize) -> Row {
+pub fn row_at(table: &[u32], row: usize) -> Row
+    ensures { λ r. ⌜ r ≡ rowIn (now (table .entry)) row ⌝ }
+{
     Row {
         kind: word(table, row, 0),
         offset: word(table, row, 1),
@@ -32,7 +39,9 @@ pub fn row_at(table: &[u32], row: usize) -> Row {
 }
 
 // The row that an owner or link word names: such a word is the row's number plus 1.
-pub fn named_row(w: u32) -> usize {
+pub fn named_row(w: u32) -> usize
+    ensures { λ r. ⌜ r ≡ namedRow w ⌝ }
+{
     if w == 0 {
         return 0;
     }
@@ -40,7 +49,9 @@ pub fn named_row(w: u32) -> usize {
 }
 
 // How many objects a row stands in. At most 64 objects are open.
-pub fn depth_of(table: &[u32], owner: u32) -> usize {
+pub fn depth_of(table: &[u32], owner: u32) -> usize
+    ensures { λ r. ⌜ r ≡ depthOf (now (table .entry)) owner ⌝ }
+{
     let mut w = owner;
     let mut depth: usize = 0;
     while depth < 64 {
@@ -54,9 +65,13 @@ pub fn depth_of(table: &[u32], owner: u32) -> usize {
 }
 
 // Whether a kind is that of a class's object.
-pub fn is_class(kind: u32) -> bool {
+pub fn is_class(kind: u32) -> bool
+    ensures { λ r. ⌜ r ≡ hasMembers kind ⌝ }
+{
     match kind {
-        1 | 4 | 5 => true,
+        1 => true,
+        4 => true,
+        5 => true,
         _ => false,
     }
 }
@@ -64,7 +79,9 @@ pub fn is_class(kind: u32) -> bool {
 // ---- the fields of a class record
 
 // The row that has the fields of an object's class: of kind 1 the row that it names.
-pub fn class_row(table: &[u32], r: Row) -> Row {
+pub fn class_row(table: &[u32], r: Row) -> Row
+    ensures { λ a. ⌜ a ≡ fieldsRow (now (table .entry)) r ⌝ }
+{
     if r.kind == 1 {
         return row_at(table, named_row(r.link));
     }
@@ -72,13 +89,17 @@ pub fn class_row(table: &[u32], r: Row) -> Row {
 }
 
 // The place of the first of a class's member names, after its name and its count.
-fn names_at(s: &[u8], r: Row) -> usize {
+fn names_at(s: &[u8], r: Row) -> usize
+    ensures { λ a. ⌜ a ≡ namesAt (now (s .entry)) r ⌝ }
+{
     let name = on(s, r.offset as usize, 5);
     on(s, peeking::after_string(s, name), 4)
 }
 
 // The place after n strings.
-fn after_strings(s: &[u8], from: usize, n: u32) -> usize {
+fn after_strings(s: &[u8], from: usize, n: u32) -> usize
+    ensures { λ r. ⌜ r ≡ afterStrings n (now (s .entry)) from ⌝ }
+{
     let mut at = from;
     let mut i: u32 = 0;
     while i < n {
@@ -89,14 +110,19 @@ fn after_strings(s: &[u8], from: usize, n: u32) -> usize {
 }
 
 // The name of member k.
-pub fn member_name(s: &[u8], r: Row, k: u32) -> Span {
+pub fn member_name(s: &[u8], r: Row, k: u32) -> Span
+    ensures { λ a. ⌜ a ≡ memberName (now (s .entry)) r k ⌝ }
+{
     peeking::string_at(s, after_strings(s, names_at(s, r), k))
 }
 
 // The place after the detail of a type.
-fn after_detail(s: &[u8], at: usize, t: u8) -> usize {
+fn after_detail(s: &[u8], at: usize, t: u8) -> usize
+    ensures { λ r. ⌜ r ≡ afterDetail (now (s .entry)) at t ⌝ }
+{
     match t {
-        0 | 7 => on(s, at, 1),
+        0 => on(s, at, 1),
+        7 => on(s, at, 1),
         3 => peeking::after_string(s, at),
         4 => on(s, peeking::after_string(s, at), 4),
         _ => at,
@@ -104,7 +130,9 @@ fn after_detail(s: &[u8], at: usize, t: u8) -> usize {
 }
 
 // The place of the detail of member k, from the places of the type bytes and of the first detail.
-fn detail_of(s: &[u8], types: usize, details: usize, k: u32) -> usize {
+fn detail_of(s: &[u8], types: usize, details: usize, k: u32) -> usize
+    ensures { λ r. ⌜ r ≡ detailOf (now (s .entry)) types details k ⌝ }
+{
     let mut at = details;
     let mut i: u32 = 0;
     while i < k {
@@ -115,14 +143,18 @@ fn detail_of(s: &[u8], types: usize, details: usize, k: u32) -> usize {
 }
 
 // The primitive code of member k.
-pub fn member_code(s: &[u8], r: Row, k: u32) -> u8 {
+pub fn member_code(s: &[u8], r: Row, k: u32) -> u8
+    ensures { λ a. ⌜ a ≡ memberCode (now (s .entry)) r k ⌝ }
+{
     let types = after_strings(s, names_at(s, r), r.count);
     let details = on(s, types, r.count as usize);
     peeking::byte_at(s, detail_of(s, types, details, k))
 }
 
 // The LibraryId of a class, its last four bytes.
-pub fn library_of(s: &[u8], r: Row) -> u32 {
+pub fn library_of(s: &[u8], r: Row) -> u32
+    ensures { λ a. ⌜ a ≡ libraryOf (now (s .entry)) r ⌝ }
+{
     if r.end < 4 {
         return 0;
     }
@@ -130,6 +162,8 @@ pub fn library_of(s: &[u8], r: Row) -> u32 {
 }
 
 // The name of a class, from the row that has its fields.
-pub fn class_name(s: &[u8], r: Row) -> Span {
+pub fn class_name(s: &[u8], r: Row) -> Span
+    ensures { λ a. ⌜ a ≡ className (now (s .entry)) r ⌝ }
+{
     peeking::string_at(s, on(s, r.offset as usize, 5))
 }
