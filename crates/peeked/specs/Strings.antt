@@ -70,6 +70,11 @@ module _ (s : List ℕ) where
         ∙ from-in p 4 n e (omega arith) room
     found (more m i h a l (more m2 i2 h2 a2 l2 (more m3 i3 h3 a3 l3 (more m4 i4 h4 a4 l4 t)))) = absurd (omega arith)
 
+-- n bytes after a prefix that says n
+pub prefix-found : (s : List ℕ) (p n e : ℕ) → n < 268435456 → e + n ≤ length s → prefixAt s p ≡ P.Length n e
+    → spanAt s p ≡ record { from = e; to = e + n }
+prefix-found s p n e small room q = found s p n e small room (groups-at s p n e q)
+
 -- a stream that is read is far shorter than a prefix of five bytes can say
 pub string-found : (s : List ℕ) (p from to : ℕ) → length s < 268435456 → stringAt s p ≡ T.Part from to → spanAt s p ≡ record { from = from; to = to }
 string-found s p from to h q =
@@ -78,4 +83,4 @@ string-found s p from to h q =
     let t = judged-taken wellFormed R.BadText s from n to (w .1 .ends) in
     let ends : to ≡ from + n = t .ends in
     let room : from + n ≤ length s = t .room in
-    rw ends (found s p n from (omega arith) room (groups-at s p n from (w .1 .says)))
+    rw ends (prefix-found s p n from (omega arith) room (w .1 .says))
