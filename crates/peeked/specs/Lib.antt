@@ -1,4 +1,5 @@
--- Where the format's definitions find a number, a text or a value, programs for people find the same.
+-- Where the format's definitions find a number, a text, the end of a value or a row, programs for people find the same.
 pub mod Numbers
 pub mod Strings
 pub mod Values
+pub mod Rows
