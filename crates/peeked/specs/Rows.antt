@@ -5,11 +5,10 @@ use mathlib.Core.List.{List}
 use native.Mathlib.Omega.{arith}
 use native.Mathlib.Nat.{add-zero}
 use native.Mathlib.Decide.{decLt}
-use lib.ListN.{length, getD}
-use Rattle.format.specs.declared.Row.{Row}
+use lib.ListN.{getD}
 use Rattle.format.specs.Rows.{blank, roomOf, rowsOf}
 use Rattle.table.specs.Rows.{row-in, row-out}
-use Rattle.members.specs.Members.{wordOf, rowIn}
+use Rattle.members.specs.Members.{rowIn}
 use Rattle.members.specs.Laws.{word-in, word-out}
 
 pub row-found : (t : List ℕ) (i : ℕ) → rowIn t i ≡ getD (rowsOf (roomOf t) t) i blank

@@ -1,6 +1,6 @@
 -- Where the format finds the text of a string in a stream within its limit, programs for people find the same.
-use Prim.Native.Nat.{ℕ, zero, suc, _+_, _*_, _%_, _≤_, _<_}
-use mathlib.Core.Path.{_≡_, refl, sym, ap, _∙_}
+use Prim.Native.Nat.{ℕ, _+_, _*_, _%_, _≤_, _<_}
+use mathlib.Core.Path.{_≡_, refl, sym, _∙_}
 use mathlib.Core.List.{List}
 use native.Mathlib.Omega.{arith}
 use lib.ListN.{length, getD}
@@ -12,8 +12,7 @@ use Rattle.format.specs.Text.{wellFormed, stringAt}
 use Rattle.fields.specs.Judged.{judged-taken}
 use Rattle.prefix.specs.Laws.{One, On, every}
 use Rattle.strings.specs.Laws.{string-told}
-use Rattle.peeking.specs.declared.Span.{Span}
-use Rattle.peeking.specs.Peeking.{onward, byteAt, groupsSay, spanFrom, spanAt}
+use Rattle.peeking.specs.Peeking.{onward, byteAt, spanFrom, spanAt}
 use Rattle.peeking.specs.Laws.{onward-in, span-one, span-two, span-three, span-four}
 
 module _ (s : List ℕ) where

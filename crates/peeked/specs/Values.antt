@@ -1,12 +1,11 @@
 -- Where the format reads a value in a stream within its limit, programs for people find the same place after it.
-use Prim.Native.Nat.{ℕ, _+_, _*_, _/_, _%_, _≤_, _<_}
+use Prim.Native.Nat.{ℕ, _+_, _≤_, _<_}
 use mathlib.Core.Path.{_≡_, refl, sym, ap, _∙_}
-use mathlib.Core.Bool.{Bool, true, false}
 use mathlib.Core.List.{List}
 use native.Mathlib.Omega.{arith}
 use lib.ListN.{length, getD}
 use lib.Dec.{ltb, leb, eqb}
-use borrow.Author.Tests.{ltb-true, ltb-false, leb-true, eqb-false}
+use borrow.Author.Tests.{ltb-true, leb-true, eqb-false}
 use Rattle.format.specs.declared.Refusal.the-variants as R
 use Rattle.format.specs.declared.PrimitiveCode.{PrimitiveCode}
 use Rattle.format.specs.declared.PrimitiveCode.the-variants as C
@@ -14,9 +13,8 @@ use Rattle.format.specs.declared.Prefix.{Prefix}
 use Rattle.format.specs.declared.Prefix.the-variants as P
 use Rattle.format.specs.declared.Number64.{Number64}
 use Rattle.format.specs.declared.Number64.the-variants as N64
-use Rattle.format.specs.declared.Field.{Field}
 use Rattle.format.specs.declared.Field.the-variants as F
-use Rattle.format.specs.Bytes.{pick, part}
+use Rattle.format.specs.Bytes.{pick}
 use Rattle.format.specs.Numbers.{u64At}
 use Rattle.format.specs.Prefix.{prefixAt}
 use Rattle.format.specs.Text.{needOf, wellFormed}
@@ -25,7 +23,7 @@ use Rattle.format.specs.Values.{bytesAt, booleanAt, scalarAt, charAt, decimal, 
 use Rattle.fields.specs.Judged.{picked, told, other, no-end, judgedAt, judged-taken}
 use Rattle.num.specs.Read.{u64-says}
 use Rattle.peeking.specs.declared.Span.{Span}
-use Rattle.peeking.specs.Peeking.{onward, byteAt, spanAt, afterString, charSize, fixedSize, afterValue}
+use Rattle.peeking.specs.Peeking.{onward, byteAt, afterString, charSize, fixedSize, afterValue}
 use Rattle.peeking.specs.Laws.{onward-in}
 use Rattle.peeked.specs.Strings.{prefix-found}
 

@@ -1,6 +1,6 @@
 -- What stands at a place of a stream: every place is taken, and past the end stand zeros and empty texts. Of a stream whose fields are good it
 -- is what the format's own definitions find there.
-use Prim.Native.Nat.{ℕ, zero, suc, _+_, _*_, _%_}
+use Prim.Native.Nat.{ℕ, suc, _+_, _*_, _%_}
 use mathlib.Core.Bool.{Bool, true, false, _||_}
 use mathlib.Core.List.{List, [], _∷_}
 use lib.ListN.{length, getD, drop}

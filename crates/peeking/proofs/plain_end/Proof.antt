@@ -1,5 +1,5 @@
 -- Where the plain bytes from the place on end is where those from the index on end; the measure is what is left.
-use Prim.Native.Nat.{_≤_, _-_}
+use Prim.Native.Nat.{_-_}
 use mathlib.Core.Path.{_≡_, refl, sym, _∙_}
 use native.Mathlib.Omega.{arith}
 use lib.ListN.{length}

@@ -1,4 +1,4 @@
--- One law for each length of a prefix.
+-- One law for each length of a prefix. Of the places b1 to b4, each is where that byte of the prefix was read.
 use borrow.Author.Needs.{needs}
 use native.Mathlib.Omega.{arith}
 use Rattle.peeking.specs.Laws.{span-one, span-two, span-three, span-four}
@@ -12,28 +12,46 @@ string-at-spec =
     (λ c κs. search needs)
     (λ c κs. search needs)
     (λ c κs. search needs)
-    (λ c. span-one (c .before .before .before .before .before .args .s .now) (c .before .before .before .before .before .args .at) _ _ _ (c .text-after .ensures) (c .before .groups .ensures) (c .before .before .before .byte-at .ensures) (omega arith))
+    (λ c.
+    let b1 = c .before .before .before in
+    let a = b1 .before .before .args in
+    span-one (a .s .now) (a .at) _ _ _ (c .text-after .ensures) (c .before .groups .ensures) (b1 .byte-at .ensures) (omega arith))
     (λ c κs. search needs)
     (λ c κs. search needs)
     (λ c κs. search needs)
     (λ c κs. search needs)
     (λ c.
-    let b1 = rw (c .before .before .before .before .on .ensures) at (c .before .before .before .byte-at2 .ensures) in
-    span-two (c .before .before .before .before .before .before .before .before .args .s .now) (c .before .before .before .before .before .before .before .before .args .at) _ _ _ _ (c .text-after2 .ensures) (c .before .groups2 .ensures) (c .before .before .before .before .before .before .byte-at .ensures) b1 (omega arith) (omega arith))
+    let b2 = c .before .before .before in
+    let b1 = b2 .before .before .before in
+    let a = b1 .before .before .args in
+    let second = rw (b2 .before .on .ensures) at (b2 .byte-at2 .ensures) in
+    span-two (a .s .now) (a .at) _ _ _ _ (c .text-after2 .ensures) (c .before .groups2 .ensures) (b1 .byte-at .ensures) second (omega arith)
+    (omega arith))
     (λ c κs. search needs)
     (λ c κs. search needs)
     (λ c κs. search needs)
     (λ c κs. search needs)
     (λ c.
-    let b1 = rw (c .before .before .before .before .before .before .before .on .ensures) at (c .before .before .before .before .before .before .byte-at2 .ensures) in
-    let b2 = rw (c .before .before .before .before .on2 .ensures) at (c .before .before .before .byte-at3 .ensures) in
-    span-three (c .before .before .before .before .before .before .before .before .before .before .before .args .s .now) (c .before .before .before .before .before .before .before .before .before .before .before .args .at) _ _ _ _ _ (c .text-after3 .ensures) (c .before .groups3 .ensures) (c .before .before .before .before .before .before .before .before .before .byte-at .ensures) b1 b2 (omega arith) (omega arith) (omega arith))
+    let b3 = c .before .before .before in
+    let b2 = b3 .before .before .before in
+    let b1 = b2 .before .before .before in
+    let a = b1 .before .before .args in
+    let second = rw (b2 .before .on .ensures) at (b2 .byte-at2 .ensures) in
+    let third = rw (b3 .before .on2 .ensures) at (b3 .byte-at3 .ensures) in
+    span-three (a .s .now) (a .at) _ _ _ _ _ (c .text-after3 .ensures) (c .before .groups3 .ensures) (b1 .byte-at .ensures) second third
+    (omega arith) (omega arith) (omega arith))
     (λ c κs. search needs)
     (λ c κs. search needs)
     (λ c κs. search needs)
     (λ c κs. search needs)
     (λ c.
-    let b1 = rw (c .before .before .before .before .before .before .before .before .before .on .ensures) at (c .before .before .before .before .before .before .before .before .byte-at2 .ensures) in
-    let b2 = rw (c .before .before .before .before .before .before .on2 .ensures) at (c .before .before .before .before .before .byte-at3 .ensures) in
-    let b3 = rw (c .before .before .before .on3 .ensures) at (c .before .before .byte-at4 .ensures) in
-    span-four (c .before .before .before .before .before .before .before .before .before .before .before .before .before .args .s .now) (c .before .before .before .before .before .before .before .before .before .before .before .before .before .args .at) _ _ _ _ _ _ (c .text-after4 .ensures) (c .before .groups4 .ensures) (c .before .before .before .before .before .before .before .before .before .before .before .byte-at .ensures) b1 b2 b3 (omega arith) (omega arith) (omega arith)))
+    let b4 = c .before .before in
+    let b3 = b4 .before .before .before in
+    let b2 = b3 .before .before .before in
+    let b1 = b2 .before .before .before in
+    let a = b1 .before .before .args in
+    let second = rw (b2 .before .on .ensures) at (b2 .byte-at2 .ensures) in
+    let third = rw (b3 .before .on2 .ensures) at (b3 .byte-at3 .ensures) in
+    let fourth = rw (b4 .before .on3 .ensures) at (b4 .byte-at4 .ensures) in
+    span-four (a .s .now) (a .at) _ _ _ _ _ _ (c .text-after4 .ensures) (c .before .groups4 .ensures) (b1 .byte-at .ensures) second third fourth
+    (omega arith) (omega arith) (omega arith)))
