@@ -1,5 +1,4 @@
-// The fields of the array records: kinds 15, 16 and 17, and kind 7 with its rank, lengths and item type. Every field is judged where it
-// stands, and the product of the lengths after the last of them.
+// The fields of the array records with one length: kinds 15, 16 and 17. Every field is judged where it stands.
 use format::Field;
 use format::Head;
 use format::Heading;

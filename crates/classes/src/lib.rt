@@ -1,4 +1,4 @@
-// Class records: the fields of kinds 1, 4 and 5, with their members' types and libraries, each judged where it stands.
+// Class records: the fields of kinds 4 and 5, each judged where it stands.
 use format::Field;
 use format::Heading;
 use format::Number32;

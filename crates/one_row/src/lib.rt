@@ -1,4 +1,4 @@
-// Writes what a row is in the tidy copy: arrays and kept objects here, classes and libraries by the crate `writing`, and the choice by kind.
+// Writes what a row is in the tidy copy: records that are kept here, classes by the crate `writing`, arrays by `arrays_out`, and the choice by kind.
 use format::ObjectNo;
 use format::Row;
 ghost use Prim.Native.Nat.{_+_, _-_, _≤_, _<_};

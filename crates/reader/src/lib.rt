@@ -1,4 +1,4 @@
-// Reading a stream into a lent table of rows: a step, the loop over steps, what is judged after the end record, and the words that are
+// Reading a stream into a lent table of rows: the loop over steps, what is judged after the end record, and the words that are
 // left in the table.
 use adding::Step;
 use format::ObjectNo;

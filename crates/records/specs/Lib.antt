@@ -1,3 +1,3 @@
--- Parts of records by name, what a kind byte says, what the fields of a record say, and where they end.
+-- Parts of records by name, and what the fields of a record say.
 pub mod Stages
 pub mod Laws

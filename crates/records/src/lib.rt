@@ -1,5 +1,5 @@
-// What may stand where, and what the fields of a record say: a function for each kind that has neither members nor slots, and the one
-// that asks the kind. Every field is judged where it stands: missing bytes, then its content, before the next one is looked at.
+// What the fields of a record say: a function for each kind that has neither members nor slots. Every field is judged where it stands: missing
+// bytes, then its content, before the next one is looked at.
 use format::Field;
 use format::Heading;
 use format::LibraryNo;

@@ -72,7 +72,7 @@ pub fn slot_from(k: u32) -> SlotType
     }
 }
 
-// ---- the open objects
+// ---- counts
 
 // The difference, or 0 where b is greater.
 pub fn less(a: u32, b: u32) -> u32

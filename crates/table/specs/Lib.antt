@@ -1,3 +1,3 @@
--- The laws of the table: any width of row, the rows of eight words, the lookups, the links.
+-- The laws of the table: any width of row, the rows of eight words.
 pub mod Chunks
 pub mod Rows

@@ -1,4 +1,4 @@
-// The rows of the lent run of words: read, written, looked up by number, linked. Of the crates that the
+// The rows of the lent run of words: read, written, cleared. Of the crates that the
 // public jobs are made of, only this one knows that a row has eight words and where they lie.
 use format::Row;
 ghost use mathlib.Core.Path.{_≡_};

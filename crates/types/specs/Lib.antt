@@ -1,2 +1,2 @@
--- Laws of primitive codes, types, details and slots.
+-- Where types and details end, and that they look at their bytes alone.
 pub mod Keeps

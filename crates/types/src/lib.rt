@@ -1,4 +1,4 @@
-// Primitive codes, type bytes and their details at a place, and the types of an object's slots. A field whose bytes are missing is cut
+// Names, LibraryIds, type bytes and their details at a place, one and in a row. A field whose bytes are missing is cut
 // short, whatever the place is, before its bytes are judged.
 use format::Field;
 use format::Number32;

@@ -1,4 +1,4 @@
-// Primitive values and the items of a primitive array at a place: each answers the place after it, or the refusal. Bytes that are
+// A primitive value at a place, by its code: it answers the place after it, or the refusal. Bytes that are
 // missing are cut short, whatever the place is, before the bytes are judged.
 use format::Field;
 use format::PrimitiveCode;

@@ -1,4 +1,4 @@
-// Writes the records of the tidy copy from marked rows: libraries and classes. Every writer takes the unwritten rest of the output and answers the
+// Writes the record of a class from marked rows, the libraries that it needs before it, and its later objects. Every writer takes the unwritten rest of the output and answers the
 // length that its bytes need; so the same functions measure and write.
 use format::ObjectNo;
 use format::Row;
