@@ -15,6 +15,8 @@ use Rattle.format.specs.Bytes.{pick}
 use Rattle.format.specs.Rows.{blank, rowsOf, isObject, isClass, findFrom, objectRow, classRow, libraryRow}
 use Rattle.fields.specs.Tests.{both-of}
 use Rattle.table.specs.Rows.{length-rowsOf}
+use Rattle.lookups.specs.declared.Wanted.{Wanted}
+use Rattle.lookups.specs.declared.Wanted.the-variants as W
 
 -- a row of one of these kinds and of this number
 unfoldable pub named : (ℕ → Bool) → ℕ → Row → Bool
@@ -22,6 +24,18 @@ named kinds id r = kinds (r .kind) && eqb (r .id) id
 
 abbrev pub isLibrary : ℕ → Bool
 isLibrary kind = eqb kind 12
+
+-- the number of what is looked up
+unfoldable pub idOf : Wanted → ℕ
+idOf (W.Object id) = id .0
+idOf (W.Class id) = id .0
+idOf (W.Library id) = id .0
+
+-- the kinds of the rows that can be it
+unfoldable pub isOf : Wanted → ℕ → Bool
+isOf (W.Object id) kind = isObject kind
+isOf (W.Class id) kind = isClass kind
+isOf (W.Library id) kind = isLibrary kind
 
 -- what a row's number w and its kind k say
 module _ (kinds : ℕ → Bool) (id : ℕ) (row : Row) (w : ℕ) (e : w ≡ row .id) where

@@ -2,10 +2,18 @@
 use format::LibraryNo;
 use format::ObjectNo;
 ghost use mathlib.Core.Path.{_≡_};
-ghost use Prim.Native.Nat.{_+_, _-_, _≤_, _<_};
+ghost use Prim.Native.Nat.{_≤_, _<_};
 ghost use lib.ListN.{getD};
-ghost use Rattle.format.specs.Rows.{blank, roomOf, rowsOf, isObject, isClass, objectRow, classRow, libraryRow};
-ghost use Rattle.lookups.specs.Find.{named, isLibrary};
+ghost use Rattle.format.specs.Rows.{blank, roomOf, rowsOf, isObject, isClass, findFrom, objectRow, classRow, libraryRow};
+ghost use Rattle.lookups.specs.Find.{idOf, isOf, named};
+
+// What is looked up, by its number. Object numbers and library numbers are two separate counts; a class is a record of kind 4 or 5 and has the
+// number of its object.
+enum Wanted {
+    Object(ObjectNo),
+    Class(ObjectNo),
+    Library(LibraryNo),
+}
 
 // ---- lookups
 
@@ -37,37 +45,53 @@ pub fn is_class(kind: u32) -> bool
     }
 }
 
-// Whether row i is the object of this number. The number is tested first: it fails most.
-fn names_object(table: &[u32], n: usize, i: usize, id: u32) -> bool
-    requires { ⌜ (i < n) × (n ≤ roomOf (now table)) ⌝ }
-    ensures { λ r. ⌜ r ≡ named isObject id (getD (rowsOf n (now (table .entry))) i blank) ⌝ }
+// The number of what is looked up, as a row's id word has it.
+fn id_of(what: Wanted) -> u32
+    ensures { λ r. ⌜ r ≡ idOf what ⌝ }
 {
-    if table::id_at(table, n, i) != id {
-        return false;
+    match what {
+        Wanted::Object(id) => id.0,
+        Wanted::Class(id) => id.0,
+        Wanted::Library(id) => id.0,
     }
-    is_object(table::kind_at(table, n, i))
 }
 
-// Whether row i is the class of this number.
-fn names_class(table: &[u32], n: usize, i: usize, id: u32) -> bool
-    requires { ⌜ (i < n) × (n ≤ roomOf (now table)) ⌝ }
-    ensures { λ r. ⌜ r ≡ named isClass id (getD (rowsOf n (now (table .entry))) i blank) ⌝ }
+// Whether a row of this kind can be what is looked up.
+fn is_of(what: Wanted, kind: u32) -> bool
+    ensures { λ r. ⌜ r ≡ isOf what kind ⌝ }
 {
-    if table::id_at(table, n, i) != id {
-        return false;
+    match what {
+        Wanted::Object(_) => is_object(kind),
+        Wanted::Class(_) => is_class(kind),
+        Wanted::Library(_) => kind == 12,
     }
-    is_class(table::kind_at(table, n, i))
 }
 
-// Whether row i is the library of this number.
-fn names_library(table: &[u32], n: usize, i: usize, id: u32) -> bool
+// Whether row i has this id and a fitting kind. The id is tested first: it fails most.
+fn names(table: &[u32], n: usize, i: usize, what: Wanted, id: u32) -> bool
     requires { ⌜ (i < n) × (n ≤ roomOf (now table)) ⌝ }
-    ensures { λ r. ⌜ r ≡ named isLibrary id (getD (rowsOf n (now (table .entry))) i blank) ⌝ }
+    ensures { λ r. ⌜ r ≡ named (isOf what) id (getD (rowsOf n (now (table .entry))) i blank) ⌝ }
 {
     if table::id_at(table, n, i) != id {
         return false;
     }
-    table::kind_at(table, n, i) == 12
+    is_of(what, table::kind_at(table, n, i))
+}
+
+// What is looked up among the first n rows: the number of its row plus 1; 0 if there is none.
+fn find(table: &[u32], n: usize, what: Wanted) -> usize
+    requires { ⌜ n ≤ roomOf (now table) ⌝ }
+    ensures { λ r. ⌜ r ≡ findFrom (named (isOf what) (idOf what)) 0 (rowsOf n (now (table .entry))) ⌝ }
+{
+    let id = id_of(what);
+    let mut i: usize = 0;
+    while i < n {
+        if names(table, n, i, what, id) {
+            return i + 1;
+        }
+        i += 1;
+    }
+    0
 }
 
 // The object of this number among the first n rows: the number of its row plus 1; 0 if there is none.
@@ -75,15 +99,7 @@ pub fn find_object(table: &[u32], n: usize, id: ObjectNo) -> usize
     requires { ⌜ n ≤ roomOf (now table) ⌝ }
     ensures { λ r. ⌜ r ≡ objectRow (id .0) (rowsOf n (now (table .entry))) ⌝ }
 {
-    let wanted = id.0;
-    let mut i: usize = 0;
-    while i < n {
-        if names_object(table, n, i, wanted) {
-            return i + 1;
-        }
-        i += 1;
-    }
-    0
+    find(table, n, Wanted::Object(id))
 }
 
 // The class of this number, likewise.
@@ -91,15 +107,7 @@ pub fn find_class(table: &[u32], n: usize, id: ObjectNo) -> usize
     requires { ⌜ n ≤ roomOf (now table) ⌝ }
     ensures { λ r. ⌜ r ≡ classRow (id .0) (rowsOf n (now (table .entry))) ⌝ }
 {
-    let wanted = id.0;
-    let mut i: usize = 0;
-    while i < n {
-        if names_class(table, n, i, wanted) {
-            return i + 1;
-        }
-        i += 1;
-    }
-    0
+    find(table, n, Wanted::Class(id))
 }
 
 // The library of this number, likewise.
@@ -107,13 +115,5 @@ pub fn find_library(table: &[u32], n: usize, id: LibraryNo) -> usize
     requires { ⌜ n ≤ roomOf (now table) ⌝ }
     ensures { λ r. ⌜ r ≡ libraryRow (id .0) (rowsOf n (now (table .entry))) ⌝ }
 {
-    let wanted = id.0;
-    let mut i: usize = 0;
-    while i < n {
-        if names_library(table, n, i, wanted) {
-            return i + 1;
-        }
-        i += 1;
-    }
-    0
+    find(table, n, Wanted::Library(id))
 }
