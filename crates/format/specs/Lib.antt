@@ -17,6 +17,7 @@ pub mod Says
 pub mod Tidy
 pub mod Promises
 pub mod Examples
+pub mod Fields
 pub mod CounterExamples
 pub mod Lists
 pub mod Allowed

@@ -1,0 +1,263 @@
+-- Worked fields: bytes, and what is read of them, mostly on either side of a bound of the field rules; then the text view. One table, proved by one fact.
+use Prim.Native.Nat.{ℕ, suc}
+use mathlib.Core.List.{List, [], _∷_, _++_, map}
+use lib.ListN.{replicate}
+use Rattle.format.specs.declared.Coded.{Coded}
+use Rattle.format.specs.declared.Coded.the-variants as D
+use Rattle.format.specs.declared.SlotType.{SlotType}
+use Rattle.format.specs.declared.SlotType.the-variants as S
+use Rattle.format.specs.declared.Number16.{Number16}
+use Rattle.format.specs.declared.Number16.the-variants as N16
+use Rattle.format.specs.declared.Number32.{Number32}
+use Rattle.format.specs.declared.Number32.the-variants as N32
+use Rattle.format.specs.declared.Number64.{Number64}
+use Rattle.format.specs.declared.Number64.the-variants as N64
+use Rattle.format.specs.declared.Prefix.{Prefix}
+use Rattle.format.specs.declared.Prefix.the-variants as P
+use Rattle.format.specs.declared.Text.{Text}
+use Rattle.format.specs.declared.Text.the-variants as T
+use Rattle.format.specs.declared.Field.{Field}
+use Rattle.format.specs.declared.Field.the-variants as F
+use Rattle.format.specs.Bytes.{pick, sameBytes}
+use Rattle.format.specs.Replies.{numberOf}
+use Rattle.format.specs.Numbers.{le, u16At, u32At, u64At, leBytes}
+use Rattle.format.specs.Prefix.{prefixIn, prefixAt, groupsOf, prefixBytes}
+use Rattle.format.specs.Text.{needOf, loOf, hiOf, leadOf, stepOf, after, wellFormed, textAt, stringAt}
+use Rattle.format.specs.Values.{bytesAt, booleanAt, scalarAt, charAt, wholeDigit, fractionDigit, digit, decimalByte, decimalAfter, decimal, decimalText, decimalAt, dateTimeAt, valueAt, times, itemsAt}
+use Rattle.format.specs.Types.{codeNumber, primitiveOf, codeAt, coded, typeByteAt, nameAt, libraryIdAt, infoAt, slotOf}
+use Rattle.format.specs.View.{recordText, rowText, textView}
+use Rattle.format.specs.Examples.{hex, hexOnto, None}
+
+-- ---- what is shown: the number and the place after it, or 0 where bytes are missing
+
+abbrev shown16 : Number16 → List ℕ
+shown16 (N16.Value v next) = v ∷ next ∷ []
+shown16 N16.Short = 0 ∷ []
+
+abbrev shown32 : Number32 → List ℕ
+shown32 (N32.Value v next) = v ∷ next ∷ []
+shown32 N32.Short = 0 ∷ []
+
+abbrev shown64 : Number64 → List ℕ
+shown64 (N64.Value v next) = v ∷ next ∷ []
+shown64 N64.Short = 0 ∷ []
+
+-- the number of a prefix, or where a text begins; and the place after the field; or the number of the refusal alone
+abbrev shownPrefix : Prefix → List ℕ
+shownPrefix (P.Length n next) = n ∷ next ∷ []
+shownPrefix (P.Fault f) = numberOf f ∷ []
+
+abbrev shownText : Text → List ℕ
+shownText (T.Part from end) = from ∷ end ∷ []
+shownText (T.Fault f) = numberOf f ∷ []
+
+abbrev shownField : Field → List ℕ
+shownField (F.End next) = 0 ∷ next ∷ []
+shownField (F.Fault f) = numberOf f ∷ []
+
+-- the number of a code, 0 for none
+abbrev shownCode : Coded → ℕ
+shownCode (D.Code c) = codeNumber c
+shownCode D.NoCode = 0
+
+-- the type byte of a slot, with its code
+abbrev shownSlot : SlotType → List ℕ
+shownSlot (S.Primitive c) = 0 ∷ codeNumber c ∷ []
+shownSlot S.Text = 1 ∷ []
+shownSlot S.Object = 2 ∷ []
+shownSlot S.SystemClass = 3 ∷ []
+shownSlot S.Class = 4 ∷ []
+shownSlot S.ObjectArray = 5 ∷ []
+shownSlot S.StringArray = 6 ∷ []
+shownSlot (S.PrimitiveArray c) = 7 ∷ codeNumber c ∷ []
+
+-- ---- entries
+
+pub record Worked : Type 0 where
+  pub found : List ℕ
+  pub wanted : List ℕ
+
+abbrev gives : List ℕ → List ℕ → Worked
+gives f w = record { found = f; wanted = w }
+
+-- a field ends here
+abbrev ends : ℕ → List ℕ
+ends place = 0 ∷ place ∷ []
+
+-- the numbers of refusals
+abbrev cutShort : List ℕ
+cutShort = 2 ∷ []
+
+abbrev badLength : List ℕ
+badLength = 7 ∷ []
+
+abbrev badText : List ℕ
+badText = 8 ∷ []
+
+abbrev badType : List ℕ
+badType = 10 ∷ []
+
+abbrev badValue : List ℕ
+badValue = 11 ∷ []
+
+abbrev badId : List ℕ
+badId = 12 ∷ []
+
+-- a prefix of n bytes
+abbrev prefix : ℕ → ℕ → List ℕ
+prefix n x = shownPrefix (prefixAt (hex n x) 0)
+
+-- a string whose text is these n bytes: taken whole, or refused
+abbrev string : ℕ → ℕ → List ℕ
+string n x = shownText (stringAt (n ∷ hex n x) 0)
+
+abbrev taken : ℕ → List ℕ
+taken n = 1 ∷ suc n ∷ []
+
+-- a value of this code in n bytes
+abbrev value : ℕ → ℕ → ℕ → List ℕ
+value code n x = shownField (valueAt (hex n x) (coded (primitiveOf code)) 0)
+
+-- a Decimal of n bytes of text
+abbrev decimalOf : ℕ → ℕ → List ℕ
+decimalOf n x = shownField (valueAt (n ∷ hex n x) (coded (primitiveOf 5)) 0)
+
+-- where a value and where three items of this code end, in 24 bytes that are all 1
+abbrev valueEnd : ℕ → List ℕ
+valueEnd code = shownField (valueAt (replicate 24 1) (coded (primitiveOf code)) 0)
+
+abbrev itemsEnd : ℕ → List ℕ
+itemsEnd code = shownField (itemsAt (replicate 24 1) (coded (primitiveOf code)) 3 0)
+
+-- of each, one after the other
+unfoldable each : (ℕ → List ℕ) → List ℕ → List ℕ
+each f [] = []
+each f (x ∷ l) = f x ++ each f l
+
+-- all codes but Decimal
+abbrev codes : List ℕ
+codes = 1 ∷ 2 ∷ 3 ∷ 6 ∷ 7 ∷ 8 ∷ 9 ∷ 10 ∷ 11 ∷ 12 ∷ 13 ∷ 14 ∷ 15 ∷ 16 ∷ []
+
+abbrev types : List ℕ
+types = 0 ∷ 1 ∷ 2 ∷ 3 ∷ 4 ∷ 5 ∷ 6 ∷ 7 ∷ []
+
+-- a detail of this type: the code 1, or the name A, or the name A and the LibraryId 1
+abbrev detail : ℕ → List ℕ
+detail type = shownField (infoAt (hex 6 0x014101000000) type 0)
+
+-- the string A with the id 1, of seven bytes; and its text, by a row with these words
+abbrev record7 : List ℕ
+record7 = hex 7 0x06010000000141
+
+abbrev textBy : (kind offset end row : ℕ) → List ℕ
+textBy k o e row = textView record7 (k ∷ o ∷ e ∷ 1 ∷ 0 ∷ 0 ∷ 0 ∷ 0 ∷ []) row
+
+-- ---- the table
+
+pub fields : List Worked
+fields =
+    -- numbers: the low byte first, and all bytes there
+    gives (shown16 (u16At (hex 3 0xFF0102) 1)) (0x0201 ∷ 3 ∷ [])
+    ∷ gives (shown16 (u16At (hex 2 0xFF01) 1)) (0 ∷ [])
+    ∷ gives (shown32 (u32At (hex 5 0xFF01020384) 1)) (0x84030201 ∷ 5 ∷ [])
+    ∷ gives (shown32 (u32At (hex 4 0xFF010203) 1)) (0 ∷ [])
+    ∷ gives (shown64 (u64At (hex 9 0xFF0102030405060788) 1)) (0x8807060504030201 ∷ 9 ∷ [])
+    ∷ gives (shown64 (u64At (hex 8 0xFF01020304050607) 1)) (0 ∷ [])
+    ∷ gives (leBytes 4 0x84030201) (1 ∷ 2 ∷ 3 ∷ 0x84 ∷ [])
+    -- prefixes: the shortest form, up to 31 bits; and how they are written
+    ∷ gives (prefix 1 0x00) (0 ∷ 1 ∷ [])
+    ∷ gives (prefix 1 0x7F) (127 ∷ 1 ∷ [])
+    ∷ gives (prefix 2 0x8001) (128 ∷ 2 ∷ [])
+    ∷ gives (prefix 2 0x8400) badLength
+    ∷ gives (prefix 1 0x80) cutShort
+    ∷ gives (prefix 4 0x80808000) badLength
+    ∷ gives (prefix 5 0xFFFFFFFF07) (2147483647 ∷ 5 ∷ [])
+    ∷ gives (prefix 5 0x8080808008) badLength
+    ∷ gives (prefix 5 0x8080808000) badLength
+    ∷ gives (prefix 5 0x8080808080) badLength
+    ∷ gives (prefix 4 0x80808080) cutShort
+    ∷ gives (prefixBytes 127) (0x7F ∷ [])
+    ∷ gives (prefixBytes 128) (0x80 ∷ 1 ∷ [])
+    ∷ gives (prefixBytes 2147483647) (hex 5 0xFFFFFFFF07)
+    -- text: the bounds of the second byte after E0, ED, F0 and F4, and of the first byte
+    ∷ gives (string 1 0x7F) (taken 1)
+    ∷ gives (string 1 0x80) badText
+    ∷ gives (string 2 0xC1BF) badText
+    ∷ gives (string 2 0xC280) (taken 2)
+    ∷ gives (string 2 0xDFBF) (taken 2)
+    ∷ gives (string 2 0xDFC0) badText
+    ∷ gives (string 3 0xE09FBF) badText
+    ∷ gives (string 3 0xE0A080) (taken 3)
+    ∷ gives (string 3 0xED9FBF) (taken 3)
+    ∷ gives (string 3 0xEDA080) badText
+    ∷ gives (string 3 0xEE8080) (taken 3)
+    ∷ gives (string 3 0xEFBFBF) (taken 3)
+    ∷ gives (string 4 0xF08FBFBF) badText
+    ∷ gives (string 4 0xF0908080) (taken 4)
+    ∷ gives (string 4 0xF48FBFBF) (taken 4)
+    ∷ gives (string 4 0xF4908080) badText
+    ∷ gives (string 4 0xF5808080) badText
+    ∷ gives (string 2 0xE0A0) badText
+    ∷ gives (shownText (stringAt (hex 3 0x034142) 0)) cutShort
+    -- Boolean, Char, Decimal, DateTime
+    ∷ gives (value 1 1 0x00) (ends 1)
+    ∷ gives (value 1 1 0x01) (ends 1)
+    ∷ gives (value 1 1 0x02) badValue
+    ∷ gives (value 3 3 0x41C3A9) (ends 1)
+    ∷ gives (value 3 3 0xC3A941) (ends 2)
+    ∷ gives (value 3 4 0xE282AC41) (ends 3)
+    ∷ gives (value 3 5 0xF09F988041) (ends 4)
+    ∷ gives (value 3 3 0xE09FBF) badValue
+    ∷ gives (value 3 2 0xE282) cutShort
+    ∷ gives (value 3 2 0x8041) badValue
+    ∷ gives (decimalOf 29 0x3739323238313632353134323634333337353933353433393530333335) (ends 30)
+    ∷ gives (decimalOf 29 0x3739323238313632353134323634333337353933353433393530333336) badValue
+    ∷ gives (decimalOf 31 0x37393232383136323531343236343333373539333534333935303333352E30) (ends 32)
+    ∷ gives (decimalOf 31 0x37393232383136323531343236343333373539333534333935303333352E31) badValue
+    ∷ gives (decimalOf 31 0x37393232383136323531343236343333373539333534333935303333342E39) (ends 32)
+    ∷ gives (decimalOf 4 0x2D302E35) (ends 5)
+    ∷ gives (decimalOf 3 0x303037) (ends 4)
+    ∷ gives (decimalOf 1 0x2D) badValue
+    ∷ gives (decimalOf 2 0x2E35) badValue
+    ∷ gives (decimalOf 2 0x352E) badValue
+    ∷ gives (decimalOf 4 0x31324535) badValue
+    ∷ gives (decimalOf 2 0x312D) badValue
+    ∷ gives (decimalOf 0 0) badValue
+    ∷ gives (value 13 8 0xFFFFFFFFFFFFFF1F) (ends 8)
+    ∷ gives (value 13 8 0x0000000000000020) badValue
+    ∷ gives (value 13 8 0xFFFFFFFFFFFFFF3F) badValue
+    ∷ gives (value 13 8 0xFFFFFFFFFFFFFF5F) (ends 8)
+    ∷ gives (value 13 8 0xFFFFFFFFFFFFFF9F) (ends 8)
+    ∷ gives (value 13 8 0x00000000000000C0) badValue
+    -- where a value ends, and where three items end, by code
+    ∷ gives (each valueEnd codes) (0 ∷ 1 ∷ 0 ∷ 1 ∷ 0 ∷ 1 ∷ 0 ∷ 8 ∷ 0 ∷ 2 ∷ 0 ∷ 4 ∷ 0 ∷ 8 ∷ 0 ∷ 1 ∷ 0 ∷ 4 ∷ 0 ∷ 8 ∷ 0 ∷ 8 ∷ 0 ∷ 2 ∷ 0 ∷ 4 ∷ 0 ∷ 8 ∷ [])
+    ∷ gives (each itemsEnd codes) (0 ∷ 3 ∷ 0 ∷ 3 ∷ 0 ∷ 3 ∷ 0 ∷ 24 ∷ 0 ∷ 6 ∷ 0 ∷ 12 ∷ 0 ∷ 24 ∷ 0 ∷ 3 ∷ 0 ∷ 12 ∷ 0 ∷ 24 ∷ 0 ∷ 24 ∷ 0 ∷ 6 ∷ 0 ∷ 12 ∷ 0 ∷ 24 ∷ [])
+    ∷ gives (shownField (itemsAt (replicate 23 1) (coded (primitiveOf 6)) 3 0)) cutShort
+    -- codes, type bytes, details and slots
+    ∷ gives (map (λ (b : ℕ). shownCode (primitiveOf b)) (17 ∷ 18 ∷ 0 ∷ 4 ∷ 5 ∷ codes)) (0 ∷ 0 ∷ 0 ∷ 0 ∷ 5 ∷ 1 ∷ 2 ∷ 3 ∷ 6 ∷ 7 ∷ 8 ∷ 9 ∷ 10 ∷ 11 ∷ 12 ∷ 13 ∷ 14 ∷ 15 ∷ 16 ∷ [])
+    ∷ gives (shownField (typeByteAt (7 ∷ []) 0)) (ends 1)
+    ∷ gives (shownField (typeByteAt (8 ∷ []) 0)) badType
+    ∷ gives (shownField (typeByteAt (7 ∷ []) 1)) cutShort
+    ∷ gives (each detail types) (0 ∷ 1 ∷ 0 ∷ 0 ∷ 0 ∷ 0 ∷ 0 ∷ 2 ∷ 0 ∷ 6 ∷ 0 ∷ 0 ∷ 0 ∷ 0 ∷ 0 ∷ 1 ∷ [])
+    ∷ gives (shownField (infoAt (hex 6 0x014100000000) 4 0)) badId
+    ∷ gives (shownField (infoAt (hex 6 0x014100000080) 4 0)) badId
+    ∷ gives (shownField (infoAt (4 ∷ []) 0 0)) badType
+    ∷ gives (each (λ (t : ℕ). shownSlot (slotOf t 13)) types) (0 ∷ 13 ∷ 1 ∷ 2 ∷ 3 ∷ 4 ∷ 5 ∷ 6 ∷ 7 ∷ 13 ∷ [])
+    -- the text of a row, by its words; no row but the first is there
+    ∷ gives (textBy 6 0 7 0) (0x41 ∷ [])
+    ∷ gives (textBy 6 0 6 0) []
+    ∷ gives (textBy 6 0 8 0) []
+    ∷ gives (textBy 17 0 7 0) []
+    ∷ gives (textBy 6 1 7 0) []
+    ∷ gives (textBy 6 7 7 0) []
+    ∷ gives (textBy 6 0 7 1) []
+    ∷ []
+
+-- the numbers, from k on, of the entries that fail
+unfoldable pub failing : ℕ → List Worked → List ℕ
+failing k [] = []
+failing k (e ∷ es) = pick (sameBytes (e .found) (e .wanted)) [] (k ∷ []) ++ failing (suc k) es
+
+pub field-examples : None (failing 0 fields)
+unfolding fields failing each textView rowText recordText slotOf infoAt libraryIdAt nameAt typeByteAt codeAt primitiveOf itemsAt times valueAt dateTimeAt decimalAt decimalText decimal decimalAfter decimalByte digit fractionDigit wholeDigit charAt scalarAt booleanAt bytesAt stringAt textAt wellFormed after stepOf leadOf hiOf loOf needOf groupsOf prefixIn leBytes u64At u32At u16At le sameBytes hexOnto
+field-examples = tt
