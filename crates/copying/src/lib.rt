@@ -1,5 +1,6 @@
 // Writes the tidy copy from marked rows, one row after the other: null runs are gathered across rows, and the same traversal measures
 // and writes.
+use format::Reader;
 use format::Row;
 use format::TidyAnswer;
 use pieces::Gathered;
@@ -128,7 +129,7 @@ pub fn copied(out: &mut [u8], s: &[u8], table: &[u32], n: usize) -> TidyAnswer
     if out.len() < total {
         return TidyAnswer::OutFull(total);
     }
-    if 16777216 < total {
+    if Reader::LIMIT < total {
         return TidyAnswer::OutFull(total);
     }
     copy_all(out, s, table, n);

@@ -48,14 +48,14 @@ pub record HasRows (s t : List ℕ) (n : ℕ) (u : List ℕ) : Type 0 where
 pub read-accepts : (s t : List ℕ) → Bytes s → (n : ℕ) (u : List ℕ) → ReadPromise s t (A.Accepted n) u → HasRows s t n u
 unfolding tableWords
 read-accepts s t byte n u p =
-    let x = accepted-of (readOf s (roomOf t)) n (p .0) in
+    let x = accepted-of (readOf s (roomOf t)) n (p .answer) in
     let w = accepted-exactly s byte (roomOf t) (x .0) .0 (x .1) in
     record {
       rows = x .0;
       reads = w .0;
       count = x .2;
       fit = subst (λ (k : ℕ). k ≤ roomOf t) (x .2) (w .1);
-      table-is = p .1 ∙ ap (tableWords (length t)) (x .1);
+      table-is = p .table ∙ ap (tableWords (length t)) (x .1);
     }
 
 -- a reading whose rows fit the table is accepted
@@ -64,15 +64,15 @@ pub read-accepted : (s t : List ℕ) (rows : List Row) → Reading s rows → le
 unfolding readAnswer tableWords
 read-accepted s t rows w l a u p =
     let e = accepts w (roomOf t) l in
-    (p .0 ∙ ap readAnswer e, p .1 ∙ ap (tableWords (length t)) e)
+    (p .answer ∙ ap readAnswer e, p .table ∙ ap (tableWords (length t)) e)
 
 -- after a refusal the table is all zeros, and no reading fits it
 pub read-refuses : (s t : List ℕ) (r : Refusal) (place : ℕ) (u : List ℕ) → ReadPromise s t (A.Refused r place) u
     → (u ≡ replicate (length t) 0) × ((rows : List Row) → Reading s rows → length rows ≤ roomOf t → ⊥)
 unfolding tableWords
 read-refuses s t r place u p =
-    let e = refused-of (readOf s (roomOf t)) r place (p .0) in
-    (p .1 ∙ ap (tableWords (length t)) e, λ rows w l. not-both rows r place (sym (accepts w (roomOf t) l) ∙ e))
+    let e = refused-of (readOf s (roomOf t)) r place (p .answer) in
+    (p .table ∙ ap (tableWords (length t)) e, λ rows w l. not-both rows r place (sym (accepts w (roomOf t) l) ∙ e))
 
 -- ---- tidying
 
@@ -110,18 +110,18 @@ pub tidy-writes : (s t d : List ℕ) → Bytes s → (n : ℕ) (u e : List ℕ) 
 unfolding tidyTable tidyOutput tableWords
 tidy-writes s t d byte n u e p =
     let o = readOf s (roomOf t) in
-    let x = wrote s d o n (p .0) in
+    let x = wrote s d o n (p .answer) in
     let rows = x .rows in
     let c : List ℕ = tidyOf (says s rows) in
     let w = accepted-exactly s byte (roomOf t) rows .0 (x .taken) in
     let b = both-of (leb (length c) (length d)) (leb (length c) 16777216) (x .room) in
     let l : length c ≤ length d = leb-true (length c) (length d) (b .0) in
-    let z : e ≡ laid c d = p .1 .1 ∙ (ap (tidyOutput s d) (x .taken) ∙ rw (x .room)) in
+    let z : e ≡ laid c d = p .output ∙ (ap (tidyOutput s d) (x .taken) ∙ rw (x .room)) in
     record {
       rows = rows;
       reads = w .0;
       fit = w .1;
-      table-is = p .1 .0 ∙ (ap (tidyTable (length t) s d) (x .taken) ∙ rw (x .room));
+      table-is = p .table ∙ (ap (tidyTable (length t) s d) (x .taken) ∙ rw (x .room));
       size = x .size;
       within = subst (λ (k : ℕ). k ≤ length d) (x .size) l;
       small = leb-true (length c) 16777216 (b .1);
@@ -138,8 +138,8 @@ tidy-written s t d rows w l within small q u e p =
     let r = accepts w (roomOf t) l in
     let i = le-leb (length c) (length d) within in
     let j = le-leb (length c) 16777216 small in (
-      p .0 ∙ (ap (tidyAnswer s d) r ∙ rw (i, j)),
-      (p .1 .0 ∙ (ap (tidyTable (length t) s d) r ∙ rw (i, j)), p .1 .1 ∙ (ap (tidyOutput s d) r ∙ rw (i, j))),
+      p .answer ∙ (ap (tidyAnswer s d) r ∙ rw (i, j)),
+      (p .table ∙ (ap (tidyTable (length t) s d) r ∙ rw (i, j)), p .output ∙ (ap (tidyOutput s d) r ∙ rw (i, j))),
     )
 
 -- the copy of a list by any reading of it

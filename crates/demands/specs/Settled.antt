@@ -20,14 +20,14 @@ pub promises-settle : ((s t : List ℕ) → Settles (λ (o : ReadAnswer × List 
     × (((s t : List ℕ) (row : ℕ) → Settles (ViewPromise s t row))
     × ((s t d : List ℕ) → Settles (λ (o : TidyAnswer × (List ℕ × List ℕ)). TidyPromise s t d (o .0) (o .1 .0) (o .1 .1)))))
 promises-settle = (
-  λ s t x y a b. pair (one _ (x .0) (y .0) (a .0) (b .0)) (one _ (x .1) (y .1) (a .1) (b .1)),
+  λ s t x y a b. pair (one _ (x .0) (y .0) (a .answer) (b .answer)) (one _ (x .1) (y .1) (a .table) (b .table)),
   (
-    λ s t row. one (rowQuestion s t row),
+    λ s t row x y a b. one (rowQuestion s t row) x y (a .answer) (b .answer),
     (
       λ s t row. one (textView s t row),
       λ s t d x y a b.
-          pair (one _ (x .0) (y .0) (a .0) (b .0))
-          (pair (one _ (x .1 .0) (y .1 .0) (a .1 .0) (b .1 .0)) (one _ (x .1 .1) (y .1 .1) (a .1 .1) (b .1 .1))),
+          pair (one _ (x .0) (y .0) (a .answer) (b .answer))
+          (pair (one _ (x .1 .0) (y .1 .0) (a .table) (b .table)) (one _ (x .1 .1) (y .1 .1) (a .output) (b .output))),
     ),
   ),
 )

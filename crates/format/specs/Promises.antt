@@ -1,30 +1,74 @@
 -- The promises of the four public jobs, each a relation between what is lent and what comes of it. The jobs' contracts are these words.
 use Prim.Native.Nat.{ℕ}
-use mathlib.Core.Path.{_≡_}
+use mathlib.Core.Path.{_≡_, refl, ap, _∙_}
+use mathlib.Core.Bool.{Bool, true, false}
 use mathlib.Core.List.{List}
 use lib.ListN.{length}
 use Rattle.format.specs.declared.ReadAnswer.{ReadAnswer}
 use Rattle.format.specs.declared.RowAnswer.{RowAnswer}
 use Rattle.format.specs.declared.TidyAnswer.{TidyAnswer}
+use Rattle.format.specs.declared.TidyAnswer.the-variants as Q
+use Rattle.format.specs.declared.Text.{Text}
+use Rattle.format.specs.declared.Text.the-variants as T
+use Rattle.format.specs.Bytes.{pick}
 use Rattle.format.specs.Rows.{roomOf}
-use Rattle.format.specs.Machine.{readOf, readAnswer, tableWords}
-use Rattle.format.specs.View.{rowQuestion, textView}
-use Rattle.format.specs.Tidy.{tidyAnswer, tidyOutput, tidyTable}
+use Rattle.format.specs.Machine.{Outcome, accepted, refused, readOf, readAnswer, tableWords}
+use Rattle.format.specs.View.{rowText, questionOf, rowQuestion, textView}
+use Rattle.format.specs.Says.{says}
+use Rattle.format.specs.Tidy.{tidyOf, fits, tidyAnswer, tidyOutput, tidyTable}
+use Rattle.format.specs.Replies.{reply, readReply, rowReply, tidyReply, ofReading, ofQuestion, ofTidying}
 
 -- reading s into a table that held t answers a and leaves u in the table
-abbrev pub ReadPromise : (s t : List ℕ) → ReadAnswer → (u : List ℕ) → Type 0
-ReadPromise s t a u = (a ≡ readAnswer (readOf s (roomOf t))) × (u ≡ tableWords (length t) (readOf s (roomOf t)))
+pub record ReadPromise (s t : List ℕ) (a : ReadAnswer) (u : List ℕ) : Type 0 where
+  pub answer : a ≡ readAnswer (readOf s (roomOf t))
+  pub numbers : readReply a ≡ ofReading (readOf s (roomOf t))
+  pub table : u ≡ tableWords (length t) (readOf s (roomOf t))
 
 -- the row question about a row of the table t answers a
-abbrev pub QuestionPromise : (s t : List ℕ) → ℕ → RowAnswer → Type 0
-QuestionPromise s t row a = a ≡ rowQuestion s t row
+pub record QuestionPromise (s t : List ℕ) (row : ℕ) (a : RowAnswer) : Type 0 where
+  pub answer : a ≡ rowQuestion s t row
+  pub numbers : rowReply a ≡ ofQuestion (rowText s t row)
 
 -- the text view of a row of the table t shows v
 abbrev pub ViewPromise : (s t : List ℕ) → ℕ → (v : List ℕ) → Type 0
 ViewPromise s t row v = v ≡ textView s t row
 
 -- tidying s with a table that held t and an output that held d answers q, leaves u in the table and e in the output
-abbrev pub TidyPromise : (s t d : List ℕ) → TidyAnswer → (u e : List ℕ) → Type 0
-TidyPromise s t d q u e =
-    (q ≡ tidyAnswer s d (readOf s (roomOf t)))
-    × ((u ≡ tidyTable (length t) s d (readOf s (roomOf t))) × (e ≡ tidyOutput s d (readOf s (roomOf t))))
+pub record TidyPromise (s t d : List ℕ) (q : TidyAnswer) (u e : List ℕ) : Type 0 where
+  pub answer : q ≡ tidyAnswer s d (readOf s (roomOf t))
+  pub numbers : tidyReply q ≡ ofTidying s d (readOf s (roomOf t))
+  pub table : u ≡ tidyTable (length t) s d (readOf s (roomOf t))
+  pub output : e ≡ tidyOutput s d (readOf s (roomOf t))
+
+-- ---- an answer that is right has the right numbers
+
+pub read-promised : (s t : List ℕ) (a : ReadAnswer) (u : List ℕ) → a ≡ readAnswer (readOf s (roomOf t)) → u ≡ tableWords (length t) (readOf s (roomOf t))
+    → ReadPromise s t a u
+unfolding readAnswer
+read-promised s t a u e w = record { answer = e; numbers = ap readReply e ∙ numbered (readOf s (roomOf t)); table = w }
+  where
+    numbered : (o : Outcome) → readReply (readAnswer o) ≡ ofReading o
+    numbered (accepted rows) = refl
+    numbered (refused r place) = refl
+
+pub question-promised : (s t : List ℕ) (row : ℕ) (a : RowAnswer) → a ≡ rowQuestion s t row → QuestionPromise s t row a
+unfolding rowQuestion
+question-promised s t row a e = record { answer = e; numbers = ap rowReply e ∙ numbered (rowText s t row) }
+  where
+    numbered : (x : Text) → rowReply (questionOf x) ≡ ofQuestion x
+    numbered (T.Part from to) = refl
+    numbered (T.Fault f) = refl
+
+pub tidy-promised : (s t d : List ℕ) (q : TidyAnswer) (u e : List ℕ) → q ≡ tidyAnswer s d (readOf s (roomOf t))
+    → u ≡ tidyTable (length t) s d (readOf s (roomOf t)) → e ≡ tidyOutput s d (readOf s (roomOf t)) → TidyPromise s t d q u e
+unfolding tidyAnswer
+tidy-promised s t d q u e a w o =
+    record { answer = a; numbers = ap tidyReply a ∙ numbered (readOf s (roomOf t)); table = w; output = o }
+  where
+    by : (b : Bool) (n : ℕ) → tidyReply (pick b (Q.Written n) (Q.OutFull n)) ≡ pick b (reply 0 0 n) (reply 20 0 n)
+    by true n = refl
+    by false n = refl
+
+    numbered : (o : Outcome) → tidyReply (tidyAnswer s d o) ≡ ofTidying s d o
+    numbered (accepted rows) = by (fits (tidyOf (says s rows)) d) (length (tidyOf (says s rows)))
+    numbered (refused r place) = refl

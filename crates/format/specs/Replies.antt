@@ -1,5 +1,7 @@
 -- Replies by number: the refusals, and the values of each answer of the public jobs.
 use Prim.Native.Nat.{ℕ}
+use mathlib.Core.List.{List}
+use lib.ListN.{length}
 use Rattle.format.specs.declared.Refusal.{Refusal}
 use Rattle.format.specs.declared.Refusal.the-variants as R
 use Rattle.format.specs.declared.ReadAnswer.{ReadAnswer}
@@ -8,6 +10,12 @@ use Rattle.format.specs.declared.RowAnswer.{RowAnswer}
 use Rattle.format.specs.declared.RowAnswer.the-variants as Row
 use Rattle.format.specs.declared.TidyAnswer.{TidyAnswer}
 use Rattle.format.specs.declared.TidyAnswer.the-variants as Tidy
+use Rattle.format.specs.declared.Text.{Text}
+use Rattle.format.specs.declared.Text.the-variants as Text
+use Rattle.format.specs.Bytes.{pick}
+use Rattle.format.specs.Machine.{Outcome, accepted, refused}
+use Rattle.format.specs.Says.{says}
+use Rattle.format.specs.Tidy.{tidyOf, fits}
 
 -- the number of each refusal
 abbrev pub numberOf : Refusal → ℕ
@@ -54,3 +62,21 @@ abbrev pub tidyReply : TidyAnswer → Reply
 tidyReply (Tidy.Written length) = reply 0 0 length
 tidyReply (Tidy.Refused r place) = reply (numberOf r) place 0
 tidyReply (Tidy.OutFull needed) = reply (numberOf R.OutFull) 0 needed
+
+-- ---- what a job comes to, in these numbers
+
+-- a reading: how many rows there are, or the refusal and its place
+abbrev pub ofReading : Outcome → Reply
+ofReading (accepted rows) = reply 0 0 (length rows)
+ofReading (refused r place) = reply (numberOf r) place 0
+
+-- the row question, by the text that the row has
+abbrev pub ofQuestion : Text → Reply
+ofQuestion (Text.Part from to) = reply 0 0 0
+ofQuestion (Text.Fault f) = reply 21 0 0
+
+-- a tidying of s into an output that held d: how long the copy is or would be, or the refusal of the reading and its place
+abbrev pub ofTidying : List ℕ → List ℕ → Outcome → Reply
+ofTidying s d (accepted rows) =
+    pick (fits (tidyOf (says s rows)) d) (reply 0 0 (length (tidyOf (says s rows)))) (reply 20 0 (length (tidyOf (says s rows))))
+ofTidying s d (refused r place) = reply (numberOf r) place 0

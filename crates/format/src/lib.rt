@@ -83,6 +83,17 @@ pub enum TidyAnswer {
     OutFull(usize),
 }
 
+// What comparing two lists answers: whether they say the same; or the first list whose reading is refused, with the refusal and its place; or the
+// first whose tidy copy has no room, with the length that it needs.
+pub enum Sameness {
+    Same,
+    Different,
+    FirstRefused(Refusal, usize),
+    SecondRefused(Refusal, usize),
+    FirstFull(usize),
+    SecondFull(usize),
+}
+
 // ---- the two counts
 
 // The number of an object: an ObjectId, an IdRef, a MetadataId or a RootId.
@@ -271,7 +282,7 @@ impl Reader {
     // An array has at most so many slots.
     pub const MOST_SLOTS: u32 = 2147483647;
     // The words of the saved frames, six to a frame.
-    pub const WORDS: usize = 384;
+    pub const WORDS: usize = 6 * Reader::OPEN;
 
     // At the start, with nothing read and nothing open.
     pub fn fresh() -> Reader

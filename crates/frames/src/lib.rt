@@ -14,7 +14,7 @@ ghost use Rattle.frames.specs.Frames.{frameAt, saved, openOf, Holds, Dee
 // ---- the saved frames
 
 // The frame is saved at index d; the frames below it stay.
-pub fn save(frames: &mut [u32; 384], d: usize, g: Frame)
+pub fn save(frames: &mut [u32; Reader::WORDS], d: usize, g: Frame)
     requires { ⌜ (d < 64) × (length (now frames) ≡ 384) ⌝ }
     ensures { λ _. ⌜ (length (now (frames .exit)) ≡ 384) × (saved (now (frames .exit)) (d + 1) ≡ g ∷ saved (now (frames .entry)) d) ⌝ }
 {
@@ -31,7 +31,7 @@ pub fn save(frames: &mut [u32; 384], d: usize, g: Frame)
 }
 
 // The frame saved at index d.
-pub fn frame_at(frames: &[u32; 384], d: usize) -> Frame
+pub fn frame_at(frames: &[u32; Reader::WORDS], d: usize) -> Frame
     requires { ⌜ (d < 64) × (length (now frames) ≡ 384) ⌝ }
     ensures { λ r. ⌜ r ≡ frameAt (now (frames .entry)) d ⌝ }
 {
@@ -51,7 +51,7 @@ pub fn frame_at(frames: &[u32; 384], d: usize) -> Frame
 }
 
 // Objects that are full are closed.
-pub fn settle(frames: &[u32; 384], m: Reader) -> Reader
+pub fn settle(frames: &[u32; Reader::WORDS], m: Reader) -> Reader
     requires { ⌜ (m .depth ≤ 64) × (length (now frames) ≡ 384) ⌝ }
     ensures { λ r. ⌜ Holds (now (frames .entry)) m r (close (m .top) (saved (now (frames .entry)) (m .depth))) ⌝ }
 {
@@ -78,7 +78,7 @@ pub fn settle(frames: &[u32; 384], m: Reader) -> Reader
 }
 
 // k slots of the innermost object are filled; the next one has the type t.
-pub fn fill(frames: &[u32; 384], m: Reader, k: u32, t: Typed) -> Reader
+pub fn fill(frames: &[u32; Reader::WORDS], m: Reader, k: u32, t: Typed) -> Reader
     requires { ⌜ (m .depth ≤ 64) × (length (now frames) ≡ 384) ⌝ }
     ensures { λ r. ⌜ Holds (now (frames .entry)) m r (filled (openOf (now (frames .entry)) m) k t) ⌝ }
 {
@@ -103,7 +103,13 @@ pub fn fill(frames: &[u32; 384], m: Reader, k: u32, t: Typed) -> Reader
 }
 
 // An object is opened in the next slot; the slot after it has the type t. `row` is the number of its row plus 1.
-pub fn open_object(frames: &mut [u32; 384], m: Reader, row: u32, h: Head, t: Typed) -> Reader
+pub fn open_object(
+    frames: &mut [u32; Reader::WORDS],
+    m: Reader,
+    row: u32,
+    h: Head,
+    t: Typed,
+) -> Reader
     requires { ⌜ (m .depth < 64) × (length (now frames) ≡ 384) ⌝ }
     ensures { λ r. ⌜ Deeper (now (frames .exit)) m r (opened (openOf (now (frames .entry)) m) row h t) ⌝ }
 {

@@ -39,7 +39,12 @@ fn finish_rows(s: &[u8], table: &mut [u32], rows: usize, at: usize) -> ReadAnswe
 }
 
 // Steps until the end record or a refusal.
-fn drive(s: &[u8], table: &mut [u32], frames: &mut [u32; 384], first: Reader) -> ReadAnswer
+fn drive(
+    s: &[u8],
+    table: &mut [u32],
+    frames: &mut [u32; Reader::WORDS],
+    first: Reader,
+) -> ReadAnswer
     requires { ⌜ Runs (now s) (roomOf (now table)) (readOf (now s) (roomOf (now table))) (now table) (now frames) first × (length (now s) ≤ 16777216) ⌝ }
     ensures { λ r. ⌜ (outcomeOf (now (table .exit)) r ≡ readOf (now (s .entry)) (roomOf (now (table .entry))))
         × Within (roomOf (now (table .entry))) r ⌝ }

@@ -10,8 +10,8 @@ use Rattle.format.specs.declared.TidyAnswer.the-variants as C
 use Rattle.format.specs.declared.Text.{Text}
 use Rattle.format.specs.declared.Text.the-variants as T
 use Rattle.format.specs.Replies.{numberOf, Reply, reply, readReply, tidyReply}
-use Rattle.sameness.specs.declared.Sameness.{Sameness}
-use Rattle.sameness.specs.declared.Sameness.the-variants as S
+use Rattle.format.specs.declared.Sameness.{Sameness}
+use Rattle.format.specs.declared.Sameness.the-variants as S
 
 pub record Answered (r : Reply) (number place value : ℕ) : Type 0 where
   pub number-is : number ≡ r .number

@@ -3,9 +3,9 @@
 use format::ReadAnswer;
 use format::Refusal;
 use format::RowAnswer;
+use format::Sameness;
 use format::Text;
 use format::TidyAnswer;
-use sameness::Sameness;
 ghost use Prim.Native.Nat.{_-_};
 ghost use mathlib.Core.Path.{_≡_};
 ghost use Rattle.format.specs.Replies.{reply, readReply, rowReply, tidyReply};

@@ -18,7 +18,7 @@ ghost use Rattle.adding.specs.Held.{stateOf, after, Held, Short};
 fn take_fields(
     s: &[u8],
     table: &mut [u32],
-    frames: &mut [u32; 384],
+    frames: &mut [u32; Reader::WORDS],
     m: Reader,
     kind: u32,
     h: Head,
@@ -52,7 +52,7 @@ fn take_fields(
 pub fn take(
     s: &[u8],
     table: &mut [u32],
-    frames: &mut [u32; 384],
+    frames: &mut [u32; Reader::WORDS],
     m: Reader,
     kind: u32,
     heading: Heading,
@@ -90,7 +90,7 @@ fn value_head(end: usize) -> Head
 pub fn take_value(
     s: &[u8],
     table: &mut [u32],
-    frames: &[u32; 384],
+    frames: &[u32; Reader::WORDS],
     m: Reader,
     code: PrimitiveCode,
 ) -> Step

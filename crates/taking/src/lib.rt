@@ -18,7 +18,7 @@ ghost use Rattle.adding.specs.Laws.{slotsTaken, libraryTaken};
 // An object: opened where it has slots to fill, else it fills its own slot.
 pub fn take_object(
     table: &mut [u32],
-    frames: &mut [u32; 384],
+    frames: &mut [u32; Reader::WORDS],
     m: Reader,
     kind: u32,
     h: Head,
@@ -51,7 +51,7 @@ pub fn take_object(
 // A record that fills k slots of the object it stands in.
 pub fn take_slots(
     table: &mut [u32],
-    frames: &[u32; 384],
+    frames: &[u32; Reader::WORDS],
     m: Reader,
     kind: u32,
     h: Head,
@@ -71,7 +71,7 @@ pub fn take_slots(
 pub fn take_run(
     s: &[u8],
     table: &mut [u32],
-    frames: &[u32; 384],
+    frames: &[u32; Reader::WORDS],
     m: Reader,
     kind: u32,
     h: Head,

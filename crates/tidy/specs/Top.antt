@@ -17,6 +17,7 @@ use Rattle.format.specs.Rows.{roomOf, rowsOf}
 use Rattle.format.specs.Machine.{Outcome, accepted, refused, readOf, readAnswer, tableWords}
 use Rattle.format.specs.Says.{says}
 use Rattle.format.specs.Tidy.{tidyOf, fits, answerBy, outBy, tidyAnswer, tidyOutput, tidyTable}
+use Rattle.format.specs.Promises.{TidyPromise, tidy-promised}
 use Rattle.table.specs.Rows.{rowsOf-words, length-rowsOf, room-kept}
 use Rattle.links.specs.Links.{length-linked}
 use Rattle.laws.specs.Answers.{accepted-of, refused-of}
@@ -121,9 +122,8 @@ module _ (s t u v : List ℕ) (n : ℕ) (byte : (i : ℕ) → getD s i 0 < 256) 
         ∙ ap (tidyTable (length t) s d) (sym (w .reads)))))
 
     -- answer, table and output together
-    pub tidied : (q ≡ tidyAnswer s d (readOf s (roomOf t)))
-        × ((y ≡ tidyTable (length t) s d (readOf s (roomOf t))) × (e ≡ tidyOutput s d (readOf s (roomOf t))))
-    tidied = (answer-is, (table-is, output-is))
+    pub tidied : TidyPromise s t d q y e
+    tidied = tidy-promised s t d q y e answer-is table-is output-is
 
 -- ---- a refused reading
 
@@ -144,6 +144,5 @@ module _ (s t u d : List ℕ) (a : ReadAnswer) (r : Refusal) (p : ℕ) (k : a �
   unfolding tidyOutput
   refused-output = rw outcome
 
-  pub untidied : (Q.Refused r p ≡ tidyAnswer s d (readOf s (roomOf t)))
-      × ((u ≡ tidyTable (length t) s d (readOf s (roomOf t))) × (d ≡ tidyOutput s d (readOf s (roomOf t))))
-  untidied = (refused-answer, (refused-table, refused-output))
+  pub untidied : TidyPromise s t d (Q.Refused r p) u d
+  untidied = tidy-promised s t d (Q.Refused r p) u d refused-answer refused-table refused-output

@@ -50,7 +50,7 @@ fn where_in(depth: usize, w: Where) -> Where
 pub fn record_step(
     s: &[u8],
     table: &mut [u32],
-    frames: &mut [u32; 384],
+    frames: &mut [u32; Reader::WORDS],
     m: Reader,
     w: Where,
 ) -> Step
@@ -71,7 +71,7 @@ pub fn record_step(
 }
 
 // A member value at once, or a record.
-pub fn one_step(s: &[u8], table: &mut [u32], frames: &mut [u32; 384], m: Reader) -> Step
+pub fn one_step(s: &[u8], table: &mut [u32], frames: &mut [u32; Reader::WORDS], m: Reader) -> Step
     requires { ⌜ Held (roomOf (now table)) m × (length (now frames) ≡ 384) × (length (now s) ≤ 16777216) ⌝ }
     ensures { λ q. ⌜ (after (now (table .exit)) (now (frames .exit)) q
         ≡ step (now (s .entry)) (roomOf (now (table .entry))) (stateOf (now (table .entry)) (now (frames .entry)) m))

@@ -1,4 +1,5 @@
 -- The answer is that of `row_text`.
+use Rattle.format.specs.Promises.{question-promised}
 use Rattle.view.specs.Laws.{question-part, question-fault}
 use borrow.Author.Needs.{needs}
 use Rattle.view.proofs.row_question.Statement.{statement}
@@ -11,5 +12,5 @@ row-question-spec =
     (λ c κs. search needs)
     (λ c. search needs)
     (λ c. search needs)
-    (λ c. question-part _ _ _ _ (c .before .before .row-text .ensures) _ _ (c .enum-told .given .1))
-    (λ c. question-fault _ _ _ _ (c .before .before .row-text .ensures) _ (c .enum-told2 .given .1)))
+    (λ c. question-promised _ _ _ _ (question-part _ _ _ _ (c .before .before .row-text .ensures) _ _ (c .enum-told .given .1)))
+    (λ c. question-promised _ _ _ _ (question-fault _ _ _ _ (c .before .before .row-text .ensures) _ (c .enum-told2 .given .1))))
