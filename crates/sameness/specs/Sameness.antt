@@ -13,8 +13,8 @@ use Rattle.format.specs.Rows.{roomOf}
 use Rattle.format.specs.Machine.{Outcome, accepted, refused, readOf}
 use Rattle.format.specs.Says.{says, SayTheSame}
 use Rattle.format.specs.Tidy.{tidyOf, tidyAnswer, tidyOutput, tidyTable}
-use Rattle.sameness.specs.declared.Sameness.{Sameness}
-use Rattle.sameness.specs.declared.Sameness.the-variants as S
+use Rattle.format.specs.declared.Sameness.{Sameness}
+use Rattle.format.specs.declared.Sameness.the-variants as S
 
 -- the tidy copy of a stream with this outcome; a refused one has none
 abbrev pub copied : List ℕ → Outcome → List ℕ

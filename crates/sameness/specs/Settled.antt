@@ -3,7 +3,7 @@ use Prim.Native.Nat.{ℕ}
 use mathlib.Core.Path.{_≡_, sym, ap₂, _∙_}
 use mathlib.Core.List.{List}
 use Rattle.demands.specs.Settled.{Settles}
-use Rattle.sameness.specs.declared.Sameness.{Sameness}
+use Rattle.format.specs.declared.Sameness.{Sameness}
 use Rattle.sameness.specs.Sameness.{Answered}
 
 -- answer, every word of the table and every byte of both outputs

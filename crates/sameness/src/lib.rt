@@ -1,17 +1,30 @@
 // Do two parts lists say the same? Both are tidied, and two lists say the same exactly when their tidy copies are equal, byte for byte.
-use format::Refusal;
+use format::Sameness;
 use format::TidyAnswer;
+ghost use mathlib.Core.Path.{_≡_};
 ghost use Rattle.sameness.specs.Sameness.{Answered};
+ghost use Rattle.sameness.specs.Laws.{Against, comparedAs};
 
-// Whether two lists say the same; or the first list whose reading is refused, with the refusal and its place; or the first whose tidy copy has no
-// room, with the length that it needs.
-pub enum Sameness {
-    Same,
-    Different,
-    FirstRefused(Refusal, usize),
-    SecondRefused(Refusal, usize),
-    FirstFull(usize),
-    SecondFull(usize),
+// Whether two copies are equal, as an answer.
+fn compared(copy: &[u8], other: &[u8]) -> Sameness
+    ensures { λ q. ⌜ q ≡ comparedAs (now (copy .entry)) (now (other .entry)) ⌝ }
+{
+    if check::same(copy, other) {
+        return Sameness::Same;
+    }
+    Sameness::Different
+}
+
+// The first list has this copy: the second list is tidied, and the copies are compared.
+fn against(copy: &[u8], b: &[u8], table: &mut [u32], second: &mut [u8]) -> Sameness
+    ensures { λ q. ⌜ Against (now (copy .entry)) (now (b .entry)) (now (table .entry)) (now (second .entry)) (now (table .exit)) (now (second .exit)) q ⌝ }
+{
+    let q = tidy::tidy(b, table, second);
+    match q {
+        TidyAnswer::Written(n) => compared(copy, &second[0..n]),
+        TidyAnswer::Refused(r, place) => Sameness::SecondRefused(r, place),
+        TidyAnswer::OutFull(n) => Sameness::SecondFull(n),
+    }
 }
 
 // Compares what the lists in `a` and `b` say. The tidy copies go to the front of `first` and `second`; the one table serves both readings.
@@ -26,19 +39,7 @@ pub fn say_the_same(
 {
     let p = tidy::tidy(a, table, first);
     match p {
-        TidyAnswer::Written(m) => {
-            let q = tidy::tidy(b, table, second);
-            match q {
-                TidyAnswer::Written(n) => {
-                    if check::same(&first[0..m], &second[0..n]) {
-                        return Sameness::Same;
-                    }
-                    Sameness::Different
-                }
-                TidyAnswer::Refused(r, place) => Sameness::SecondRefused(r, place),
-                TidyAnswer::OutFull(n) => Sameness::SecondFull(n),
-            }
-        }
+        TidyAnswer::Written(m) => against(&first[0..m], b, table, second),
         TidyAnswer::Refused(r, place) => Sameness::FirstRefused(r, place),
         TidyAnswer::OutFull(m) => Sameness::FirstFull(m),
     }

@@ -1,2 +1,3 @@
--- What the exported forms answer.
+-- What the exported forms answer, and that their promises allow one outcome each.
 pub mod Terminal
+pub mod Settled

@@ -17,7 +17,7 @@ use Rattle.format.specs.Rows.{roomOf}
 use Rattle.format.specs.Machine.{readOf}
 use Rattle.format.specs.Tidy.{tidyAnswer, tidyTable, tidyOutput}
 use Rattle.format.specs.View.{rowText, rowQuestion, textView}
-use Rattle.sameness.specs.declared.Sameness.{Sameness}
+use Rattle.format.specs.declared.Sameness.{Sameness}
 use Rattle.sameness.specs.Sameness as W
 use Rattle.replies.specs.Replies.{Answered, answered, textReply, endingOf, listOf, sameOf}
 use Rattle.view.specs.Laws.{question-part, question-fault, view-part, view-fault, row-inside}
