@@ -124,3 +124,10 @@ times-step f zero p h = absurd (omega arith)
 times-step f (suc n) p h =
     let d : suc n - 1 ≡ n = omega arith in
     rw d
+
+-- what the field at p answered, r, decides the rest
+pub times-more : (f : ℕ → Field) (n p q : ℕ) (r : Field) → 0 < n → r ≡ f p → r ≡ F.End q → times f n p ≡ times f (n - 1) q
+times-more f n p q r h e d = times-step f n p h ∙ ap (onEnd (times f (n - 1))) (sym e ∙ d)
+
+pub times-fault : (f : ℕ → Field) (n p : ℕ) (x : Refusal) (r : Field) → 0 < n → r ≡ f p → r ≡ F.Fault x → times f n p ≡ F.Fault x
+times-fault f n p x r h e d = times-step f n p h ∙ ap (onEnd (times f (n - 1))) (sym e ∙ d)

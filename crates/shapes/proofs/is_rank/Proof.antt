@@ -8,5 +8,5 @@ is-rank-spec =
     tie.close
     (tie.spec
     (λ c. rw (ne-eqb _ _ (c .if1 .taken)))
-    (λ c. rw (eq-eqb _ _ (c .before .if1 .left), lt-leb _ _ (c .if2 .taken)))
-    (λ c. rw (eq-eqb _ _ (c .before .if1 .left), le-leb _ _ (c .if2 .left))))
+    (λ c. rw (eq-eqb _ _ (c .before .if1 .left), lt-leb 2 _ (c .if2 .taken)))
+    (λ c. rw (eq-eqb _ _ (c .before .if1 .left), le-leb 2 _ (c .if2 .left))))

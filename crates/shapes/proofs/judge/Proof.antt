@@ -10,5 +10,5 @@ judge-spec =
     (tie.spec
     (λ c. search needs)
     (λ c. search needs)
-    (λ c. rw (le-leb _ _ (c .if1 .taken)))
-    (λ c. rw (lt-leb _ _ (c .if1 .left))))
+    (λ c. rw (le-leb _ 2147483647 (c .if1 .taken)))
+    (λ c. rw (lt-leb _ 2147483647 (c .if1 .left))))

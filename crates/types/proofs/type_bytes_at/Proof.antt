@@ -2,7 +2,7 @@
 use borrow.Author.Needs.{needs}
 use mathlib.Core.Path.{_≡_, refl, sym, _∙_}
 use native.Mathlib.Omega.{arith}
-use Rattle.fields.specs.Sequence.{times-none, times-step}
+use Rattle.fields.specs.Sequence.{times-none, times-more, times-fault}
 use Rattle.format.specs.Values.{times}
 use Rattle.format.specs.Types.{typeByteAt}
 use Rattle.types.proofs.type_bytes_at.Statement.{statement}
@@ -26,10 +26,10 @@ type-bytes-at-spec =
     (λ c. search needs)
     (λ c.
     let v = c .before .before .before in
-    sym (v .before .before .loop .inv ∙ (times-step _ _ _ (omega arith) ∙ rw (← v .type-byte-at .ensures, c .before .f .given .1))))
+    sym (v .before .before .loop .inv ∙ times-fault _ _ _ _ _ (omega arith) (v .type-byte-at .ensures) (c .before .f .given .1)))
     (λ c. search needs)
     (λ c. search needs)
     (λ c.
     let v = c .before .before .before in
-    v .before .before .loop .inv ∙ (times-step _ _ _ (omega arith) ∙ rw (← v .type-byte-at .ensures, c .before .next .given .1)))
+    v .before .before .loop .inv ∙ times-more _ _ _ _ _ (omega arith) (v .type-byte-at .ensures) (c .before .next .given .1))
     (λ c. sym (c .before .loop .inv ∙ times-none _ _ _ (omega arith))))
