@@ -1,11 +1,15 @@
-// What a job leaves in the lent table and output, as hashes that programs print, and what stands there before it. For comparing with the
-// independent reader and tidier; what is written cannot be promised.
+// What a job leaves in the lent table and output, as hashes that programs print, what stands there before it, and the sizes that stand before a
+// stream. For comparing with the independent reader and tidier; what is written cannot be promised, what is hashed is.
 use format::Number32;
 use libc::STDOUT_FILENO;
 ghost use Prim.Native.Nat.{_<_};
+ghost use mathlib.Core.Path.{_≡_};
+ghost use Rattle.traces.specs.Traces.{stirred, lanesOf, litteredWords, litteredBytes, sizeAt};
 
 // The table holds something else before each stream.
-pub fn litter_words(table: &mut [u32]) {
+pub fn litter_words(table: &mut [u32])
+    ensures { λ _. ⌜ now (table .exit) ≡ litteredWords (now (table .entry)) ⌝ }
+{
     let mut i: usize = 0;
     while i < table.len() {
         table[i] = 2779096485;
@@ -14,7 +18,9 @@ pub fn litter_words(table: &mut [u32]) {
 }
 
 // So does the output.
-pub fn litter_bytes(out: &mut [u8]) {
+pub fn litter_bytes(out: &mut [u8])
+    ensures { λ _. ⌜ now (out .exit) ≡ litteredBytes (now (out .entry)) ⌝ }
+{
     let mut i: usize = 0;
     while i < out.len() {
         out[i] = 165;
@@ -28,9 +34,10 @@ pub struct Lanes {
     pub b: u64,
 }
 
+// The lanes after one word more.
 fn stir(l: Lanes, w: u32) -> Lanes
     requires { ⌜ (l .a < 4294967291) × (l .b < 4294967291) ⌝ }
-    ensures { λ r. ⌜ (r .a < 4294967291) × (r .b < 4294967291) ⌝ }
+    ensures { λ r. ⌜ r ≡ stirred l w ⌝ }
 {
     Lanes {
         a: (l.a * 65599 + (w as u64) + 1) % 4294967291,
@@ -39,7 +46,9 @@ fn stir(l: Lanes, w: u32) -> Lanes
 }
 
 // The hash of the words of a table.
-pub fn words(table: &[u32]) -> Lanes {
+pub fn words(table: &[u32]) -> Lanes
+    ensures { λ r. ⌜ r ≡ lanesOf (now (table .entry)) ⌝ }
+{
     let mut l = Lanes { a: 0, b: 0 };
     let mut i: usize = 0;
     while i < table.len() {
@@ -49,16 +58,14 @@ pub fn words(table: &[u32]) -> Lanes {
     l
 }
 
-fn wide(b: u8) -> u32 {
-    b as u32
-}
-
 // The hash of the bytes of an output, each taken as a word.
-pub fn bytes(out: &[u8]) -> Lanes {
+pub fn bytes(out: &[u8]) -> Lanes
+    ensures { λ r. ⌜ r ≡ lanesOf (now (out .entry)) ⌝ }
+{
     let mut l = Lanes { a: 0, b: 0 };
     let mut i: usize = 0;
     while i < out.len() {
-        l = stir(l, wide(out[i]));
+        l = stir(l, out[i] as u32);
         i += 1;
     }
     l
@@ -85,7 +92,9 @@ pub fn refused(number_of: u32, place: usize) {
 }
 
 // The number of four bytes at a place of what stands before a stream, or 0.
-pub fn size_at(head: &[u8], at: usize) -> usize {
+pub fn size_at(head: &[u8], at: usize) -> usize
+    ensures { λ r. ⌜ r ≡ sizeAt (now (head .entry)) at ⌝ }
+{
     let v = num::u32_at(head, at);
     match v {
         Number32::Value(n, _) => n as usize,

@@ -1,12 +1,14 @@
--- Both lanes stay below the modulus.
-use Prim.Native.Nat.{_≤_, _<_, _-_}
-use borrow.Author.Needs.{needs}
+-- Invariant: the lanes are the hash of the first i bytes. Measure: the bytes left.
+use Prim.Native.Nat.{_-_}
+use borrow.Author.Needs.{needs, fits-under}
+use native.Mathlib.Omega.{arith}
 use lib.ListN.{length}
+use Rattle.traces.specs.Laws.{Hashed, hashed-none, hashed-more, hashed-all}
 use Rattle.traces.proofs.bytes.Statement.{statement}
 use Rattle.traces.proofs.bytes.Tie as tie
 
 abbrev Inv-loop : tie.InvT-loop
-Inv-loop out l₀ i₀ l i = (i ≤ length out) × (l .a < 4294967291) × (l .b < 4294967291)
+Inv-loop out l₀ i₀ l i = Hashed out i l
 
 abbrev μ-loop : tie.MeasureT-loop
 μ-loop out l₀ i₀ l i = length out - i
@@ -17,11 +19,11 @@ bytes-spec =
     (tie.spec
     Inv-loop
     μ-loop
+    (λ c. hashed-none _)
+    (λ c. search needs)
+    (λ c. fits-under _ _ _ (c .shared-slice-known2 .given _ .fits) tt)
+    (λ c κs. c .before .before .loop .inv .below)
     (λ c. search needs)
     (λ c. search needs)
-    (λ c. search needs)
-    (λ c κs. search needs)
-    (λ c. search needs)
-    (λ c. search needs)
-    (λ c. search needs)
-    (λ c. search needs))
+    (λ c. hashed-more _ _ _ _ (c .before .before .before .loop .inv) (omega arith) (c .stir .ensures))
+    (λ c. hashed-all _ _ _ (c .before .loop .inv) (omega arith)))
