@@ -51,6 +51,7 @@ fn left(n: usize) {
 // The number of a row, its offset and the offset after its own bytes, and blanks by how deep it stands.
 fn margin(table: &[u32], i: usize, r: Row) {
     right(i);
+    say(b" ");
     right(r.offset as usize);
     say(b"..");
     left(r.end as usize);
@@ -72,7 +73,7 @@ fn rows(s: &[u8], table: &[u32], end: usize) {
 fn accepted(s: &[u8], table: &[u32], end: usize) {
     say(b"accepted, ");
     number(end as u64);
-    say(b" rows\n  row  bytes         what stands there\n");
+    say(b" rows\n  row   bytes         what stands there\n");
     rows(s, table, end);
 }
 
