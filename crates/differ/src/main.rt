@@ -2,13 +2,14 @@
 // `refused` or `unusable`. Where the lists differ it names the row of the tidy copies in which they first do, and what that row says in each.
 use format::ReadAnswer;
 use format::Refusal;
-use format::TidyAnswer;
-use sameness::Sameness;
+use format::Sameness;
 use spelling::number;
 use spelling::say;
 ghost use mathlib.Core.Path.{_≡_};
+ghost use mathlib.Core.Bool.{not, _||_};
 ghost use Prim.Native.Nat.{_≤_};
 ghost use lib.ListN.{length};
+ghost use lib.Dec.{eqb};
 
 // The file that argument i names, as a text.
 fn file_name(i: usize) {
@@ -52,8 +53,10 @@ fn refused(i: usize, r: Refusal, place: usize) {
     refusals::refusal(r, place);
 }
 
-// A file that no list can be read from; false where it can.
-fn unusable(i: usize, l: Loaded) -> bool {
+// Whether no list can be read from a file, since it was not opened or has more than 65,535 bytes; then it says so.
+fn unusable(i: usize, l: Loaded) -> bool
+    ensures { λ r. ⌜ r ≡ (not (l .opened) || eqb (l .size) 65536) ⌝ }
+{
     if !l.opened {
         say(b"unusable: ");
         file_name(i);
@@ -68,40 +71,12 @@ fn unusable(i: usize, l: Loaded) -> bool {
     false
 }
 
-// How many bytes two copies have in common from their first on.
-fn common(a: &[u8], b: &[u8]) -> usize {
-    let mut i: usize = 0;
-    while i < a.len() {
-        if b.len() <= i {
-            return i;
-        }
-        if a[i] != b[i] {
-            return i;
-        }
-        i += 1;
-    }
-    i
-}
-
-// The row below `end` whose own bytes hold the byte at a place, or `end`.
-fn row_of(table: &[u32], end: usize, place: usize) -> usize {
-    let mut i: usize = 0;
-    while i < end {
-        let r = members::row_at(table, i);
-        if place < (r.end as usize) {
-            return i;
-        }
-        i += 1;
-    }
-    end
-}
-
 // The row of a copy that holds the byte at a place, by its number and its kind, and what it says.
 fn told(copy: &[u8], table: &mut [u32], place: usize) {
     let a = reader::read(copy, table);
     match a {
         ReadAnswer::Accepted(n) => {
-            let i = row_of(table, n, place);
+            let i = difference::row_of(table, n, place);
             let r = members::row_at(table, i);
             number(i as u64);
             say(b" (");
@@ -116,7 +91,7 @@ fn told(copy: &[u8], table: &mut [u32], place: usize) {
 
 // Where two copies first differ.
 fn apart(a: &[u8], b: &[u8], table: &mut [u32]) {
-    let place = common(a, b);
+    let place = difference::common(a, b);
     say(b"different: the tidy copies first differ at byte ");
     number(place as u64);
     say(b"\nfirst, row ");
@@ -125,19 +100,10 @@ fn apart(a: &[u8], b: &[u8], table: &mut [u32]) {
     told(b, table, place);
 }
 
-// How long a copy is.
-fn length_of(a: TidyAnswer) -> usize {
-    match a {
-        TidyAnswer::Written(n) => n,
-        TidyAnswer::Refused(_, _) => 0,
-        TidyAnswer::OutFull(_) => 0,
-    }
-}
-
 // Tidies both lists again for the lengths of their copies. A copy is never longer than its output, so the tests only say so to the proof.
 fn different(a: &[u8], b: &[u8], table: &mut [u32], first: &mut [u8], second: &mut [u8]) {
-    let m = length_of(tidy::tidy(a, table, first));
-    let n = length_of(tidy::tidy(b, table, second));
+    let m = difference::length_of(tidy::tidy(a, table, first));
+    let n = difference::length_of(tidy::tidy(b, table, second));
     if m <= first.len() {
         if n <= second.len() {
             apart(&first[..m], &second[..n], table);

@@ -4,11 +4,11 @@ use mathlib.Core.Path.{_≡_, refl}
 use mathlib.Core.List.{List}
 use native.Mathlib.Omega.{arith}
 use lib.ListN.{getD}
-use borrow.Author.Tests.{lt-ltb, le-ltb, eq-eqb, ne-eqb}
+use borrow.Author.Tests.{lt-ltb, le-ltb, le-leb, lt-leb, eq-eqb, ne-eqb}
 use Rattle.format.specs.declared.Row.{Row}
 use Rattle.format.specs.Rows.{roomOf}
 use Rattle.peeking.specs.Peeking.{onward, byteAt, fourAt, afterString}
-use Rattle.members.specs.Members.{wordOf, rowIn, depthFrom, fieldsRow, afterStrings, afterDetail, detailFrom, libraryOf}
+use Rattle.members.specs.Members.{wordOf, rowIn, depthFrom, slotsFilled, lastOf, fieldsRow, afterStrings, afterDetail, detailFrom, libraryOf}
 
 -- ---- rows
 
@@ -52,6 +52,30 @@ depth-on zero j t w v h d e f = absurd (omega arith)
 depth-on (suc k) j t w v h d e f =
     let g : k ≡ j = omega arith in
     rw (ne-eqb w 0 e, ← f, g) (omega arith)
+
+-- ---- the slots that a row fills
+
+module _ (r : Row) where
+  pub filled-run : r .kind ≡ 13 → r .count ≡ slotsFilled r
+  unfolding slotsFilled
+  filled-run e = rw (eq-eqb (r .kind) 13 e)
+
+  pub filled-long : r .kind ≡ 14 → r .count ≡ slotsFilled r
+  unfolding slotsFilled
+  filled-long e = rw (ne-eqb (r .kind) 13 (λ f. omega arith), eq-eqb (r .kind) 14 e)
+
+  pub filled-one : (r .kind ≡ 13 → ⊥) → (r .kind ≡ 14 → ⊥) → 1 ≡ slotsFilled r
+  unfolding slotsFilled
+  filled-one e f = rw (ne-eqb (r .kind) 13 e, ne-eqb (r .kind) 14 f)
+
+module _ (first count : ℕ) where
+  pub last-in : first + count ≤ 4294967295 → first + (count - 1) ≡ lastOf first count
+  unfolding lastOf
+  last-in h = rw (le-leb (first + count) 4294967295 h)
+
+  pub last-past : 4294967295 < first + count → first ≡ lastOf first count
+  unfolding lastOf
+  last-past h = rw (lt-leb (first + count) 4294967295 h)
 
 -- ---- strings and details in a row
 

@@ -1,9 +1,9 @@
--- Rows by the names of their words, and what the record of a class says of its members. Every stream, table and row is taken.
+-- Rows by the names of their words, the slots that they fill, and what the record of a class says of its members. Every stream, table and row is taken.
 use Prim.Native.Nat.{ℕ, zero, suc, _+_, _-_, _*_}
 use mathlib.Core.Bool.{Bool, _||_}
 use mathlib.Core.List.{List}
 use lib.ListN.{getD}
-use lib.Dec.{ltb, eqb}
+use lib.Dec.{ltb, leb, eqb}
 use Rattle.format.specs.declared.Row.{Row}
 use Rattle.format.specs.Bytes.{pick}
 use Rattle.format.specs.Rows.{roomOf}
@@ -40,6 +40,14 @@ depthFrom (suc k) t w = pick (eqb w 0) 0 (suc (depthFrom k t (wordOf t (namedRow
 
 abbrev pub depthOf : List ℕ → ℕ → ℕ
 depthOf t owner = depthFrom 64 t owner
+
+-- how many slots a row fills: a null run as many as it counts, any other row one
+unfoldable pub slotsFilled : Row → ℕ
+slotsFilled r = pick (eqb (r .kind) 13 || eqb (r .kind) 14) (r .count) 1
+
+-- the last of so many slots, of none the first; the first too where the one after the last has no number
+unfoldable pub lastOf : ℕ → ℕ → ℕ
+lastOf first count = pick (leb (first + count) 4294967295) (first + (count - 1)) first
 
 unfoldable pub hasMembers : ℕ → Bool
 hasMembers kind = eqb kind 1 || (eqb kind 4 || eqb kind 5)

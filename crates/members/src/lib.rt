@@ -1,11 +1,12 @@
-// Rows by the names of their words, and what the record of a class says of its members: names and primitive codes, found in the stream where the
-// class's row points. Every stream, table and row is taken; a row that is not there has words of 0.
+// Rows by the names of their words, the slots that they fill, and what the record of a class says of its members: names and primitive codes, found in
+// the stream where the class's row points. Every stream, table and row is taken; a row that is not there has words of 0.
+use format::Reader;
 use format::Row;
 use peeking::Span;
 use peeking::on;
 ghost use mathlib.Core.Path.{_≡_};
-ghost use Rattle.members.specs.Members.{wordOf, rowIn, namedRow, depthOf, hasMembers, fieldsRow, namesAt, afterStrings, memberName};
-ghost use Rattle.members.specs.Members.{afterDetail, detailOf, memberCode, libraryOf, className};
+ghost use Rattle.members.specs.Members.{wordOf, rowIn, namedRow, depthOf, slotsFilled, lastOf, hasMembers, fieldsRow, namesAt};
+ghost use Rattle.members.specs.Members.{afterStrings, memberName, afterDetail, detailOf, memberCode, libraryOf, className};
 
 // ---- rows
 
@@ -54,7 +55,7 @@ pub fn depth_of(table: &[u32], owner: u32) -> usize
 {
     let mut w = owner;
     let mut depth: usize = 0;
-    while depth < 64 {
+    while depth < Reader::OPEN {
         if w == 0 {
             return depth;
         }
@@ -62,6 +63,31 @@ pub fn depth_of(table: &[u32], owner: u32) -> usize
         depth += 1;
     }
     depth
+}
+
+// How many slots a row fills: a null run as many as it counts, any other row one.
+pub fn filled(r: Row) -> u32
+    ensures { λ n. ⌜ n ≡ slotsFilled r ⌝ }
+{
+    let kind = r.kind;
+    match kind {
+        13 => r.count,
+        14 => r.count,
+        _ => 1,
+    }
+}
+
+// The last of so many slots; the first where there is none, or where the one after the last has no number.
+pub fn last_of(first: u32, count: u32) -> u32
+    ensures { λ r. ⌜ r ≡ lastOf first count ⌝ }
+{
+    if count == 0 {
+        return first;
+    }
+    if 4294967295 - first < count {
+        return first;
+    }
+    first + (count - 1)
 }
 
 // Whether a kind is that of a class's object.

@@ -1,6 +1,6 @@
 -- Laws of places: one for each way that the code ends, and where plain bytes end.
-use Prim.Native.Nat.{ℕ, suc, _+_, _≤_, _<_}
-use mathlib.Core.Path.{_≡_, refl, sym}
+use Prim.Native.Nat.{ℕ, suc, _+_, _*_, _≤_, _<_}
+use mathlib.Core.Path.{_≡_, refl, sym, _∙_}
 use mathlib.Core.Bool.{Bool, true, false}
 use mathlib.Core.List.{List, [], _∷_}
 use native.Mathlib.Omega.{arith}
@@ -12,7 +12,7 @@ use borrow.Author.Needs.{needs}
 use borrow.Author.Tests.{lt-ltb, le-ltb, le-leb, lt-leb, eq-eqb, ne-eqb, leb-true}
 use Rattle.format.specs.Bytes.{pick}
 use Rattle.peeking.specs.declared.Span.{Span}
-use Rattle.peeking.specs.Peeking.{onward, byteAt, groupsSay, spanFrom, spanBy, spanAt, afterString, isPlain, plainCount, plainEnd, charSize, fixedSize, afterValue}
+use Rattle.peeking.specs.Peeking.{onward, byteAt, groupsSay, spanFrom, spanBy, spanAt, afterString, isPlain, hiddenBy, hiddenAt, plainCount, plainEnd, charSize, fixedSize, afterValue}
 
 -- closes a return whose definition picks its case by tests
 pub ruleset auto = (needs, lt-ltb, le-ltb, le-leb, lt-leb, eq-eqb, ne-eqb)
@@ -22,6 +22,15 @@ pub ruleset auto = (needs, lt-ltb, le-ltb, le-leb, lt-leb, eq-eqb, ne-eqb)
 pub onward-in : (s : List ℕ) (at n : ℕ) → at + n ≤ length s → at + n ≡ onward s at n
 unfolding onward
 onward-in s at n h = simp le-leb
+
+-- at least one byte on, within the stream
+pub onward-on : (s : List ℕ) (at n r : ℕ) → r ≡ onward s at n → at < length s → 0 < n → (at < r) × (r ≤ length s)
+unfolding onward
+onward-on s at n r e h g = go (leb (at + n) (length s)) refl
+  where
+    go : (t : Bool) → leb (at + n) (length s) ≡ t → (at < r) × (r ≤ length s)
+    go true q = let w = leb-true (at + n) (length s) q in let z : r ≡ at + n = e ∙ rw q in (omega arith, omega arith)
+    go false q = let z : r ≡ length s = e ∙ rw q in (omega arith, omega arith)
 
 pub onward-end : (s : List ℕ) (at n : ℕ) → length s ≤ at → length s ≡ onward s at n
 unfolding onward
@@ -61,6 +70,11 @@ module _ (s : List ℕ) (at n : ℕ) (r : Span) where
   span-four a b c d e g f1 f2 f3 f4 h1 h2 h3 = rw (← f1, ← f2, ← f3, ← f4, le-ltb a 128 h1, le-ltb b 128 h2, le-ltb c 128 h3, ← g) e
 
 -- ---- plain bytes
+
+-- the first three bytes of a character, each from its own place
+pub hidden-told : (s : List ℕ) (at p q a b c r : ℕ) → p ≡ onward s at 1 → q ≡ onward s at 2 → a ≡ byteAt s at → b ≡ byteAt s p → c ≡ byteAt s q
+    → r ≡ hiddenBy (65536 * a + 256 * b + c) → r ≡ hiddenAt s at
+hidden-told s at p q a b c r e f g h i j = rw (← e, ← f, ← g, ← h, ← i) j
 
 pub plain-past : (s : List ℕ) (at : ℕ) → length s ≤ at → plainEnd s at ≡ at
 unfolding plainEnd plainCount

@@ -12,6 +12,10 @@ use Rattle.peeking.specs.declared.Span.{Span}
 unfoldable pub onward : List ℕ → ℕ → ℕ → ℕ
 onward s at n = pick (leb (at + n) (length s)) (at + n) (length s)
 
+-- the place after the rank of an array and so many lengths, four bytes each
+abbrev pub afterLengths : List ℕ → ℕ → ℕ → ℕ
+afterLengths s at rank = onward s at (4 + 4 * rank)
+
 abbrev pub byteAt : List ℕ → ℕ → ℕ
 byteAt s at = getD s at 0
 
@@ -52,7 +56,20 @@ afterString s at = spanAt s at .to
 
 -- no control character and no backslash
 unfoldable pub isPlain : ℕ → Bool
-isPlain b = pick (ltb b 32) false (pick (eqb b 92) false (pick (eqb b 127) false true))
+isPlain b =
+    pick (ltb b 32) false
+    (pick (eqb b 34) false
+    (pick (eqb b 92) false (pick (eqb b 96) false (pick (eqb b 127) false (pick (eqb b 194) false (pick (eqb b 226) false true))))))
+
+-- how many bytes a character has that is not shown as it is, by the number of its first three bytes; 0 where it is shown
+unfoldable pub hiddenBy : ℕ → ℕ
+hiddenBy n =
+    pick (ltb n 0xC28000) 1
+    (pick (ltb n 0xC2A000) 2
+    (pick (ltb n 0xE280A8) 0 (pick (ltb n 0xE280AF) 3 (pick (ltb n 0xE281A6) 0 (pick (ltb n 0xE281AA) 3 0)))))
+
+abbrev pub hiddenAt : List ℕ → ℕ → ℕ
+hiddenAt s at = hiddenBy (65536 * byteAt s at + 256 * byteAt s (onward s at 1) + byteAt s (onward s at 2))
 
 -- how many plain bytes begin a list
 unfoldable pub plainCount : List ℕ → ℕ

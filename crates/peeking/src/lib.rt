@@ -1,9 +1,9 @@
-// What stands at a place of a stream, for programs that show lists: bytes, numbers, the texts of strings, where values end. Every stream and
-// every place is taken; past the end stand zeros and empty texts.
-ghost use Prim.Native.Nat.{_+_, _*_, _%_};
+// What stands at a place of a stream, for programs that show lists: bytes, numbers, the texts of strings, where lengths and values end. Every stream
+// and every place is taken; past the end stand zeros and empty texts.
+ghost use Prim.Native.Nat.{_+_, _-_, _*_, _%_};
 ghost use mathlib.Core.Path.{_≡_};
 ghost use Rattle.peeking.specs.Peeking.{onward, byteAt, twoAt, fourAt, eightAt, groupsSay, spanFrom, spanAt, afterString};
-ghost use Rattle.peeking.specs.Peeking.{charSize, fixedSize, afterValue, isPlain, plainEnd};
+ghost use Rattle.peeking.specs.Peeking.{afterLengths, charSize, fixedSize, afterValue, isPlain, hiddenBy, hiddenAt, plainEnd};
 
 // ---- places
 
@@ -18,6 +18,23 @@ pub fn on(s: &[u8], at: usize, n: usize) -> usize
         return s.len();
     }
     at + n
+}
+
+// The place n bytes before, never before the first.
+pub fn back(at: usize, n: usize) -> usize
+    ensures { λ r. ⌜ r ≡ at - n ⌝ }
+{
+    if at < n {
+        return 0;
+    }
+    at - n
+}
+
+// The place after the rank of an array and so many lengths.
+pub fn after_lengths(s: &[u8], at: usize, rank: u32) -> usize
+    ensures { λ r. ⌜ r ≡ afterLengths (now (s .entry)) at rank ⌝ }
+{
+    on(s, at, 4 + 4 * (rank as usize))
 }
 
 // The byte at a place.
@@ -130,20 +147,60 @@ pub fn after_string(s: &[u8], at: usize) -> usize
     t.to
 }
 
-// Whether a byte of a text is shown as it is: no control character and no backslash.
+// Whether a byte of a text is shown as it is, whatever stands behind it: no control character, no quotation mark of a text (34) or of a name (96), no
+// backslash (92), and not the first byte of a character that may be hidden (194 and 226).
 pub fn is_plain(b: u8) -> bool
     ensures { λ r. ⌜ r ≡ isPlain b ⌝ }
 {
     if b < 32 {
         return false;
     }
-    if b == 92 {
-        return false;
+    match b {
+        34 => false,
+        92 => false,
+        96 => false,
+        127 => false,
+        194 => false,
+        226 => false,
+        _ => true,
     }
-    if b == 127 {
-        return false;
+}
+
+// How many bytes a character has that is not shown as it is, by the number of its first three bytes; 0 where it is shown. Not shown are control
+// characters of one byte and of two (C2 80 to C2 9F), the ends of lines and paragraphs and the marks that turn the direction of writing (E2 80 A8 to
+// E2 80 AE, E2 81 A6 to E2 81 A9).
+fn hidden(n: u32) -> usize
+    ensures { λ r. ⌜ r ≡ hiddenBy n ⌝ }
+{
+    if n < 0xC28000 {
+        return 1;
     }
-    true
+    if n < 0xC2A000 {
+        return 2;
+    }
+    if n < 0xE280A8 {
+        return 0;
+    }
+    if n < 0xE280AF {
+        return 3;
+    }
+    if n < 0xE281A6 {
+        return 0;
+    }
+    if n < 0xE281AA {
+        return 3;
+    }
+    0
+}
+
+// The same of the character at a place whose first byte is not plain.
+pub fn hidden_at(s: &[u8], at: usize) -> usize
+    ensures { λ r. ⌜ r ≡ hiddenAt (now (s .entry)) at ⌝ }
+{
+    let a = byte_at(s, at) as u32;
+    let b = byte_at(s, on(s, at, 1)) as u32;
+    let c = byte_at(s, on(s, at, 2)) as u32;
+    hidden(65536 * a + 256 * b + c)
 }
 
 // Where the bytes from a place on that are shown as they are end; a place past the end itself.

@@ -91,17 +91,9 @@ fn marked_bytes(s: &[u8], from: usize, to: usize, mark: usize) {
     }
 }
 
-// The place n bytes before.
-fn back(at: usize, n: usize) -> usize {
-    if at < n {
-        return 0;
-    }
-    at - n
-}
-
 // The bytes around a place, up to 12 before it and 12 from it on, as one line.
 pub fn around(s: &[u8], place: usize) {
-    let from = back(place, 12);
+    let from = peeking::back(place, 12);
     say(b"bytes from ");
     number(from as u64);
     say(b":");

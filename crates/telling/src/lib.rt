@@ -198,7 +198,7 @@ fn array_type(t: u8) {
 fn array(s: &[u8], r: Row) {
     let at = on(s, r.offset as usize, 6);
     let rank = peeking::u32_at(s, at);
-    let after = after_lengths(s, at, rank);
+    let after = peeking::after_lengths(s, at, rank);
     let t = peeking::byte_at(s, after);
     let detail = on(s, after, 1);
     array_type(peeking::byte_at(s, on(s, r.offset as usize, 5)));
@@ -211,11 +211,6 @@ fn array(s: &[u8], r: Row) {
     if t == 0 {
         listed(s, on(s, detail, 1), peeking::byte_at(s, detail), r.count);
     }
-}
-
-// The place after the rank and so many lengths.
-fn after_lengths(s: &[u8], at: usize, rank: u32) -> usize {
-    on(s, on(s, at, 4), 4 * (rank as usize))
 }
 
 // A primitive value with its code.
@@ -304,27 +299,7 @@ fn slots(s: &[u8], table: &[u32], owner: Row, first: u32, count: u32) {
     say(b"slots ");
     slot_name(s, table, owner, first);
     say(b" to ");
-    slot_name(s, table, owner, last_of(first, count));
-}
-
-// The last of so many slots.
-fn last_of(first: u32, count: u32) -> u32 {
-    if count == 0 {
-        return first;
-    }
-    if 4294967295 - first < count {
-        return first;
-    }
-    first + (count - 1)
-}
-
-// How many slots a row fills: a null run as many as it counts, any other row one.
-fn filled(r: Row) -> u32 {
-    let kind = r.kind;
-    match kind {
-        13 | 14 => r.count,
-        _ => 1,
-    }
+    slot_name(s, table, owner, members::last_of(first, count));
 }
 
 // What a row says, after the slot that it fills.
@@ -332,7 +307,7 @@ pub fn row(s: &[u8], table: &[u32], i: usize) {
     let r = row_at(table, i);
     if r.owner != 0 {
         let owner = row_at(table, named_row(r.owner));
-        slots(s, table, owner, r.slot, filled(r));
+        slots(s, table, owner, r.slot, members::filled(r));
         say(b": ");
     }
     record(s, table, i, r);
