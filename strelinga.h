@@ -43,7 +43,7 @@ enum strelinga_reply {
 
 /* The words of a row, eight to a row. */
 enum strelinga_word {
-    STRELINGA_KIND = 0,
+    STRELINGA_KIND = 0,   /* the record's first byte; 32 is the value of a class member, which has no record */
     STRELINGA_OFFSET = 1,
     STRELINGA_END = 2,    /* offset after its own bytes */
     STRELINGA_ID = 3,     /* ObjectId, LibraryId, IdRef or RootId as unsigned bits, else 0 */

@@ -6,7 +6,7 @@
 
 enum { BYTES = 65536, WORDS = 8192 * STRELINGA_ROW_WORDS };
 
-static uint8_t stream[BYTES];
+static uint8_t stream[BYTES + 1];
 static uint8_t copy[2 * BYTES];
 static uint32_t table[WORDS];
 
@@ -16,8 +16,13 @@ static int refused(uint32_t reply, uint64_t place) {
 }
 
 int main(void) {
-    size_t bytes = fread(stream, 1, BYTES, stdin);
+    size_t bytes = fread(stream, 1, sizeof stream, stdin);
     uint64_t place, rows, from, length;
+
+    if (bytes > BYTES) {
+        printf("more than %d bytes\n", BYTES);
+        return 2;
+    }
 
     uint32_t reply = strelinga_read(stream, bytes, table, WORDS, &place, &rows);
     if (reply != STRELINGA_DONE) {
@@ -28,7 +33,9 @@ int main(void) {
     for (uint64_t row = 0; row < rows; row++) {
         if (strelinga_row_question(stream, bytes, table, WORDS, row) == STRELINGA_DONE) {
             strelinga_text_view(stream, bytes, table, WORDS, row, &from, &length);
-            printf("row %" PRIu64 ": %.*s\n", row, (int)length, (const char *)stream + from);
+            printf("row %" PRIu64 ": ", row);
+            fwrite(stream + from, 1, length, stdout);
+            printf("\n");
         }
     }
 

@@ -15,7 +15,11 @@ fn refused(refusal: Refusal, place: impl Display) -> ! {
 
 fn main() -> Result<(), Box<dyn Error>> {
     let mut stream = Vec::new();
-    stdin().take(BYTES as u64).read_to_end(&mut stream)?;
+    stdin().take(BYTES as u64 + 1).read_to_end(&mut stream)?;
+    if stream.len() > BYTES {
+        println!("more than {BYTES} bytes");
+        exit(2);
+    }
     let mut table = vec![0; 8192 * ROW_WORDS];
     let mut copy = vec![0; 2 * BYTES];
 

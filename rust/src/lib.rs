@@ -5,7 +5,9 @@
 //! eight to a row, an output is bytes. Any bytes and any sizes are taken, none at all too. Nothing is allocated, nothing is kept after a
 //! call, and nothing is shared, so calls on separate memory may run at once.
 //!
-//! ```text
+//! ```no_run
+//! # fn main() -> Result<(), strelinga::Refused> {
+//! # let stream = Vec::new();
 //! let mut table = vec![0; strelinga::ROW_WORDS * stream.len()];
 //! let count = strelinga::read(&stream, &mut table)?;
 //! for (number, row) in strelinga::rows(&table).enumerate() {
@@ -13,6 +15,8 @@
 //!         println!("row {number} at {}: {}", row.offset(), String::from_utf8_lossy(text));
 //!     }
 //! }
+//! # Ok(())
+//! # }
 //! ```
 #![deny(unsafe_code, missing_docs)]
 

@@ -450,22 +450,24 @@ fn prefixes() -> Vec<Case> {
 fn texts() -> Vec<Case> {
     let string =
         |bytes: &[u8]| Stream::new().bytes(&[6]).int(1).bytes(&[bytes.len() as u8]).bytes(bytes);
-    let bad: [&[u8]; 9] = [
+    let bad: [&[u8]; 11] = [
         &[0xFF],
         &[0x80],
         &[0xC3],
         &[0xC0, 0x80],
         &[0xE0, 0x80, 0x80],
+        &[0xE0, 0x9F, 0xBF],
         &[0xED, 0xA0, 0x80],
         &[0xF4, 0x90, 0x80, 0x80],
         &[0xF0, 0x80, 0x80, 0x80],
+        &[0xF0, 0x8F, 0xBF, 0xBF],
         &[b'A', 0xE2, 0x82, b'A'],
     ];
     let mut cases: Vec<Case> = bad
         .iter()
         .map(|bytes| case(&format!("text {bytes:02X?}"), string(bytes).end(), Refused(8, 17)))
         .collect();
-    for text in ["\0", "\u{ffff}", "\u{10ffff}", "\u{d7ff}\u{e000}", "\u{80}\u{800}"] {
+    for text in ["\0", "\u{ffff}", "\u{10000}", "\u{10ffff}", "\u{d7ff}\u{e000}", "\u{80}\u{800}"] {
         let stream = Stream::new().string(1, text).end();
         cases.push(case(&format!("text {text:?}"), stream.clone(), Accepted(3)).copied(stream));
     }
@@ -475,7 +477,7 @@ fn texts() -> Vec<Case> {
 }
 
 fn chars() -> Vec<Case> {
-    let bad: [(&[u8], u32); 15] = [
+    let bad: [(&[u8], u32); 17] = [
         (&[], 2),
         (&[0x80], 11),
         (&[0xC0], 11),
@@ -486,9 +488,11 @@ fn chars() -> Vec<Case> {
         (&[0xC2, b'A'], 11),
         (&[0xE2, b'A'], 2),
         (&[0xE0, 0x80, 0x80], 11),
+        (&[0xE0, 0x9F, 0xBF], 11),
         (&[0xED, 0xA0, 0x80], 11),
         (&[0xF0, 0x9F, 0x98], 2),
         (&[0xF0, 0x80, 0x80, 0x80], 11),
+        (&[0xF0, 0x8F, 0xBF, 0xBF], 11),
         (&[0xF4, 0x90, 0x80, 0x80], 11),
         (&[0xE2, 0x82, 0xC2], 11),
     ];
@@ -499,9 +503,17 @@ fn chars() -> Vec<Case> {
             case(&what, slots(1).typed(CHAR, bytes), Refused(*number, 26))
         })
         .collect();
-    for char in
-        ["\0", "\u{7f}", "\u{80}", "\u{7ff}", "\u{800}", "\u{ffff}", "\u{10000}", "\u{10ffff}"]
-    {
+    for char in [
+        "\0",
+        "\u{7f}",
+        "\u{80}",
+        "\u{7ff}",
+        "\u{800}",
+        "\u{d7ff}",
+        "\u{ffff}",
+        "\u{10000}",
+        "\u{10ffff}",
+    ] {
         let stream = slots(1).typed(CHAR, char.as_bytes()).end();
         cases.push(case(&format!("Char {char:?}"), stream.clone(), Accepted(4)).copied(stream));
     }

@@ -191,14 +191,14 @@ impl Maker<'_> {
 }
 
 /// Rows that a stream needs, at most those of the largest table.
-fn rows_of(stream: &[u8]) -> usize {
+pub fn rows_of(stream: &[u8]) -> usize {
     let most = MOST_WORDS / ROW_WORDS;
     read_records(stream, most).map_or(most, |reading| reading.records.len())
 }
 
 /// Mostly more than enough words; else the sizes at which a reader could go
 /// wrong.
-fn table_words(rows: usize, random: &mut Random) -> usize {
+pub fn table_words(rows: usize, random: &mut Random) -> usize {
     let enough = rows * ROW_WORDS;
     let part_of_row = 1 + random.below(ROW_WORDS - 1);
     let words = match random.below(24) {

@@ -8,6 +8,7 @@ pub mod cases;
 pub mod corpus;
 pub mod generate;
 pub mod large;
+pub mod pairs;
 pub mod reader;
 pub mod report;
 pub mod said;

@@ -1,5 +1,6 @@
 //! Counts what a comparison came to, and shows what differs.
 
+use crate::pairs::Comparison;
 use crate::reader::{Reply, ROW_WORDS};
 
 /// Replies by number, 0 for a stream that was read or a copy that was written.
@@ -71,6 +72,36 @@ impl Sizes {
     }
 }
 
+/// What pairs of streams came to.
+#[derive(Default)]
+pub struct Pairs {
+    pub same: usize,
+    pub different: usize,
+    /// First lists without a copy, and second ones.
+    pub first_refused: usize,
+    pub second_refused: usize,
+    pub differences: usize,
+}
+
+impl Pairs {
+    pub fn count(&mut self, answer: &Comparison) {
+        match (answer.list, answer.same) {
+            (1, _) => self.first_refused += 1,
+            (2, _) => self.second_refused += 1,
+            (_, 1) => self.same += 1,
+            _ => self.different += 1,
+        }
+    }
+
+    fn line(&self) -> String {
+        let Pairs { same, different, first_refused, second_refused, differences } = self;
+        let all = same + different + first_refused + second_refused;
+        format!(
+            "pairs: {all}, {same} say the same, {different} do not, {first_refused} without a first copy, {second_refused} without a second; differences: {differences}"
+        )
+    }
+}
+
 #[derive(Default)]
 pub struct Report {
     pub read: Replies,
@@ -84,6 +115,7 @@ pub struct Report {
     pub unchanged: usize,
     pub packings: usize,
     pub packed: usize,
+    pub pairs: Pairs,
     pub differences: usize,
 }
 
@@ -106,6 +138,7 @@ impl Report {
         println!("known copies: {}", self.noted);
         println!("tidy copies tidied again: {}", self.unchanged);
         println!("packings: {} of {} lists", self.packings, self.packed);
+        println!("{}", self.pairs.line());
         println!("texts: {} of {} rows in {} tables", self.texts, self.rows, self.tables);
         println!("differences: {}", self.differences);
     }

@@ -34,7 +34,7 @@ pub enum Demand {
 const PACKINGS: usize = 4;
 
 /// The copy, where the stream is accepted with such a table.
-fn copy_in(stream: &[u8], words: usize) -> Option<Vec<u8>> {
+pub fn copy_in(stream: &[u8], words: usize) -> Option<Vec<u8>> {
     read_records(stream, words / ROW_WORDS).ok().map(|reading| copy_of(&reading))
 }
 
@@ -90,7 +90,7 @@ pub fn repacked(seed: u64, lists: usize, cases: &[Case]) -> Vec<Tidying> {
     all
 }
 
-const MOST_ROWS: usize = MOST_WORDS / ROW_WORDS;
+pub const MOST_ROWS: usize = MOST_WORDS / ROW_WORDS;
 
 fn packings(list: &List, random: &mut Random) -> Vec<Vec<u8>> {
     (0..PACKINGS).map(|_| generate::pack(list, random)).collect()

@@ -1,5 +1,6 @@
 //! The proved jobs, called through their C forms.
 
+use independent_reader::pairs::Comparison;
 use std::ops::Range;
 
 extern "C" {
@@ -40,7 +41,27 @@ extern "C" {
         place: *mut u64,
         length: *mut u64,
     ) -> u32;
+
+    fn strelinga_say_the_same(
+        a: *const u8,
+        a_bytes: usize,
+        b: *const u8,
+        b_bytes: usize,
+        table: *mut u32,
+        words: usize,
+        first: *mut u8,
+        first_room: usize,
+        second: *mut u8,
+        second_room: usize,
+        same: *mut u64,
+        list: *mut u64,
+        place: *mut u64,
+        needed: *mut u64,
+    ) -> u32;
 }
+
+/// Stands in each number that the comparing job hands out before it does.
+const LITTER: u64 = 0xA5A5_A5A5_A5A5_A5A5;
 
 /// Number, place, and rows or length, as the C form hands them out.
 pub struct Answer {
@@ -98,4 +119,34 @@ pub fn text_view(stream: &[u8], table: &[u32], row: u64) -> (u32, Range<usize>) 
         )
     };
     (number, from as usize..(from + length) as usize)
+}
+
+/// What is handed out holds a pattern before, as the table and the outputs do.
+pub fn say_the_same(
+    a: &[u8],
+    b: &[u8],
+    table: &mut [u32],
+    first: &mut [u8],
+    second: &mut [u8],
+) -> Comparison {
+    let [mut same, mut list, mut place, mut needed] = [LITTER; 4];
+    let number = unsafe {
+        strelinga_say_the_same(
+            a.as_ptr(),
+            a.len(),
+            b.as_ptr(),
+            b.len(),
+            table.as_mut_ptr(),
+            table.len(),
+            first.as_mut_ptr(),
+            first.len(),
+            second.as_mut_ptr(),
+            second.len(),
+            &mut same,
+            &mut list,
+            &mut place,
+            &mut needed,
+        )
+    };
+    Comparison { number, same, list, place, needed }
 }

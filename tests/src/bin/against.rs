@@ -2,13 +2,15 @@
 //! compares the proved jobs with the independent ones, stream by stream:
 //! answer, place or length, every word of the table and every byte of the
 //! output. RUN with its words runs the comparing program whose name comes after
-//! them. PROGRAM has the C forms linked; it shows texts and takes large streams.
+//! them. PROGRAM has the C forms linked; it compares pairs, shows texts and
+//! takes large streams.
 
 use independent_reader::asked::{ask, Asked};
 use independent_reader::cases::{self, Case};
 use independent_reader::corpus::{copy_note, rows_hash};
 use independent_reader::generate::Random;
 use independent_reader::large::large;
+use independent_reader::pairs::{found_pair, pairs, Pair, NOT_THE_SAME};
 use independent_reader::report::Report;
 use independent_reader::show::{
     found, found_tidying, send, send_table, Found, MOST_BYTES, MOST_ROOM, MOST_STREAMS, MOST_WORDS,
@@ -29,12 +31,16 @@ const TIDYING: &str = "compare_tidy";
 const LINKED_READING: &str = "read";
 const LINKED_TIDYING: &str = "tidy";
 const LINKED_VIEWS: &str = "view";
+const LINKED_COMPARING: &str = "same";
 
 /// Streams made at once, each batch from a seed of its own.
 const BATCH: usize = 20_000;
 
 /// One list is repacked for so many streams.
 const STREAMS_A_REPACKING: usize = 10;
+
+/// One pair is made for so many streams.
+const STREAMS_A_PAIR: usize = 5;
 
 /// A longer stream is a file with a name, or large.
 const MOST_HEX: usize = 65_536;
@@ -64,13 +70,15 @@ fn compare_all() -> Result<usize, String> {
         large.len()
     );
     let mut report = Report::default();
-    wishes.compare_batch(wishes.seed, 0, by_hand.into_iter().chain(lists.clone()), &mut report)?;
+    let not_made = by_hand.into_iter().chain(lists.clone());
+    wishes.compare_batch(wishes.seed, [0, hand + real], not_made, &mut report)?;
     let mut seeds = Random::new(wishes.seed);
     let mut seed = wishes.seed;
     for first in (0..wishes.count).step_by(BATCH) {
         let count = BATCH.min(wishes.count - first);
         let made = cases::generated(seed, count, &lists).into_iter().take(count);
-        wishes.compare_batch(seed, count / STREAMS_A_REPACKING, made, &mut report)?;
+        let counts = [count / STREAMS_A_REPACKING, count / STREAMS_A_PAIR];
+        wishes.compare_batch(seed, counts, made, &mut report)?;
         seed = seeds.draw();
     }
     wishes.compare_large(&large, &mut report)?;
@@ -116,11 +124,11 @@ impl Wishes {
     }
 
     /// Reads and tidies the cases, and packings of so many lists made from the
-    /// seed and of those among the cases.
+    /// seed and of those among the cases; then so many pairs.
     fn compare_batch(
         &self,
         seed: u64,
-        repackings: usize,
+        [repackings, pair_count]: [usize; 2],
         cases: impl Iterator<Item = Case>,
         report: &mut Report,
     ) -> Result<(), String> {
@@ -132,7 +140,10 @@ impl Wishes {
         held_to_limits(tidyings.iter().map(|one| (&*one.what, &*one.stream, one.words, one.room)))?;
         compare_tidying(&self.program(TIDYING), &tidyings, report)?;
         match &self.linked {
-            Some(linked) => compare_views(linked, seed, &cases, report),
+            Some(linked) => {
+                compare_views(linked, seed, &cases, report)?;
+                compare_pairs(linked, &pairs(seed, pair_count, &cases), report)
+            }
             None => Ok(()),
         }
     }
@@ -185,7 +196,7 @@ fn compare_reading(program: &[String], cases: &[Case], report: &mut Report) -> R
         report.sizes.count_table(case.words, &found.outcome);
         let mut faults = differing(&found.line(), line);
         faults.extend(against_known(case, &found, line));
-        note(report, &case.what, &case.stream, &[case.words], &faults);
+        note(report, &case.what, &[&case.stream], &[case.words], &faults);
     }
     Ok(())
 }
@@ -209,7 +220,7 @@ fn compare_tidying(
         report.sizes.count_output(one.room, &found.outcome);
         let mut faults = differing(&found.line(), line);
         faults.extend(copies.fault(one, &found, line, report));
-        note(report, &one.what, &one.stream, &[one.words, one.room], &faults);
+        note(report, &one.what, &[&one.stream], &[one.words, one.room], &faults);
     }
     report.packed += copies.of_group.len();
     Ok(())
@@ -241,7 +252,31 @@ fn compare_views(
         report.rows += rows_asked(table.len()).count();
         report.texts += views.texts;
         let faults = differing(&views.line(), line_of(&asked, number));
-        note(report, &format!("{}, texts", case.what), &case.stream, &[table.len()], &faults);
+        note(report, &format!("{}, texts", case.what), &[&case.stream], &[table.len()], &faults);
+    }
+    Ok(())
+}
+
+/// Whether the two of a pair say the same.
+fn compare_pairs(linked: &str, pairs: &[Pair], report: &mut Report) -> Result<(), String> {
+    let mut sent = Vec::new();
+    for Pair { streams: [a, b], words, rooms, .. } in pairs {
+        send(a, &[b.len(), *words, rooms[0], rooms[1]], &mut sent);
+        sent.extend_from_slice(b);
+    }
+    let asked = ask(&[linked.to_string(), LINKED_COMPARING.to_string()], sent)?;
+    note_program(&asked, pairs.len(), report);
+    for (number, pair) in pairs.iter().enumerate() {
+        let line = line_of(&asked, number);
+        let (answer, right) = found_pair(pair);
+        report.pairs.count(&answer);
+        let mut faults = differing(&right, line);
+        if pair.one_list && line.starts_with(NOT_THE_SAME) {
+            faults.push(format!("packings of one list, not the same: {line}"));
+        }
+        report.pairs.differences += usize::from(!faults.is_empty());
+        let sizes = [pair.words, pair.rooms[0], pair.rooms[1]];
+        note(report, &pair.what, &pair.streams, &sizes, &faults);
     }
     Ok(())
 }
@@ -267,13 +302,20 @@ fn differing(right: &str, line: &str) -> Vec<String> {
     vec![format!("program      {line}"), format!("independent  {right}")]
 }
 
-fn note(report: &mut Report, what: &str, stream: &[u8], sizes: &[usize], faults: &[String]) {
+/// One stream or more.
+fn note(
+    report: &mut Report,
+    what: &str,
+    streams: &[impl AsRef<[u8]>],
+    sizes: &[usize],
+    faults: &[String],
+) {
     if faults.is_empty() {
         return;
     }
-    let bytes = stream.len();
-    let mut text = format!("{what}, {bytes} bytes, table and output {sizes:?}\n");
-    if bytes <= MOST_HEX {
+    let bytes: Vec<usize> = streams.iter().map(|stream| stream.as_ref().len()).collect();
+    let mut text = format!("{what}, bytes {bytes:?}, table and output {sizes:?}\n");
+    for stream in streams.iter().map(AsRef::as_ref).filter(|stream| stream.len() <= MOST_HEX) {
         let hex: String = stream.iter().map(|byte| format!("{byte:02X}")).collect();
         text += &format!("  stream       {hex}\n");
     }

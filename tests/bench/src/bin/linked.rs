@@ -1,7 +1,8 @@
-//! `linked read|tidy|view`: takes streams from standard input as the proved
+//! `linked read|tidy|view|same`: takes streams from standard input as the proved
 //! comparing programs do and prints the same lines, but calls the C forms and
 //! has space for streams, tables and outputs of any size. `view` takes the
-//! words of each table too and prints what its rows show.
+//! words of each table too and prints what its rows show. `same` takes a second
+//! stream with each and prints what the comparing job answers and leaves.
 
 use independent_reader::show::{byte_trace, littered, trace};
 use independent_reader::views::{rows_asked, Views};
@@ -16,7 +17,8 @@ fn main() -> io::Result<()> {
             "read" => read(&mut input, bytes)?,
             "tidy" => tidy(&mut input, bytes)?,
             "view" => view(&mut input, bytes)?,
-            _ => return Err(io::Error::other("linked read|tidy|view")),
+            "same" => same(&mut input, bytes)?,
+            _ => return Err(io::Error::other("linked read|tidy|view|same")),
         };
         writeln!(output, "{line}")?;
     }
@@ -85,4 +87,14 @@ fn view(input: &mut impl Read, bytes: usize) -> io::Result<String> {
         views.note(reply, &stream[part]);
     }
     Ok(views.line())
+}
+
+fn same(input: &mut impl Read, bytes: usize) -> io::Result<String> {
+    let (other_bytes, words) = (next_size(input)?, next_size(input)?);
+    let (room, other_room) = (next_size(input)?, next_size(input)?);
+    let (a, b) = (taken(input, bytes)?, taken(input, other_bytes)?);
+    let (mut table, mut first) = littered(words, room);
+    let (_, mut second) = littered(0, other_room);
+    let answer = bench::say_the_same(&a, &b, &mut table, &mut first, &mut second);
+    Ok(answer.line(&table, [&first, &second]))
 }

@@ -1,0 +1,216 @@
+//! Pairs of streams on which the proved comparing job is compared with this
+//! tidier and with the rule of saying the same, taken straight.
+
+use crate::cases::{rows_of, table_words, Case};
+use crate::generate::{self, Random};
+use crate::reader::{read_records, Refusal};
+use crate::said;
+use crate::same::same;
+use crate::show::{byte_trace, littered, trace, MOST_WORDS};
+use crate::tidy::tidy;
+use crate::tidying::{copy_in, MOST_ROWS};
+
+/// Two streams with the sizes of the table and of the two outputs.
+pub struct Pair {
+    pub what: String,
+    pub streams: [Vec<u8>; 2],
+    pub words: usize,
+    pub rooms: [usize; 2],
+    /// Both are packings of one list, so they say the same where both have
+    /// copies.
+    pub one_list: bool,
+}
+
+/// What the job hands out besides the table and the outputs.
+pub struct Comparison {
+    pub number: u32,
+    pub same: u64,
+    pub list: u64,
+    pub place: u64,
+    pub needed: u64,
+}
+
+impl Comparison {
+    /// Every number, and a hash of every word of the table and of every byte of
+    /// each output.
+    pub fn line(&self, table: &[u32], outs: [&[u8]; 2]) -> String {
+        let Comparison { number, same, list, place, needed } = self;
+        let [first, second] = outs.map(byte_trace);
+        let table = trace(table);
+        format!("reply {number} same {same} list {list} place {place} needed {needed} {table} {first} {second}")
+    }
+}
+
+/// What stands in a line where both have copies that are not equal.
+pub const NOT_THE_SAME: &str = "reply 0 same 0 ";
+
+/// What the independent side answers, and the line that a right job sends back.
+pub fn found_pair(pair: &Pair) -> (Comparison, String) {
+    let [a, b] = &pair.streams;
+    let (mut table, mut first) = littered(pair.words, pair.rooms[0]);
+    let (_, mut second) = littered(0, pair.rooms[1]);
+    let answer = match tidy(a, &mut table, &mut first) {
+        Err(refusal) => refused(1, &refusal),
+        Ok(_) => match tidy(b, &mut table, &mut second) {
+            Err(refusal) => refused(2, &refusal),
+            Ok(_) => {
+                Comparison { number: 0, same: u64::from(same(a, b)), list: 0, place: 0, needed: 0 }
+            }
+        },
+    };
+    let line = answer.line(&table, [&first, &second]);
+    (answer, line)
+}
+
+fn refused(list: u64, refusal: &Refusal) -> Comparison {
+    let (place, needed) = (refusal.place as u64, refusal.needed as u64);
+    Comparison { number: refusal.number, same: 0, list, place, needed }
+}
+
+/// A list with more nulls is not packed anew: each would be put in for itself.
+const MOST_NULLS: u64 = 10_000;
+
+/// So often at most a list is changed until the change is accepted.
+const TRIES: usize = 12;
+
+struct Maker<'c> {
+    random: Random,
+    cases: &'c [Case],
+    /// Numbers of those that are accepted with the largest table, and of the
+    /// others.
+    whole: Vec<usize>,
+    broken: Vec<usize>,
+}
+
+/// So many pairs of the cases, made from the seed; none where no case is
+/// accepted or none refused. Accepted ones have their turn in order, each once
+/// or more where there are no more of them than pairs.
+pub fn pairs(seed: u64, count: usize, cases: &[Case]) -> Vec<Pair> {
+    let accepted = |at: &usize| read_records(&cases[*at].stream, MOST_ROWS).is_ok();
+    let (whole, broken): (Vec<usize>, Vec<usize>) = (0..cases.len()).partition(accepted);
+    if whole.is_empty() || broken.is_empty() {
+        return Vec::new();
+    }
+    let turns = whole.len();
+    let mut maker = Maker { random: Random::new(seed), cases, whole, broken };
+    (0..count).map(|number| maker.pair(number * turns / count)).collect()
+}
+
+impl Maker<'_> {
+    /// An accepted stream and another, either of them first.
+    fn pair(&mut self, turn: usize) -> Pair {
+        let case = &self.cases[self.whole[turn]];
+        let kind = self.random.below(10);
+        let (how, other) = match kind {
+            0..=2 => ("another packing", repacked(&case.stream, &mut self.random)),
+            3..=6 => ("a change of it", changed(&case.stream, &mut self.random)),
+            7 => {
+                let next = self.whole[(turn + 1) % self.whole.len()];
+                ("its neighbour", self.cases[next].stream.clone())
+            }
+            _ => {
+                let broken = self.random.pick(&self.broken);
+                ("a refused one", self.cases[broken].stream.clone())
+            }
+        };
+        let what = format!("{} and {how}", case.what);
+        let mut streams = [case.stream.clone(), other];
+        if self.random.chance(50) {
+            streams.reverse();
+        }
+        self.sized(what, streams, kind <= 2)
+    }
+
+    /// The table has a size for either or both.
+    fn sized(&mut self, what: String, streams: [Vec<u8>; 2], one_list: bool) -> Pair {
+        let rows = [rows_of(&streams[0]), rows_of(&streams[1])];
+        let most = rows[0].max(rows[1]);
+        let rows = self.random.pick(&[most, most, most, rows[0], rows[1]]);
+        let words = table_words(rows, &mut self.random);
+        let rooms = [self.room(&streams[0]), self.room(&streams[1])];
+        Pair { what, streams, words, rooms, one_list }
+    }
+
+    /// Mostly as large as the copy or larger; else one byte too small, or
+    /// empty.
+    fn room(&mut self, stream: &[u8]) -> usize {
+        let length = copy_in(stream, MOST_WORDS).map_or(stream.len() % 64, |copy| copy.len());
+        match self.random.below(16) {
+            0 => 0,
+            1 => length.saturating_sub(1),
+            2..=7 => length,
+            _ => length + 1 + self.random.below(40),
+        }
+    }
+}
+
+/// A stream that says the same, itself where it has too many nulls.
+fn repacked(stream: &[u8], random: &mut Random) -> Vec<u8> {
+    let reading = read_records(stream, MOST_ROWS).expect("a whole list is accepted");
+    let runs = reading.records.iter().filter(|record| record.row.is_null_run());
+    let nulls: u64 = runs.map(|record| u64::from(record.row.count)).sum();
+    if nulls > MOST_NULLS {
+        return stream.to_vec();
+    }
+    generate::pack(&said::list(&reading), random)
+}
+
+/// The list with a small change, mostly accepted, which may say something else
+/// or not.
+fn changed(stream: &[u8], random: &mut Random) -> Vec<u8> {
+    let mut other = generate::damaged(stream, random);
+    for _ in 1..TRIES {
+        if read_records(&other, MOST_ROWS).is_ok() {
+            break;
+        }
+        other = generate::damaged(stream, random);
+    }
+    other
+}
+
+#[cfg(test)]
+mod tests {
+    use super::*;
+    use crate::cases::generated;
+    use crate::reader::{Reply, ROW_WORDS};
+
+    /// How many pairs there are of which this holds.
+    fn with(all: &[(Pair, Comparison)], holds: impl Fn(&Pair, &Comparison) -> bool) -> usize {
+        all.iter().filter(|(pair, answer)| holds(pair, answer)).count()
+    }
+
+    fn all() -> Vec<(Pair, Comparison)> {
+        let with_answer = |pair| (found_pair(&pair).0, pair);
+        let made = pairs(7, 1_000, &generated(7, 2_000, &[])).into_iter();
+        made.map(with_answer).map(|(answer, pair)| (pair, answer)).collect()
+    }
+
+    #[test]
+    fn each_list_is_refused_and_both_answers_come() {
+        let all = all();
+        assert!(with(&all, |_, answer| answer.same == 1) > 100);
+        assert!(with(&all, |_, answer| answer.number == 0 && answer.same == 0) > 100);
+        for list in [1, 2] {
+            let by = |number| with(&all, |_, a| a.list == list && a.number == number);
+            assert!(by(Reply::NoRoom as u32) > 20);
+            assert!(by(Reply::OutFull as u32) > 20);
+            assert!(with(&all, |_, a| a.list == list && a.number < Reply::NoRoom as u32) > 20);
+        }
+    }
+
+    #[test]
+    fn tables_and_outputs_have_all_the_odd_sizes() {
+        let all = all();
+        let most = |pair: &Pair| pair.streams.iter().map(|one| rows_of(one)).max();
+        assert!(with(&all, |pair, _| pair.words == 0) > 10);
+        assert!(with(&all, |pair, _| pair.words % ROW_WORDS > 0) > 50);
+        assert!(with(&all, |pair, _| most(pair) == Some(pair.words / ROW_WORDS)) > 50);
+        for list in [0, 1] {
+            let copy = |pair: &Pair| copy_in(&pair.streams[list], MOST_WORDS);
+            let length = |pair: &Pair| copy(pair).map(|copy| copy.len());
+            assert!(with(&all, |pair, _| pair.rooms[list] == 0) > 20);
+            assert!(with(&all, |pair, _| length(pair) == Some(pair.rooms[list])) > 100);
+            assert!(with(&all, |pair, _| length(pair) == Some(pair.rooms[list] + 1)) > 20);
+        }
+    }
+}
