@@ -16,11 +16,16 @@ use Rattle.format.specs.Numbers.{le}
 use Rattle.format.specs.Prefix.{prefixBytes}
 use Rattle.format.specs.Text.{needOf, wellFormed}
 use Rattle.format.specs.Values.{decimal, dateTime, sizeOf}
-use Rattle.format.specs.Types.{positive, isPrimitive}
+use Rattle.format.specs.Types.{isPrimitive}
 use Rattle.format.specs.Rows.{linked}
 use Rattle.format.specs.Contents.{Detail, primitive, text, object, system, class, objects, texts, primitives, Member, slotFor, Rec, header, classById, systemClass, libraryClass, string, array, typedPrimitive, reference, null, nulls, manyNulls, end, library, primitiveArray, objectArray, stringArray, value, enc, encs}
 
 -- ---- fields
+
+-- a number above 0 whose 32 bits show no sign
+pub record Positive (n : ℕ) : Type 0 where
+  pub above : 0 < n
+  pub below : n < 2147483648
 
 -- a name or a text
 pub record Name (t : List ℕ) : Type 0 where
@@ -76,17 +81,17 @@ classOf i (aLibrary j ∷ es) = classOf i es
 
 -- an ObjectId of a class, and one of an array or a string
 pub record ClassId (i : ℕ) (es : List Entry) : Type 0 where
-  pub apart : eqb i 0 ≡ false
+  pub apart : 0 < i
   pub bits : i < 4294967296
   pub fresh : used i es ≡ false
 
 pub record ObjectId (i : ℕ) (es : List Entry) : Type 0 where
-  pub sign : positive i ≡ true
+  pub sign : Positive i
   pub fresh : used i es ≡ false
 
 -- a LibraryId that is used
 pub record LibraryId (i : ℕ) (es : List Entry) : Type 0 where
-  pub sign : positive i ≡ true
+  pub sign : Positive i
   pub there : known i es ≡ true
 
 -- ---- types
@@ -219,7 +224,7 @@ mutual
         → Slots room own slot (t ∷ ts) (cur at row es (typedPrimitive b v ∷ rs) (it ∷ is)) c
     -- a reference may name an object anywhere in the stream
     a-reference : {room own slot at row i : ℕ} {t : SlotType} {ts : List SlotType} {es : List Entry} {rs : List Rec} {it : Row} {is : List Row} {c : Cur}
-        → isPrimitive t ≡ false → positive i ≡ true → it ≡ rowOf 9 at (reference i) i own slot 0 0
+        → isPrimitive t ≡ false → Positive i → it ≡ rowOf 9 at (reference i) i own slot 0 0
         → Slots room own (slot + 1) ts (cur (at + size (reference i)) (suc row) es rs is) c
         → Slots room own slot (t ∷ ts) (cur at row es (reference i ∷ rs) (it ∷ is)) c
     a-null : {room own slot at row : ℕ} {t : SlotType} {ts : List SlotType} {es : List Entry} {rs : List Rec} {it : Row} {is : List Row} {c : Cur}
@@ -233,13 +238,13 @@ mutual
         → Slots room own (slot + k) us (cur (at + 2) (suc row) es rs is) c
         → Slots room own slot (t ∷ ts) (cur at row es (nulls k ∷ rs) (it ∷ is)) c
     a-long-run : {room own slot at row k : ℕ} {t : SlotType} {ts us : List SlotType} {es : List Entry} {rs : List Rec} {it : Row} {is : List Row} {c : Cur}
-        → isPrimitive t ≡ false → positive k ≡ true → k ≤ length (t ∷ ts) → somePrimitive (take k (t ∷ ts)) ≡ false → us ≡ drop k (t ∷ ts)
+        → isPrimitive t ≡ false → Positive k → k ≤ length (t ∷ ts) → somePrimitive (take k (t ∷ ts)) ≡ false → us ≡ drop k (t ∷ ts)
         → it ≡ rowOf 14 at (manyNulls k) 0 own slot 0 k
         → Slots room own (slot + k) us (cur (at + size (manyNulls k)) (suc row) es rs is) c
         → Slots room own slot (t ∷ ts) (cur at row es (manyNulls k ∷ rs) (it ∷ is)) c
     -- a library stands wherever a kind byte is expected
     a-library : {room own slot at row i : ℕ} {n : List ℕ} {t : SlotType} {ts : List SlotType} {es : List Entry} {rs : List Rec} {it : Row} {is : List Row} {c : Cur}
-        → isPrimitive t ≡ false → positive i ≡ true → known i es ≡ false → Name n → it ≡ rowOf 12 at (library i n) i 0 0 0 0
+        → isPrimitive t ≡ false → Positive i → known i es ≡ false → Name n → it ≡ rowOf 12 at (library i n) i 0 0 0 0
         → Slots room own slot (t ∷ ts) (cur (at + size (library i n)) (suc row) (es ++ (aLibrary i ∷ [])) rs is) c
         → Slots room own slot (t ∷ ts) (cur at row es (library i n ∷ rs) (it ∷ is)) c
 
@@ -268,7 +273,7 @@ pub data Objects : Cur → Type 0 where
       → Body 64 (suc row) ts (cur (at + size r) (suc row) (es ++ (another i ∷ [])) rs is) c
       → Objects c → Objects (cur at row es (r ∷ rs) (it ∷ is))
   one-library : {at row i : ℕ} {n : List ℕ} {es : List Entry} {rs : List Rec} {it : Row} {is : List Row}
-      → positive i ≡ true → known i es ≡ false → Name n → it ≡ rowOf 12 at (library i n) i 0 0 0 0
+      → Positive i → known i es ≡ false → Name n → it ≡ rowOf 12 at (library i n) i 0 0 0 0
       → Objects (cur (at + size (library i n)) (suc row) (es ++ (aLibrary i ∷ [])) rs is)
       → Objects (cur at row es (library i n ∷ rs) (it ∷ is))
 

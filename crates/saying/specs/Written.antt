@@ -165,7 +165,7 @@ Goes total p fs xs = (row : ℕ) (es : List Entry) → KnowsAll es p → Legal t
 module _ (total : ℕ) (few : total < 2147483648) where
   class-id : (es : List Entry) (p : Progress) → KnowsAll es p → suc (p .count) ≤ total → ClassId (suc (p .count)) es
   class-id es p k l =
-      record { apart = ne-eqb (suc (p .count)) 0 (λ e. omega arith); bits = omega arith; fresh = k .used-not (suc (p .count)) (omega arith) }
+      record { apart = omega arith; bits = omega arith; fresh = k .used-not (suc (p .count)) (omega arith) }
 
   object-id : (es : List Entry) (p : Progress) → KnowsAll es p → suc (p .count) ≤ total → ObjectId (suc (p .count)) es
   object-id es p k l = record { sign = positive-of (suc (p .count)) (omega arith) (omega arith); fresh = k .used-not (suc (p .count)) (omega arith) }
