@@ -15,7 +15,7 @@ use Rattle.format.specs.Bytes.{pick}
 use Rattle.format.specs.Numbers.{le}
 use Rattle.format.specs.Prefix.{prefixBytes}
 use Rattle.format.specs.Text.{needOf, wellFormed}
-use Rattle.format.specs.Values.{decimal, dateTime, sizeOf}
+use Rattle.format.specs.Values.{decimal, sizeOf}
 use Rattle.format.specs.Types.{isPrimitive}
 use Rattle.format.specs.Rows.{linked}
 use Rattle.format.specs.Contents.{Detail, primitive, text, object, system, class, objects, texts, primitives, Member, slotFor, Rec, header, classById, systemClass, libraryClass, string, array, typedPrimitive, reference, null, nulls, manyNulls, end, library, primitiveArray, objectArray, stringArray, value, enc, encs}
@@ -32,13 +32,21 @@ pub record Name (t : List ℕ) : Type 0 where
   pub good : wellFormed t ≡ true
   pub short : length t < 2147483648
 
+-- the 64 bits of a DateTime (2.1.1.5): the kind in the top two, then ticks that are not negative as 62 signed bits
+pub record Moment (x : ℕ) : Type 0 where
+  pub kind : ℕ
+  pub ticks : ℕ
+  pub kind-known : kind ≤ 2
+  pub no-sign : ticks < 2305843009213693952
+  pub bits : x ≡ kind * 4611686018427387904 + ticks
+
 -- the bytes of one value of a code
 pub data Value : PrimitiveCode → List ℕ → Type 0 where
   number : {c : PrimitiveCode} {v : List ℕ} → 0 < sizeOf c → length v ≡ sizeOf c → Value c v
   boolean : {b : ℕ} → b ≤ 1 → Value C.Boolean (b ∷ [])
   scalar : {v : List ℕ} → wellFormed v ≡ true → needOf (getD v 0 0) < 4 → length v ≡ needOf (getD v 0 0) + 1 → Value C.Char v
   exact : {v : List ℕ} (t : List ℕ) → decimal t ≡ true → length t < 2147483648 → v ≡ prefixBytes (length t) ++ t → Value C.Decimal v
-  moment : {v : List ℕ} → length v ≡ 8 → dateTime (le v) ≡ true → Value C.DateTime v
+  moment : {v : List ℕ} → length v ≡ 8 → Moment (le v) → Value C.DateTime v
 
 -- the bytes of n values, one after the other
 pub data Values : PrimitiveCode → ℕ → List ℕ → Type 0 where

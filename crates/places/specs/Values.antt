@@ -12,10 +12,12 @@ use Rattle.format.specs.declared.PrimitiveCode.{PrimitiveCode}
 use Rattle.format.specs.declared.PrimitiveCode.the-variants as C
 use Rattle.format.specs.declared.Field.the-variants as F
 use Rattle.format.specs.Bytes.{pick, part}
+use Rattle.format.specs.Numbers.{le}
 use Rattle.format.specs.Prefix.{prefixBytes}
 use Rattle.format.specs.Text.{needOf, wellFormed}
 use Rattle.format.specs.Values.{bytesAt, booleanAt, charAt, decimal, decimalAt, dateTimeAt, sizeOf, valueAt, times, itemsAt}
 use Rattle.format.specs.Grammar.{Value, number, boolean, scalar, exact, moment, Values, none, more}
+use Rattle.format.specs.Own.{moment-exactly}
 use Rattle.fields.specs.Parts.{length-part, part-cons, part-first, part-add, part-through, pieces}
 use Rattle.fields.specs.Judged.{passes, judged-taken, judged-end}
 use Rattle.fields.specs.Sequence.{through}
@@ -101,7 +103,7 @@ value-there s c v p e (moment l d) w =
     let k = stand-size w in
     let z : e - p ≡ 8 = omega arith in
     let same : part s p 8 ≡ v = rw z at (stand-same w) in
-    date-judged s p ∙ judged-end J.moment R.BadValue s p 8 e (record { ends = omega arith; room = omega (arith, w .room); good = rw same d })
+    date-judged s p ∙ judged-end J.moment R.BadValue s p 8 e (record { ends = omega arith; room = omega (arith, w .room); good = rw same (moment-exactly (le v) .1 d) })
 
 -- ---- what is read is written so
 
@@ -145,7 +147,7 @@ date-back : (s : List ℕ) (p e : ℕ) → dateTimeAt s p ≡ F.End e → Value 
 date-back s p e q =
     let w = judged-taken J.moment R.BadValue s p 8 e (sym (date-judged s p) ∙ q) in
     let z : e - p ≡ 8 = omega arith in
-    rw z (moment (length-part s p 8 (w .room)) (w .good))
+    rw z (moment (length-part s p 8 (w .room)) (moment-exactly (le (part s p 8)) .0 (w .good)))
 
 value-of : (s : List ℕ) (c : PrimitiveCode) (p e : ℕ) → Bytes s → valueAt s c p ≡ F.End e → Value c (part s p (e - p))
 unfolding valueAt
