@@ -15,7 +15,7 @@ use Rattle.format.specs.Bytes.{pick}
 use Rattle.format.specs.Numbers.{le}
 use Rattle.format.specs.Prefix.{prefixBytes}
 use Rattle.format.specs.Text.{needOf, wellFormed}
-use Rattle.format.specs.Values.{decimal, sizeOf}
+use Rattle.format.specs.Values.{decimal}
 use Rattle.format.specs.Types.{isPrimitive}
 use Rattle.format.specs.Rows.{linked}
 use Rattle.format.specs.Contents.{Detail, primitive, text, object, system, class, objects, texts, primitives, Member, slotFor, Rec, header, classById, systemClass, libraryClass, string, array, typedPrimitive, reference, null, nulls, manyNulls, end, library, primitiveArray, objectArray, stringArray, value, enc, encs}
@@ -40,9 +40,23 @@ pub record Moment (x : ℕ) : Type 0 where
   pub no-sign : ticks < 2305843009213693952
   pub bits : x ≡ kind * 4611686018427387904 + ticks
 
+-- how many bytes a value of a code has whose every pattern is taken
+pub data Sized : PrimitiveCode → ℕ → Type 0 where
+  a-byte : Sized C.Byte 1
+  an-sbyte : Sized C.SByte 1
+  an-int16 : Sized C.Int16 2
+  a-uint16 : Sized C.UInt16 2
+  an-int32 : Sized C.Int32 4
+  a-uint32 : Sized C.UInt32 4
+  a-single : Sized C.Single 4
+  an-int64 : Sized C.Int64 8
+  a-uint64 : Sized C.UInt64 8
+  a-double : Sized C.Double 8
+  a-time-span : Sized C.TimeSpan 8
+
 -- the bytes of one value of a code
 pub data Value : PrimitiveCode → List ℕ → Type 0 where
-  number : {c : PrimitiveCode} {v : List ℕ} → 0 < sizeOf c → length v ≡ sizeOf c → Value c v
+  number : {c : PrimitiveCode} {n : ℕ} {v : List ℕ} → Sized c n → length v ≡ n → Value c v
   boolean : {b : ℕ} → b ≤ 1 → Value C.Boolean (b ∷ [])
   scalar : {v : List ℕ} → wellFormed v ≡ true → needOf (getD v 0 0) < 4 → length v ≡ needOf (getD v 0 0) + 1 → Value C.Char v
   exact : {v : List ℕ} (t : List ℕ) → decimal t ≡ true → length t < 2147483648 → v ≡ prefixBytes (length t) ++ t → Value C.Decimal v
