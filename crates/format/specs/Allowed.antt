@@ -19,7 +19,7 @@ use Rattle.format.specs.Text.{needOf, loOf, hiOf, leadOf, stepOf, after,
 use Rattle.format.specs.Rows.{findFrom, objectRow, linkOf, linked, withLink, rowsOf}
 use Rattle.format.specs.Contents.{text, Rec, header, classById, nulls, end, library, objectArray, enc, encs}
 use Rattle.format.specs.Contents.{object as anything}
-use Rattle.format.specs.Grammar.{Positive, Name, Entry, no-more, member, Cur, cur, Object, system-class, library-class, Body, hollow, filled, Slots, full, somePrimitive, class-by-id, an-object, a-string, a-reference, a-run, a-library, Array, of-objects, Objects, the-end, one-object, one-string, one-array, one-library, among, Reading}
+use Rattle.format.specs.Grammar.{Positive, Name, Entry, no-more, member, Cur, cur, Object, system-class, library-class, Body, hollow, filled, Slots, full, allTake, class-by-id, an-object, a-string, a-reference, a-run, a-library, Array, of-objects, Objects, the-end, one-object, one-string, one-array, one-library, among, Reading}
 use Rattle.format.specs.Examples.{hexOnto}
 use Rattle.format.specs.Lists.{jaw, named, inSlot, inSlotRows, forwards, forwardsRows}
 
@@ -135,7 +135,7 @@ no-run-past-the-end (one-array i a q b o) =
 
 -- a run stands over no primitive member
 pub run-over-none : {room own slot at row k : ℕ} {t : SlotType} {ts : List SlotType} {es : List Entry} {rs : List Rec} {is : List Row} {c : Cur}
-    → Slots room own slot (t ∷ ts) (cur at row es (nulls k ∷ rs) is) c → somePrimitive (take k (t ∷ ts)) ≡ false
+    → Slots room own slot (t ∷ ts) (cur at row es (nulls k ∷ rs) is) c → allTake (take k (t ∷ ts)) ≡ true
 run-over-none (a-run t k l p u r d) = p
 
 -- a class that no earlier record has

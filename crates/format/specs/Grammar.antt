@@ -2,7 +2,7 @@
 -- holds what its type allows; the room for nesting falls. Records are data, their bytes come from the encoder; nothing here reads a stream.
 use Prim.Native.Nat.{ℕ, zero, suc, _+_, _*_, _≤_, _<_}
 use mathlib.Core.Path.{_≡_}
-use mathlib.Core.Bool.{Bool, true, false, _||_}
+use mathlib.Core.Bool.{Bool, true, false, _&&_, _||_}
 use mathlib.Core.List.{List, [], _∷_, _++_}
 use lib.ListN.{length, getD, take, drop, replicate}
 use lib.Dec.{eqb}
@@ -16,7 +16,6 @@ use Rattle.format.specs.Numbers.{le}
 use Rattle.format.specs.Prefix.{prefixBytes}
 use Rattle.format.specs.Text.{needOf, wellFormed}
 use Rattle.format.specs.Values.{decimal}
-use Rattle.format.specs.Types.{isPrimitive}
 use Rattle.format.specs.Rows.{linked}
 use Rattle.format.specs.Contents.{Detail, primitive, text, object, system, class, objects, texts, primitives, Member, slotFor, Rec, header, classById, systemClass, libraryClass, string, array, typedPrimitive, reference, null, nulls, manyNulls, end, library, primitiveArray, objectArray, stringArray, value, enc, encs}
 
@@ -163,9 +162,21 @@ takesStrings S.ObjectArray = false
 takesStrings S.StringArray = false
 takesStrings (S.PrimitiveArray c) = false
 
-abbrev pub somePrimitive : List SlotType → Bool
-somePrimitive [] = false
-somePrimitive (t ∷ ts) = pick (isPrimitive t) true (somePrimitive ts)
+-- slots that take records at all, as references and nulls; a primitive slot takes its value at once
+abbrev pub takesRecords : SlotType → Bool
+takesRecords (S.Primitive c) = false
+takesRecords S.Text = true
+takesRecords S.Object = true
+takesRecords S.SystemClass = true
+takesRecords S.Class = true
+takesRecords S.ObjectArray = true
+takesRecords S.StringArray = true
+takesRecords (S.PrimitiveArray c) = true
+
+-- every one of these slots does
+abbrev pub allTake : List SlotType → Bool
+allTake [] = true
+allTake (t ∷ ts) = takesRecords t && allTake ts
 
 -- ---- lengths
 
@@ -246,27 +257,27 @@ mutual
         → Slots room own slot (t ∷ ts) (cur at row es (typedPrimitive b v ∷ rs) (it ∷ is)) c
     -- a reference may name an object anywhere in the stream
     a-reference : {room own slot at row i : ℕ} {t : SlotType} {ts : List SlotType} {es : List Entry} {rs : List Rec} {it : Row} {is : List Row} {c : Cur}
-        → isPrimitive t ≡ false → Positive i → it ≡ rowOf 9 at (reference i) i own slot 0 0
+        → takesRecords t ≡ true → Positive i → it ≡ rowOf 9 at (reference i) i own slot 0 0
         → Slots room own (slot + 1) ts (cur (at + size (reference i)) (suc row) es rs is) c
         → Slots room own slot (t ∷ ts) (cur at row es (reference i ∷ rs) (it ∷ is)) c
     a-null : {room own slot at row : ℕ} {t : SlotType} {ts : List SlotType} {es : List Entry} {rs : List Rec} {it : Row} {is : List Row} {c : Cur}
-        → isPrimitive t ≡ false → it ≡ rowOf 10 at null 0 own slot 0 1
+        → takesRecords t ≡ true → it ≡ rowOf 10 at null 0 own slot 0 1
         → Slots room own (slot + 1) ts (cur (at + 1) (suc row) es rs is) c
         → Slots room own slot (t ∷ ts) (cur at row es (null ∷ rs) (it ∷ is)) c
-    -- a null run fills slots of this object, none of them primitive; a run of 0 fills none
+    -- a null run fills slots of this object that all take records; a run of 0 fills none
     a-run : {room own slot at row k : ℕ} {t : SlotType} {ts us : List SlotType} {es : List Entry} {rs : List Rec} {it : Row} {is : List Row} {c : Cur}
-        → isPrimitive t ≡ false → k < 256 → k ≤ length (t ∷ ts) → somePrimitive (take k (t ∷ ts)) ≡ false → us ≡ drop k (t ∷ ts)
+        → takesRecords t ≡ true → k < 256 → k ≤ length (t ∷ ts) → allTake (take k (t ∷ ts)) ≡ true → us ≡ drop k (t ∷ ts)
         → it ≡ rowOf 13 at (nulls k) 0 own slot 0 k
         → Slots room own (slot + k) us (cur (at + 2) (suc row) es rs is) c
         → Slots room own slot (t ∷ ts) (cur at row es (nulls k ∷ rs) (it ∷ is)) c
     a-long-run : {room own slot at row k : ℕ} {t : SlotType} {ts us : List SlotType} {es : List Entry} {rs : List Rec} {it : Row} {is : List Row} {c : Cur}
-        → isPrimitive t ≡ false → Positive k → k ≤ length (t ∷ ts) → somePrimitive (take k (t ∷ ts)) ≡ false → us ≡ drop k (t ∷ ts)
+        → takesRecords t ≡ true → Positive k → k ≤ length (t ∷ ts) → allTake (take k (t ∷ ts)) ≡ true → us ≡ drop k (t ∷ ts)
         → it ≡ rowOf 14 at (manyNulls k) 0 own slot 0 k
         → Slots room own (slot + k) us (cur (at + size (manyNulls k)) (suc row) es rs is) c
         → Slots room own slot (t ∷ ts) (cur at row es (manyNulls k ∷ rs) (it ∷ is)) c
     -- a library stands wherever a kind byte is expected
     a-library : {room own slot at row i : ℕ} {n : List ℕ} {t : SlotType} {ts : List SlotType} {es : List Entry} {rs : List Rec} {it : Row} {is : List Row} {c : Cur}
-        → isPrimitive t ≡ false → Positive i → known i es ≡ false → Name n → it ≡ rowOf 12 at (library i n) i 0 0 0 0
+        → takesRecords t ≡ true → Positive i → known i es ≡ false → Name n → it ≡ rowOf 12 at (library i n) i 0 0 0 0
         → Slots room own slot (t ∷ ts) (cur (at + size (library i n)) (suc row) (es ++ (aLibrary i ∷ [])) rs is) c
         → Slots room own slot (t ∷ ts) (cur at row es (library i n ∷ rs) (it ∷ is)) c
 
@@ -278,7 +289,7 @@ pub data Array (es : List Entry) : Rec → (kind id count : ℕ) → List SlotTy
   of-strings : {i n : ℕ} → n < 2147483648 → Array es (stringArray i n) 17 i n (replicate n S.Text)
   of-primitives : {i n : ℕ} {b : PrimitiveCode} {vs : List ℕ} → n < 2147483648 → Values b n vs → Array es (primitiveArray i n b vs) 15 i n []
   of-any : {i type n : ℕ} {ns : List ℕ} {d : Detail ℕ} {ts : List SlotType}
-      → Shape type ns → n ≡ product ns → GoodDetail es d → isPrimitive (slotFor d) ≡ false → ts ≡ replicate n (slotFor d)
+      → Shape type ns → n ≡ product ns → GoodDetail es d → takesRecords (slotFor d) ≡ true → ts ≡ replicate n (slotFor d)
       → Array es (array i type ns d []) 7 i n ts
   of-values : {i type n : ℕ} {ns : List ℕ} {b : PrimitiveCode} {vs : List ℕ}
       → Shape type ns → n ≡ product ns → Values b n vs → Array es (array i type ns (primitive b) vs) 7 i n []

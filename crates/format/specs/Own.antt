@@ -8,10 +8,12 @@ use lib.Dec.{ltb, eqb}
 use borrow.Author.Tests.{ltb-true, eqb-false, lt-ltb, ne-eqb, leb-false, lt-leb}
 use Rattle.format.specs.declared.PrimitiveCode.{PrimitiveCode}
 use Rattle.format.specs.declared.PrimitiveCode.the-variants as C
+use Rattle.format.specs.declared.SlotType.{SlotType}
+use Rattle.format.specs.declared.SlotType.the-variants as S
 use Rattle.format.specs.Numbers.{negative}
 use Rattle.format.specs.Values.{dateTime, sizeOf}
-use Rattle.format.specs.Types.{positive}
-use Rattle.format.specs.Grammar.{Positive, Moment, Sized, a-byte, an-sbyte, an-int16, a-uint16, an-int32, a-uint32, a-single, an-int64, a-uint64, a-double, a-time-span}
+use Rattle.format.specs.Types.{positive, isPrimitive}
+use Rattle.format.specs.Grammar.{Positive, Moment, takesRecords, Sized, a-byte, an-sbyte, an-int16, a-uint16, an-int32, a-uint32, a-single, an-int64, a-uint64, a-double, a-time-span}
 
 -- ---- numbers
 
@@ -74,3 +76,29 @@ sized-exactly c n = (λ w. subst (Sized c) (sym (w .1)) (there c (w .0)), back)
     back a-uint64 = (omega arith, refl)
     back a-double = (omega arith, refl)
     back a-time-span = (omega arith, refl)
+
+-- ---- slots
+
+-- for every slot: to the machine it is not primitive exactly when the grammar lets it take records
+pub takes-exactly : (t : SlotType) → (isPrimitive t ≡ false) ↔ (takesRecords t ≡ true)
+takes-exactly t = (there t, back t)
+  where
+    there : (t : SlotType) → isPrimitive t ≡ false → takesRecords t ≡ true
+    there (S.Primitive c) e = absurd (let z : _≡_ {A = ℕ} 0 1 = cc in omega arith)
+    there S.Text e = refl
+    there S.Object e = refl
+    there S.SystemClass e = refl
+    there S.Class e = refl
+    there S.ObjectArray e = refl
+    there S.StringArray e = refl
+    there (S.PrimitiveArray c) e = refl
+
+    back : (t : SlotType) → takesRecords t ≡ true → isPrimitive t ≡ false
+    back (S.Primitive c) e = absurd (let z : _≡_ {A = ℕ} 0 1 = cc in omega arith)
+    back S.Text e = refl
+    back S.Object e = refl
+    back S.SystemClass e = refl
+    back S.Class e = refl
+    back S.ObjectArray e = refl
+    back S.StringArray e = refl
+    back (S.PrimitiveArray c) e = refl

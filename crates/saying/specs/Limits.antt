@@ -10,9 +10,8 @@ use lib.Dec.{eqb}
 use Rattle.format.specs.declared.SlotType.{SlotType}
 use Rattle.format.specs.declared.SlotType.the-variants as S
 use Rattle.format.specs.Bytes.{pick, sameBytes}
-use Rattle.format.specs.Types.{isPrimitive}
 use Rattle.format.specs.Contents.{Detail, primitive, text, object, system, class, objects, texts, primitives, Member, slotFor}
-use Rattle.format.specs.Grammar.{Positive, Entry, LibraryId, GoodDetail, Members, Name, ClassInfo, typesOf, product}
+use Rattle.format.specs.Grammar.{Positive, Entry, LibraryId, GoodDetail, Members, Name, ClassInfo, typesOf, product, takesRecords}
 use Rattle.format.specs.Grammar as G
 use Rattle.format.specs.Says.{From, theSystem, theLibrary, Class, What, anObject, aString, anArray, aPrimitive, aReference, aNull, aPrimitiveArray, anObjectArray, aStringArray, aValue, Node}
 use Rattle.format.specs.Tidy.{sameClass, numberIn, Progress, Libraries, entered, allEntered, detailNeeds, membersNeed, fromNeeds, classNeeds, detailBy, membersBy, afterObject, afterWhat}
@@ -210,7 +209,7 @@ slotsFor (anObjectArray n) = replicate n S.Object
 slotsFor (aStringArray n) = replicate n S.Text
 slotsFor (aValue v) = []
 
-pub item-slots : (ns : List ℕ) (d : Detail (List ℕ)) → isPrimitive (slotFor d) ≡ false → itemSlots ns d ≡ replicate (product ns) (slotFor d)
+pub item-slots : (ns : List ℕ) (d : Detail (List ℕ)) → takesRecords (slotFor d) ≡ true → itemSlots ns d ≡ replicate (product ns) (slotFor d)
 item-slots ns (primitive c) e = absurd (let z : _≡_ {A = ℕ} 0 1 = cc in omega arith)
 item-slots ns text e = refl
 item-slots ns object e = refl
