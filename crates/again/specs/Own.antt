@@ -13,6 +13,7 @@ use Rattle.format.specs.Bytes.{pick, sameBytes}
 use Rattle.format.specs.Prefix.{groupsOf, prefixBytes}
 use Rattle.format.specs.Contents.{Rec, header, classById, systemClass, libraryClass, string, array, typedPrimitive, reference, null, nulls, manyNulls, end, library, primitiveArray, objectArray, stringArray, value, enc, encs}
 use Rattle.format.specs.Grammar.{Value, number, boolean, scalar, exact, moment, size}
+use Rattle.format.specs.Own.{sized-exactly}
 use Rattle.format.specs.Says.{From, theSystem, theLibrary, Class, What, anObject, aString, anArray, aPrimitive, aReference, aNull, aPrimitiveArray, anObjectArray, aStringArray, aValue, Node}
 use Rattle.format.specs.Tidy.{sameClass, numberIn, Progress, Libraries, libraryRecords, entered, allEntered, classNeeds, detailNeeds, classBy, objectBy, afterObject, recordsOf, afterWhat, runOf}
 use Rattle.fields.specs.Judged.{picked}
@@ -107,7 +108,7 @@ prefix-some zero n = omega arith
 prefix-some (suc k) n = picked (λ (b : List ℕ). 0 < length b) (ltb n 128) (λ e. omega arith) (λ e. omega arith)
 
 value-some : {c : PrimitiveCode} {x : List ℕ} → Value c x → 0 < length x
-value-some (number a b) = omega arith
+value-some (number {c = c} {n = n} a b) = let s = sized-exactly c n .1 a in omega arith
 value-some (boolean a) = omega arith
 value-some (scalar a b c) = omega arith
 value-some (exact {v = v} t a b e) =

@@ -19,7 +19,7 @@ use Rattle.format.specs.Text.{needOf, loOf, hiOf, leadOf, stepOf, after,
 use Rattle.format.specs.Rows.{findFrom, objectRow, linkOf, linked, withLink, rowsOf}
 use Rattle.format.specs.Contents.{text, Rec, header, classById, nulls, end, library, objectArray, enc, encs}
 use Rattle.format.specs.Contents.{object as anything}
-use Rattle.format.specs.Grammar.{Name, Entry, no-more, member, Cur, cur, Object, system-class, library-class, Body, hollow, filled, Slots, full, somePrimitive, class-by-id, an-object, a-string, a-reference, a-run, a-library, Array, of-objects, Objects, the-end, one-object, one-string, one-array, one-library, among, Reading}
+use Rattle.format.specs.Grammar.{Positive, Name, Entry, no-more, member, Cur, cur, Object, system-class, library-class, Body, hollow, filled, Slots, full, allTake, class-by-id, an-object, a-string, a-reference, a-run, a-library, Array, of-objects, Objects, the-end, one-object, one-string, one-array, one-library, among, Reading}
 use Rattle.format.specs.Examples.{hexOnto}
 use Rattle.format.specs.Lists.{jaw, named, inSlot, inSlotRows, forwards, forwardsRows}
 
@@ -27,6 +27,9 @@ use Rattle.format.specs.Lists.{jaw, named, inSlot, inSlotRows, forwards,
 
 name-of : (t : List ℕ) → wellFormed t ≡ true → length t < 2147483648 → Name t
 name-of t a b = record { good = a; short = b }
+
+positive-of : (n : ℕ) → 0 < n → n < 2147483648 → Positive n
+positive-of n a b = record { above = a; below = b }
 
 -- a row before the links of references are made
 abbrev unlinked : Row → Row
@@ -62,14 +65,14 @@ allowed-in-slot =
       bytes-are = refl;
       small = omega arith;
       objects-are =
-          one-array (record { sign = refl; fresh = refl }) (of-objects {i = 4} {n = 2} (omega arith)) refl
-          (filled (a-library refl refl refl (name-of (0x4C ∷ []) refl (omega arith)) refl
+          one-array (record { sign = positive-of 4 (omega arith) (omega arith); fresh = refl }) (of-objects {i = 4} {n = 2} (omega arith)) refl
+          (filled (a-library refl (positive-of 9 (omega arith) (omega arith)) refl (name-of (0x4C ∷ []) refl (omega arith)) refl
           (an-object refl
-          (library-class {i = 6} {n = 0x50 ∷ []} {ms = named text} (record { apart = refl; bits = omega arith; fresh = refl })
+          (library-class {i = 6} {n = 0x50 ∷ []} {ms = named text} (record { apart = omega arith; bits = omega arith; fresh = refl })
           (record { named = name-of (0x50 ∷ []) refl (omega arith); counted = omega arith; members = member (name-of (0x4E ∷ []) refl (omega arith)) tt no-more })
-          (record { sign = refl; there = refl }) refl
-          (filled (a-string refl (record { sign = refl; fresh = refl }) (name-of jaw refl (omega arith)) refl full)))
-          (a-reference refl refl refl full))))
+          (record { sign = positive-of 9 (omega arith) (omega arith); there = refl }) refl
+          (filled (a-string refl (record { sign = positive-of 2 (omega arith) (omega arith); fresh = refl }) (name-of jaw refl (omega arith)) refl full)))
+          (a-reference refl (positive-of 2 (omega arith) (omega arith)) refl full))))
           (the-end refl);
       rooted = refl;
       targets = to-text;
@@ -94,14 +97,14 @@ allowed-forwards =
       bytes-are = refl;
       small = omega arith;
       objects-are =
-          one-object (system-class {i = 1} {n = 0x50 ∷ []} {ms = named anything} (record { apart = refl; bits = omega arith; fresh = refl })
+          one-object (system-class {i = 1} {n = 0x50 ∷ []} {ms = named anything} (record { apart = omega arith; bits = omega arith; fresh = refl })
           (record { named = name-of (0x50 ∷ []) refl (omega arith); counted = omega arith; members = member (name-of (0x4E ∷ []) refl (omega arith)) tt no-more })
           refl
           (filled (an-object refl
-          (class-by-id {i = 2} {k = 1} (record { apart = refl; bits = omega arith; fresh = refl }) (omega arith) refl refl
-          (filled (a-reference refl refl refl full)))
+          (class-by-id {i = 2} {k = 1} (record { apart = omega arith; bits = omega arith; fresh = refl }) (omega arith) refl refl
+          (filled (a-reference refl (positive-of 3 (omega arith) (omega arith)) refl full)))
           full)))
-          (one-string (record { sign = refl; fresh = refl }) (name-of jaw refl (omega arith)) refl (the-end refl));
+          (one-string (record { sign = positive-of 3 (omega arith) (omega arith); fresh = refl }) (name-of jaw refl (omega arith)) refl (the-end refl));
       rooted = refl;
       targets = to-later;
       rows-are = refl;
@@ -132,7 +135,7 @@ no-run-past-the-end (one-array i a q b o) =
 
 -- a run stands over no primitive member
 pub run-over-none : {room own slot at row k : ℕ} {t : SlotType} {ts : List SlotType} {es : List Entry} {rs : List Rec} {is : List Row} {c : Cur}
-    → Slots room own slot (t ∷ ts) (cur at row es (nulls k ∷ rs) is) c → somePrimitive (take k (t ∷ ts)) ≡ false
+    → Slots room own slot (t ∷ ts) (cur at row es (nulls k ∷ rs) is) c → allTake (take k (t ∷ ts)) ≡ true
 run-over-none (a-run t k l p u r d) = p
 
 -- a class that no earlier record has

@@ -2,7 +2,7 @@
 -- holds what its type allows; the room for nesting falls. Records are data, their bytes come from the encoder; nothing here reads a stream.
 use Prim.Native.Nat.{ℕ, zero, suc, _+_, _*_, _≤_, _<_}
 use mathlib.Core.Path.{_≡_}
-use mathlib.Core.Bool.{Bool, true, false, _||_}
+use mathlib.Core.Bool.{Bool, true, false, _&&_, _||_}
 use mathlib.Core.List.{List, [], _∷_, _++_}
 use lib.ListN.{length, getD, take, drop, replicate}
 use lib.Dec.{eqb}
@@ -15,25 +15,51 @@ use Rattle.format.specs.Bytes.{pick}
 use Rattle.format.specs.Numbers.{le}
 use Rattle.format.specs.Prefix.{prefixBytes}
 use Rattle.format.specs.Text.{needOf, wellFormed}
-use Rattle.format.specs.Values.{decimal, dateTime, sizeOf}
-use Rattle.format.specs.Types.{positive, isPrimitive}
+use Rattle.format.specs.Values.{decimal}
 use Rattle.format.specs.Rows.{linked}
 use Rattle.format.specs.Contents.{Detail, primitive, text, object, system, class, objects, texts, primitives, Member, slotFor, Rec, header, classById, systemClass, libraryClass, string, array, typedPrimitive, reference, null, nulls, manyNulls, end, library, primitiveArray, objectArray, stringArray, value, enc, encs}
 
 -- ---- fields
+
+-- a number above 0 whose 32 bits show no sign
+pub record Positive (n : ℕ) : Type 0 where
+  pub above : 0 < n
+  pub below : n < 2147483648
 
 -- a name or a text
 pub record Name (t : List ℕ) : Type 0 where
   pub good : wellFormed t ≡ true
   pub short : length t < 2147483648
 
+-- the 64 bits of a DateTime (2.1.1.5): the kind in the top two, then ticks that are not negative as 62 signed bits
+pub record Moment (x : ℕ) : Type 0 where
+  pub kind : ℕ
+  pub ticks : ℕ
+  pub kind-known : kind ≤ 2
+  pub no-sign : ticks < 2305843009213693952
+  pub bits : x ≡ kind * 4611686018427387904 + ticks
+
+-- how many bytes a value of a code has whose every pattern is taken
+pub data Sized : PrimitiveCode → ℕ → Type 0 where
+  a-byte : Sized C.Byte 1
+  an-sbyte : Sized C.SByte 1
+  an-int16 : Sized C.Int16 2
+  a-uint16 : Sized C.UInt16 2
+  an-int32 : Sized C.Int32 4
+  a-uint32 : Sized C.UInt32 4
+  a-single : Sized C.Single 4
+  an-int64 : Sized C.Int64 8
+  a-uint64 : Sized C.UInt64 8
+  a-double : Sized C.Double 8
+  a-time-span : Sized C.TimeSpan 8
+
 -- the bytes of one value of a code
 pub data Value : PrimitiveCode → List ℕ → Type 0 where
-  number : {c : PrimitiveCode} {v : List ℕ} → 0 < sizeOf c → length v ≡ sizeOf c → Value c v
+  number : {c : PrimitiveCode} {n : ℕ} {v : List ℕ} → Sized c n → length v ≡ n → Value c v
   boolean : {b : ℕ} → b ≤ 1 → Value C.Boolean (b ∷ [])
   scalar : {v : List ℕ} → wellFormed v ≡ true → needOf (getD v 0 0) < 4 → length v ≡ needOf (getD v 0 0) + 1 → Value C.Char v
   exact : {v : List ℕ} (t : List ℕ) → decimal t ≡ true → length t < 2147483648 → v ≡ prefixBytes (length t) ++ t → Value C.Decimal v
-  moment : {v : List ℕ} → length v ≡ 8 → dateTime (le v) ≡ true → Value C.DateTime v
+  moment : {v : List ℕ} → length v ≡ 8 → Moment (le v) → Value C.DateTime v
 
 -- the bytes of n values, one after the other
 pub data Values : PrimitiveCode → ℕ → List ℕ → Type 0 where
@@ -76,17 +102,17 @@ classOf i (aLibrary j ∷ es) = classOf i es
 
 -- an ObjectId of a class, and one of an array or a string
 pub record ClassId (i : ℕ) (es : List Entry) : Type 0 where
-  pub apart : eqb i 0 ≡ false
+  pub apart : 0 < i
   pub bits : i < 4294967296
   pub fresh : used i es ≡ false
 
 pub record ObjectId (i : ℕ) (es : List Entry) : Type 0 where
-  pub sign : positive i ≡ true
+  pub sign : Positive i
   pub fresh : used i es ≡ false
 
 -- a LibraryId that is used
 pub record LibraryId (i : ℕ) (es : List Entry) : Type 0 where
-  pub sign : positive i ≡ true
+  pub sign : Positive i
   pub there : known i es ≡ true
 
 -- ---- types
@@ -136,9 +162,21 @@ takesStrings S.ObjectArray = false
 takesStrings S.StringArray = false
 takesStrings (S.PrimitiveArray c) = false
 
-abbrev pub somePrimitive : List SlotType → Bool
-somePrimitive [] = false
-somePrimitive (t ∷ ts) = pick (isPrimitive t) true (somePrimitive ts)
+-- slots that take records at all, as references and nulls; a primitive slot takes its value at once
+abbrev pub takesRecords : SlotType → Bool
+takesRecords (S.Primitive c) = false
+takesRecords S.Text = true
+takesRecords S.Object = true
+takesRecords S.SystemClass = true
+takesRecords S.Class = true
+takesRecords S.ObjectArray = true
+takesRecords S.StringArray = true
+takesRecords (S.PrimitiveArray c) = true
+
+-- every one of these slots does
+abbrev pub allTake : List SlotType → Bool
+allTake [] = true
+allTake (t ∷ ts) = takesRecords t && allTake ts
 
 -- ---- lengths
 
@@ -219,27 +257,27 @@ mutual
         → Slots room own slot (t ∷ ts) (cur at row es (typedPrimitive b v ∷ rs) (it ∷ is)) c
     -- a reference may name an object anywhere in the stream
     a-reference : {room own slot at row i : ℕ} {t : SlotType} {ts : List SlotType} {es : List Entry} {rs : List Rec} {it : Row} {is : List Row} {c : Cur}
-        → isPrimitive t ≡ false → positive i ≡ true → it ≡ rowOf 9 at (reference i) i own slot 0 0
+        → takesRecords t ≡ true → Positive i → it ≡ rowOf 9 at (reference i) i own slot 0 0
         → Slots room own (slot + 1) ts (cur (at + size (reference i)) (suc row) es rs is) c
         → Slots room own slot (t ∷ ts) (cur at row es (reference i ∷ rs) (it ∷ is)) c
     a-null : {room own slot at row : ℕ} {t : SlotType} {ts : List SlotType} {es : List Entry} {rs : List Rec} {it : Row} {is : List Row} {c : Cur}
-        → isPrimitive t ≡ false → it ≡ rowOf 10 at null 0 own slot 0 1
+        → takesRecords t ≡ true → it ≡ rowOf 10 at null 0 own slot 0 1
         → Slots room own (slot + 1) ts (cur (at + 1) (suc row) es rs is) c
         → Slots room own slot (t ∷ ts) (cur at row es (null ∷ rs) (it ∷ is)) c
-    -- a null run fills slots of this object, none of them primitive; a run of 0 fills none
+    -- a null run fills slots of this object that all take records; a run of 0 fills none
     a-run : {room own slot at row k : ℕ} {t : SlotType} {ts us : List SlotType} {es : List Entry} {rs : List Rec} {it : Row} {is : List Row} {c : Cur}
-        → isPrimitive t ≡ false → k < 256 → k ≤ length (t ∷ ts) → somePrimitive (take k (t ∷ ts)) ≡ false → us ≡ drop k (t ∷ ts)
+        → takesRecords t ≡ true → k < 256 → k ≤ length (t ∷ ts) → allTake (take k (t ∷ ts)) ≡ true → us ≡ drop k (t ∷ ts)
         → it ≡ rowOf 13 at (nulls k) 0 own slot 0 k
         → Slots room own (slot + k) us (cur (at + 2) (suc row) es rs is) c
         → Slots room own slot (t ∷ ts) (cur at row es (nulls k ∷ rs) (it ∷ is)) c
     a-long-run : {room own slot at row k : ℕ} {t : SlotType} {ts us : List SlotType} {es : List Entry} {rs : List Rec} {it : Row} {is : List Row} {c : Cur}
-        → isPrimitive t ≡ false → positive k ≡ true → k ≤ length (t ∷ ts) → somePrimitive (take k (t ∷ ts)) ≡ false → us ≡ drop k (t ∷ ts)
+        → takesRecords t ≡ true → Positive k → k ≤ length (t ∷ ts) → allTake (take k (t ∷ ts)) ≡ true → us ≡ drop k (t ∷ ts)
         → it ≡ rowOf 14 at (manyNulls k) 0 own slot 0 k
         → Slots room own (slot + k) us (cur (at + size (manyNulls k)) (suc row) es rs is) c
         → Slots room own slot (t ∷ ts) (cur at row es (manyNulls k ∷ rs) (it ∷ is)) c
     -- a library stands wherever a kind byte is expected
     a-library : {room own slot at row i : ℕ} {n : List ℕ} {t : SlotType} {ts : List SlotType} {es : List Entry} {rs : List Rec} {it : Row} {is : List Row} {c : Cur}
-        → isPrimitive t ≡ false → positive i ≡ true → known i es ≡ false → Name n → it ≡ rowOf 12 at (library i n) i 0 0 0 0
+        → takesRecords t ≡ true → Positive i → known i es ≡ false → Name n → it ≡ rowOf 12 at (library i n) i 0 0 0 0
         → Slots room own slot (t ∷ ts) (cur (at + size (library i n)) (suc row) (es ++ (aLibrary i ∷ [])) rs is) c
         → Slots room own slot (t ∷ ts) (cur at row es (library i n ∷ rs) (it ∷ is)) c
 
@@ -251,7 +289,7 @@ pub data Array (es : List Entry) : Rec → (kind id count : ℕ) → List SlotTy
   of-strings : {i n : ℕ} → n < 2147483648 → Array es (stringArray i n) 17 i n (replicate n S.Text)
   of-primitives : {i n : ℕ} {b : PrimitiveCode} {vs : List ℕ} → n < 2147483648 → Values b n vs → Array es (primitiveArray i n b vs) 15 i n []
   of-any : {i type n : ℕ} {ns : List ℕ} {d : Detail ℕ} {ts : List SlotType}
-      → Shape type ns → n ≡ product ns → GoodDetail es d → isPrimitive (slotFor d) ≡ false → ts ≡ replicate n (slotFor d)
+      → Shape type ns → n ≡ product ns → GoodDetail es d → takesRecords (slotFor d) ≡ true → ts ≡ replicate n (slotFor d)
       → Array es (array i type ns d []) 7 i n ts
   of-values : {i type n : ℕ} {ns : List ℕ} {b : PrimitiveCode} {vs : List ℕ}
       → Shape type ns → n ≡ product ns → Values b n vs → Array es (array i type ns (primitive b) vs) 7 i n []
@@ -268,7 +306,7 @@ pub data Objects : Cur → Type 0 where
       → Body 64 (suc row) ts (cur (at + size r) (suc row) (es ++ (another i ∷ [])) rs is) c
       → Objects c → Objects (cur at row es (r ∷ rs) (it ∷ is))
   one-library : {at row i : ℕ} {n : List ℕ} {es : List Entry} {rs : List Rec} {it : Row} {is : List Row}
-      → positive i ≡ true → known i es ≡ false → Name n → it ≡ rowOf 12 at (library i n) i 0 0 0 0
+      → Positive i → known i es ≡ false → Name n → it ≡ rowOf 12 at (library i n) i 0 0 0 0
       → Objects (cur (at + size (library i n)) (suc row) (es ++ (aLibrary i ∷ [])) rs is)
       → Objects (cur at row es (library i n ∷ rs) (it ∷ is))
 

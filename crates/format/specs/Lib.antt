@@ -21,3 +21,4 @@ pub mod Fields
 pub mod CounterExamples
 pub mod Lists
 pub mod Allowed
+pub mod Own

@@ -1,26 +1,16 @@
 -- Fields by themselves (01, Field rules): numbers that are positive, how long numbers in a row are, the eight type bytes, the header.
 use Prim.Native.Nat.{ℕ, zero, suc, _+_, _*_, _≤_, _<_}
 use mathlib.Core.Path.{_≡_, refl, ap}
-use mathlib.Core.Bool.{Bool, true, false, not, _&&_}
 use mathlib.Core.List.{List, [], _∷_}
 use native.Mathlib.Omega.{arith}
 use lib.ListN.{length, length-append}
-use lib.Dec.{eqb}
-use borrow.Author.Tests.{leb-false}
-use Rattle.format.specs.Numbers.{negative}
-use Rattle.format.specs.Types.{positive}
 use Rattle.format.specs.Contents.{header, numbersBytes, enc}
 use Rattle.format.specs.Says.{numbersFrom}
-use Rattle.format.specs.Grammar.{size}
+use Rattle.format.specs.Grammar.{Positive, size}
 use Rattle.num.specs.Le.{length-leBytes}
 
-pub positive-bits : (n : ℕ) → positive n ≡ true → n < 4294967296
-positive-bits n e = go (eqb n 0) (negative n) refl e
-  where
-    go : (a b : Bool) → negative n ≡ b → (not a && not b) ≡ true → n < 4294967296
-    go a false h e = let z = leb-false 2147483648 n h in omega arith
-    go true true h e = absurd (let z : _≡_ {A = ℕ} 0 1 = cc in omega arith)
-    go false true h e = absurd (let z : _≡_ {A = ℕ} 0 1 = cc in omega arith)
+pub positive-bits : (n : ℕ) → Positive n → n < 4294967296
+positive-bits n w = omega (arith, w .below)
 
 pub length-numbers : (s : List ℕ) (n p : ℕ) → length (numbersFrom s n p) ≡ n
 unfolding numbersFrom

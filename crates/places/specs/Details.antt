@@ -21,6 +21,7 @@ use Rattle.format.specs.Records.{knownLibrary, ownLibraryAt, infoKnown}
 use Rattle.format.specs.Contents.{Detail, primitive, text, object, system, class, objects, texts, primitives, typeByte, infoBytes, slotFor}
 use Rattle.format.specs.Says.{textFrom, afterText, numberFrom, codeFrom}
 use Rattle.format.specs.Grammar.{LibraryId, GoodDetail}
+use Rattle.format.specs.Own.{positive-exactly}
 use Rattle.fields.specs.Judged.{no-end}
 use Rattle.fields.specs.Sequence.{through}
 use Rattle.num.specs.Le.{Bytes}
@@ -42,7 +43,7 @@ module _ (s : List ℕ) (rows : List Row) (p e : ℕ) where
       let u = number-there s l p e b w in
       let k = number-size s l p e w in
       let z : e - 4 ≡ p = omega arith in
-      rw (library-end s p l e u (g .sign), z, number-from s l p e b w, library-id-good s rows l g)
+      rw (library-end s p l e u (positive-exactly l .1 (g .sign)), z, number-from s l p e b w, library-id-good s rows l g)
 
   known-told : (m : ℕ) → knownLibrary s rows m ≡ F.End e → eqb (libraryRow (le (part s (m - 4) 4)) rows) 0 ≡ false
   known-told m q = go (eqb (libraryRow (le (part s (m - 4) 4)) rows) 0) q

@@ -9,7 +9,7 @@ use native.Mathlib.Numerals.{add-one}
 use lib.ListN.{length, getD, length-append}
 use lib.Seq.{getD-at}
 use lib.Dec.{eqb}
-use borrow.Author.Tests.{eqb-true, not-true, not-false, ne-eqb}
+use borrow.Author.Tests.{eqb-true, eqb-false, not-true, not-false, ne-eqb}
 use Rattle.format.specs.declared.SlotType.{SlotType}
 use Rattle.format.specs.declared.Typed.{Typed}
 use Rattle.format.specs.declared.Row.{Row}
@@ -17,7 +17,8 @@ use Rattle.format.specs.Bytes.{pick}
 use Rattle.format.specs.Types.{typedAt, moved, positive}
 use Rattle.format.specs.Rows.{blank, isObject, isClass, findFrom, objectRow, classRow, libraryRow}
 use Rattle.format.specs.Records.{within, goodClassId, goodId}
-use Rattle.format.specs.Grammar.{Entry, aClass, another, aLibrary, used, known, Classed, classed, unknown, classOf, ClassId, ObjectId, LibraryId}
+use Rattle.format.specs.Grammar.{Positive, Entry, aClass, another, aLibrary, used, known, Classed, classed, unknown, classOf, ClassId, ObjectId, LibraryId}
+use Rattle.format.specs.Own.{positive-exactly}
 use Rattle.laws.specs.Tests.{both-of}
 
 -- ---- the environment
@@ -186,33 +187,36 @@ module _ (s : List ℕ) (rows : List Row) where
 -- ---- the tests of a record's numbers are those of the grammar
 
 module _ (s : List ℕ) (rows : List Row) (i : ℕ) where
+  above-zero : eqb i 0 ≡ false → 0 < i
+  above-zero e = let z = eqb-false i 0 e in omega arith
+
   pub class-id : goodClassId rows i ≡ true → i < 4294967296 → ClassId i (envOf s rows)
   class-id e h =
       let w = both-of (not (eqb i 0)) (eqb (objectRow i rows) 0) e in
-      record { apart = not-true (eqb i 0) (w .0); bits = h; fresh = used-is s i rows ∙ rw (w .1) }
+      record { apart = above-zero (not-true (eqb i 0) (w .0)); bits = h; fresh = used-is s i rows ∙ rw (w .1) }
 
   pub class-id-good : ClassId i (envOf s rows) → goodClassId rows i ≡ true
-  class-id-good c = rw (c .apart, not-false (eqb (objectRow i rows) 0) (sym (used-is s i rows) ∙ c .fresh))
+  class-id-good c = rw (ne-eqb i 0 (λ e. omega (arith, c .apart)), not-false (eqb (objectRow i rows) 0) (sym (used-is s i rows) ∙ c .fresh))
 
   pub object-id : goodId rows i ≡ true → ObjectId i (envOf s rows)
   object-id e =
       let w = both-of (positive i) (eqb (objectRow i rows) 0) e in
-      record { sign = w .0; fresh = used-is s i rows ∙ rw (w .1) }
+      record { sign = positive-exactly i .0 (w .0); fresh = used-is s i rows ∙ rw (w .1) }
 
   pub object-id-good : ObjectId i (envOf s rows) → goodId rows i ≡ true
-  object-id-good c = rw (c .sign, not-false (eqb (objectRow i rows) 0) (sym (used-is s i rows) ∙ c .fresh))
+  object-id-good c = rw (positive-exactly i .1 (c .sign), not-false (eqb (objectRow i rows) 0) (sym (used-is s i rows) ∙ c .fresh))
 
   pub library-id : positive i ≡ true → eqb (libraryRow i rows) 0 ≡ false → LibraryId i (envOf s rows)
-  library-id p e = record { sign = p; there = known-is s i rows ∙ rw e }
+  library-id p e = record { sign = positive-exactly i .0 p; there = known-is s i rows ∙ rw e }
 
   pub library-id-good : LibraryId i (envOf s rows) → eqb (libraryRow i rows) 0 ≡ false
   library-id-good c = not-true (eqb (libraryRow i rows) 0) (sym (known-is s i rows) ∙ c .there)
 
   -- the LibraryId of a library record is new
-  pub library-new : (positive i && eqb (libraryRow i rows) 0) ≡ true → (positive i ≡ true) × (known i (envOf s rows) ≡ false)
+  pub library-new : (positive i && eqb (libraryRow i rows) 0) ≡ true → Positive i × (known i (envOf s rows) ≡ false)
   library-new e =
       let w = both-of (positive i) (eqb (libraryRow i rows) 0) e in
-      (w .0, known-is s i rows ∙ rw (w .1))
+      (positive-exactly i .0 (w .0), known-is s i rows ∙ rw (w .1))
 
-  pub library-new-good : positive i ≡ true → known i (envOf s rows) ≡ false → (positive i && eqb (libraryRow i rows) 0) ≡ true
-  library-new-good p e = rw (p, not-false (eqb (libraryRow i rows) 0) (sym (known-is s i rows) ∙ e))
+  pub library-new-good : Positive i → known i (envOf s rows) ≡ false → (positive i && eqb (libraryRow i rows) 0) ≡ true
+  library-new-good p e = rw (positive-exactly i .1 p, not-false (eqb (libraryRow i rows) 0) (sym (known-is s i rows) ∙ e))

@@ -1,7 +1,7 @@
 -- Records without slots that the grammar takes are read (01, Records): their fields are good, and say what the record has.
 use Prim.Native.Nat.{ℕ, _+_, _<_}
 use mathlib.Core.Path.{_≡_, refl}
-use mathlib.Core.Bool.{true, false}
+use mathlib.Core.Bool.{false}
 use mathlib.Core.List.{List, [], _∷_, _++_}
 use native.Mathlib.Omega.{arith}
 use lib.ListN.{length}
@@ -11,11 +11,12 @@ use Rattle.format.specs.declared.Heading.the-variants as H
 use Rattle.format.specs.declared.Row.{Row}
 use Rattle.format.specs.Numbers.{leBytes}
 use Rattle.format.specs.Text.{stringBytes}
-use Rattle.format.specs.Types.{codeNumber, positive}
+use Rattle.format.specs.Types.{codeNumber}
 use Rattle.format.specs.Rows.{isClass}
 use Rattle.format.specs.Records.{headerAt, stringRecordAt, typedPrimitiveAt, referenceAt, nullsAt, longNullsAt, libraryAt, headingAt}
 use Rattle.format.specs.Contents.{Rec, header, string, typedPrimitive, reference, null, nulls, manyNulls, end, library, enc}
-use Rattle.format.specs.Grammar.{Name, Value, ObjectId, known}
+use Rattle.format.specs.Grammar.{Positive, Name, Value, ObjectId, known}
+use Rattle.format.specs.Own.{positive-exactly}
 use Rattle.laws.specs.Fields.{positive-bits}
 use Rattle.places.specs.Env.{envOf, entryOf, object-id-good, library-new-good}
 use Rattle.places.specs.Stand.{Stand, stand-size, stand-split, stand-inside, stand-here, stand-after}
@@ -61,11 +62,11 @@ module _ (s : List ℕ) (rows : List Row) (at e : ℕ) where
       plain-there 8 (typedPrimitive c v) _ 0 0 refl w refl (λ row offset next owner slot. refl)
       (rw (code-there s c (at + 1) (x .0) (x .1), code-from s c (at + 1) (x .0) (x .1), value-there s c v (x .0) e g (x .2)))
 
-  pub reference-there : (i : ℕ) → positive i ≡ true → Stand s (enc (reference i)) at e → There s rows 9 at (reference i) i 0 0 []
+  pub reference-there : (i : ℕ) → Positive i → Stand s (enc (reference i)) at e → There s rows 9 at (reference i) i 0 0 []
   unfolding headingAt referenceAt enc
   reference-there i p w =
       plain-there 9 (reference i) _ i 0 refl w refl (λ row offset next owner slot. refl)
-      (rw (number-there s i (at + 1) e (positive-bits i p) (stand-after w), p))
+      (rw (number-there s i (at + 1) e (positive-bits i p) (stand-after w), positive-exactly i .1 p))
 
   pub null-there : Stand s (enc null) at e → There s rows 10 at null 0 1 0 []
   unfolding headingAt enc
@@ -79,7 +80,7 @@ module _ (s : List ℕ) (rows : List Row) (at e : ℕ) where
       let k : e ≡ at + 1 = stand-size w in
       plain-there 11 end _ 0 0 refl w refl (λ row offset next owner slot. refl) (rw k)
 
-  pub library-there : (i : ℕ) (n : List ℕ) → positive i ≡ true → known i (envOf s rows) ≡ false → Name n → Stand s (enc (library i n)) at e
+  pub library-there : (i : ℕ) (n : List ℕ) → Positive i → known i (envOf s rows) ≡ false → Name n → Stand s (enc (library i n)) at e
       → There s rows 12 at (library i n) i 0 0 []
   unfolding headingAt libraryAt enc
   library-there i n p u g w =
@@ -94,8 +95,8 @@ module _ (s : List ℕ) (rows : List Row) (at e : ℕ) where
       let z : e ≡ at + 2 = stand-size w in
       plain-there 13 (nulls k) _ 0 k refl w refl (λ row offset next owner slot. refl) (rw (lt-ltb (at + 1) (length s) (stand-inside v), stand-here v, z))
 
-  pub many-nulls-there : (k : ℕ) → positive k ≡ true → Stand s (enc (manyNulls k)) at e → There s rows 14 at (manyNulls k) 0 k 0 []
+  pub many-nulls-there : (k : ℕ) → Positive k → Stand s (enc (manyNulls k)) at e → There s rows 14 at (manyNulls k) 0 k 0 []
   unfolding headingAt longNullsAt enc
   many-nulls-there k p w =
       plain-there 14 (manyNulls k) _ 0 k refl w refl (λ row offset next owner slot. refl)
-      (rw (number-there s k (at + 1) e (positive-bits k p) (stand-after w), p))
+      (rw (number-there s k (at + 1) e (positive-bits k p) (stand-after w), positive-exactly k .1 p))

@@ -1,7 +1,7 @@
 -- Array records that the grammar takes are read (01, Records, kinds 7, 15, 16 and 17): their fields are good, and say what the record has.
 use Prim.Native.Nat.{ℕ, _+_, _*_, _<_}
 use mathlib.Core.Path.{_≡_, refl, sym, ap, _∙_, subst}
-use mathlib.Core.Bool.{false}
+use mathlib.Core.Bool.{true, false}
 use mathlib.Core.List.{List, [], _∷_, _++_}
 use native.Mathlib.Omega.{arith}
 use native.Mathlib.Nat.{add-zero, one-mul}
@@ -15,11 +15,11 @@ use Rattle.format.specs.declared.Slots.the-variants as L
 use Rattle.format.specs.declared.Heading.the-variants as H
 use Rattle.format.specs.declared.Row.{Row}
 use Rattle.format.specs.Numbers.{leBytes}
-use Rattle.format.specs.Types.{codeNumber, typeByteAt, slotOf, typedAt, isPrimitive}
+use Rattle.format.specs.Types.{codeNumber, typeByteAt, slotOf, typedAt}
 use Rattle.format.specs.Rows.{isClass}
 use Rattle.format.specs.Records.{slotArrayAt, primitiveArrayAt, lengthsAt, itemsOf, itemTypeAt, rankAt, binaryArrayAt, headingAt}
 use Rattle.format.specs.Contents.{Detail, typeByte, infoBytes, slotFor, Rec, array, primitive, primitiveArray, objectArray, stringArray, numbersBytes, enc}
-use Rattle.format.specs.Grammar.{GoodDetail, ObjectId, Values, Shape, product, Array, of-objects, of-strings, of-primitives, of-any, of-values}
+use Rattle.format.specs.Grammar.{GoodDetail, ObjectId, Values, Shape, product, Array, of-objects, of-strings, of-primitives, of-any, of-values, takesRecords}
 use Rattle.codes.specs.Ends.{type-end}
 use Rattle.laws.specs.Fields.{positive-bits}
 use Rattle.places.specs.Env.{envOf, entryOf, object-id-good}
@@ -136,7 +136,7 @@ module _ (s : List ℕ) (rows : List Row) (at e : ℕ) where
         stands = k .2;
       }
 
-  items-slotted : (id n infos x : ℕ) (t : SlotType) → isPrimitive t ≡ false → itemsOf s id n infos x t ≡ H.Fields (slottedHead s id x n t infos)
+  items-slotted : (id n infos x : ℕ) (t : SlotType) → takesRecords t ≡ true → itemsOf s id n infos x t ≡ H.Fields (slottedHead s id x n t infos)
   items-slotted id n infos x (S.Primitive c) f = absurd (let z : _≡_ {A = ℕ} 0 1 = cc in omega arith)
   items-slotted id n infos x S.Text f = refl
   items-slotted id n infos x S.Object f = refl
@@ -147,7 +147,7 @@ module _ (s : List ℕ) (rows : List Row) (at e : ℕ) where
   items-slotted id n infos x (S.PrimitiveArray c) f = refl
 
   any-array-there : (i type : ℕ) (ns : List ℕ) (d : Detail ℕ) → ObjectId i (envOf s rows) → Shape type ns → GoodDetail (envOf s rows) d
-      → isPrimitive (slotFor d) ≡ false → Stand s (enc (array i type ns d [])) at e
+      → takesRecords (slotFor d) ≡ true → Stand s (enc (array i type ns d [])) at e
       → There s rows 7 at (array i type ns d []) i (product ns) 0 (replicate (product ns) (slotFor d))
   unfolding enc
   any-array-there i type ns d o h g f w =

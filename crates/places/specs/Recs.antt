@@ -12,11 +12,11 @@ use Rattle.format.specs.declared.Head.{Head}
 use Rattle.format.specs.declared.Heading.the-variants as H
 use Rattle.format.specs.declared.Row.{Row}
 use Rattle.format.specs.Bytes.{pick}
-use Rattle.format.specs.Types.{positive, typedAt, alike, moved}
+use Rattle.format.specs.Types.{typedAt, alike, moved}
 use Rattle.format.specs.Rows.{isClass}
 use Rattle.format.specs.Records.{isKind, notTaken, within, headingAt}
 use Rattle.format.specs.Contents.{Member, Rec, header, classById, systemClass, libraryClass, string, array, typedPrimitive, reference, null, nulls, manyNulls, end, library, primitiveArray, objectArray, stringArray, value, enc}
-use Rattle.format.specs.Grammar.{Entry, aClass, another, aLibrary, known, classed, classOf, ClassId, ObjectId, LibraryId, Name, Value, ClassInfo, typesOf, size, Array, of-objects, of-strings, of-primitives, of-any, of-values}
+use Rattle.format.specs.Grammar.{Positive, Entry, aClass, another, aLibrary, known, classed, classOf, ClassId, ObjectId, LibraryId, Name, Value, ClassInfo, typesOf, size, Array, of-objects, of-strings, of-primitives, of-any, of-values}
 use Rattle.slots.specs.Slots.{moved-alike}
 use Rattle.places.specs.Env.{slotsFrom, typesAt, classSlots, entryOf, envOf, env-more}
 use Rattle.places.specs.Stand.{Stand, stand-size}
@@ -33,12 +33,12 @@ pub data Good (es : List Entry) : (kind : ℕ) → Rec → (id count class : ℕ
       → Good es 5 (libraryClass i n ms l) i (length ms) 0 (typesOf ms)
   is-string : {i : ℕ} {t : List ℕ} → ObjectId i es → Name t → Good es 6 (string i t) i 0 0 []
   is-typed-primitive : {c : PrimitiveCode} {v : List ℕ} → Value c v → Good es 8 (typedPrimitive c v) 0 0 0 []
-  is-reference : {i : ℕ} → positive i ≡ true → Good es 9 (reference i) i 0 0 []
+  is-reference : {i : ℕ} → Positive i → Good es 9 (reference i) i 0 0 []
   is-null : Good es 10 null 0 1 0 []
   is-end : Good es 11 end 0 0 0 []
-  is-library : {i : ℕ} {n : List ℕ} → positive i ≡ true → known i es ≡ false → Name n → Good es 12 (library i n) i 0 0 []
+  is-library : {i : ℕ} {n : List ℕ} → Positive i → known i es ≡ false → Name n → Good es 12 (library i n) i 0 0 []
   is-nulls : {k : ℕ} → k < 256 → Good es 13 (nulls k) 0 k 0 []
-  is-many-nulls : {k : ℕ} → positive k ≡ true → Good es 14 (manyNulls k) 0 k 0 []
+  is-many-nulls : {k : ℕ} → Positive k → Good es 14 (manyNulls k) 0 k 0 []
   is-array : {k i n : ℕ} {r : Rec} {ts : List SlotType} → ObjectId i es → Array es r k i n ts → Good es k r i n 0 ts
 
 -- its kind is known and not refused by name

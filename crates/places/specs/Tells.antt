@@ -26,6 +26,7 @@ use Rattle.format.specs.Rows.{isClass, libraryRow}
 use Rattle.format.specs.Records.{onNumber, onField, onSlots, goodId, headerAt, stringRecordAt, typedPrimitiveAt, referenceAt, nullsAt, longNullsAt, libraryAt}
 use Rattle.format.specs.Contents.{Rec, header, string, typedPrimitive, reference, null, nulls, manyNulls, end, library, enc}
 use Rattle.format.specs.Says.{textFrom, codeFrom}
+use Rattle.format.specs.Own.{positive-exactly}
 use Rattle.fields.specs.Judged.{picked}
 use Rattle.num.specs.Le.{Bytes}
 use Rattle.places.specs.Env.{envOf, entryOf, object-id, library-new}
@@ -113,7 +114,7 @@ module _ (s : List ℕ) (rows : List Row) (at : ℕ) (byte : Bytes s) (i : at < 
       said-number (Back s rows 9 at) _ (u32At s (at + 1)) (λ id e q.
       let n = number-back s (at + 1) id e byte q in
       said-if (Back s rows 9 at) (positive id) _ _ (λ t.
-      plain-back 9 (reference id) id e 0 g (is-reference t) (stand-then (stand-is 9 i g) (n .stands)) refl (λ row offset next owner slot. refl))
+      plain-back 9 (reference id) id e 0 g (is-reference (positive-exactly id .0 t)) (stand-then (stand-is 9 i g) (n .stands)) refl (λ row offset next owner slot. refl))
       (λ t. tt))
 
   pub null-back : getD s at 0 ≡ 10 → Back s rows 10 at (plainHead 0 (at + 1) 1)
@@ -153,5 +154,5 @@ module _ (s : List ℕ) (rows : List Row) (at : ℕ) (byte : Bytes s) (i : at < 
       said-number (Back s rows 14 at) _ (u32At s (at + 1)) (λ k e q.
       let n = number-back s (at + 1) k e byte q in
       said-if (Back s rows 14 at) (positive k) _ _ (λ t.
-      plain-back 14 (manyNulls k) 0 e k g (is-many-nulls t) (stand-then (stand-is 14 i g) (n .stands)) refl (λ row offset next owner slot. refl))
+      plain-back 14 (manyNulls k) 0 e k g (is-many-nulls (positive-exactly k .0 t)) (stand-then (stand-is 14 i g) (n .stands)) refl (λ row offset next owner slot. refl))
       (λ t. tt))

@@ -16,12 +16,12 @@ use Rattle.format.specs.declared.Row.{Row}
 use Rattle.format.specs.Bytes.{part}
 use Rattle.format.specs.Numbers.{leBytes, u32At, negative}
 use Rattle.format.specs.Values.{itemsAt}
-use Rattle.format.specs.Types.{codeAt, typeByteAt, typedAt, isPrimitive}
+use Rattle.format.specs.Types.{codeAt, typeByteAt, typedAt}
 use Rattle.format.specs.Rows.{isClass}
 use Rattle.format.specs.Records.{goodId, slotArrayAt, primitiveArrayAt, goodRank, lengthsAt, itemsOf, infoKnown, itemTypeAt, rankAt, binaryArrayAt}
 use Rattle.format.specs.Contents.{Detail, primitive, text, object, system, class, objects, texts, primitives, typeByte, infoBytes, slotFor, Rec, array, primitiveArray, objectArray, stringArray, enc}
 use Rattle.format.specs.Says.{codeFrom, numbersFrom}
-use Rattle.format.specs.Grammar.{GoodDetail, ObjectId, Shape, product, Array, of-objects, of-strings, of-primitives, of-any, of-values}
+use Rattle.format.specs.Grammar.{GoodDetail, ObjectId, Shape, product, Array, of-objects, of-strings, of-primitives, of-any, of-values, takesRecords}
 use Rattle.num.specs.Le.{Bytes}
 use Rattle.types.specs.Keeps.{type-told}
 use Rattle.laws.specs.Fields.{length-numbers}
@@ -101,7 +101,7 @@ module _ (s : List ℕ) (rows : List Row) (at : ℕ) (byte : Bytes s) (i : at < 
   module _ (g : getD s at 0 ≡ 7) (id type n : ℕ) (ns : List ℕ) (infos x : ℕ) (o : ObjectId id (envOf s rows)) (h : Shape type ns) (z : n ≡ product ns) where
     slots : (d : Detail ℕ) → GoodDetail (envOf s rows) d → Stand s (infoBytes d) infos x
         → ((vs : List ℕ) (e : ℕ) → Stand s (infoBytes d ++ vs) infos e → Stand s (enc (array id type ns d vs)) at e)
-        → isPrimitive (slotFor d) ≡ false → Back s rows 7 at (slottedHead s id x n (slotFor d) infos)
+        → takesRecords (slotFor d) ≡ true → Back s rows 7 at (slottedHead s id x n (slotFor d) infos)
     slots d k w whole f =
         slotted-back 7 (array id type ns d []) id x n (slotFor d) infos g o (of-any h z k f refl) (whole [] x (stand-then w (stand-none (w .room)))) refl
         (λ row offset next owner slot. refl)

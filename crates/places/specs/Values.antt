@@ -12,10 +12,12 @@ use Rattle.format.specs.declared.PrimitiveCode.{PrimitiveCode}
 use Rattle.format.specs.declared.PrimitiveCode.the-variants as C
 use Rattle.format.specs.declared.Field.the-variants as F
 use Rattle.format.specs.Bytes.{pick, part}
+use Rattle.format.specs.Numbers.{le}
 use Rattle.format.specs.Prefix.{prefixBytes}
 use Rattle.format.specs.Text.{needOf, wellFormed}
 use Rattle.format.specs.Values.{bytesAt, booleanAt, charAt, decimal, decimalAt, dateTimeAt, sizeOf, valueAt, times, itemsAt}
 use Rattle.format.specs.Grammar.{Value, number, boolean, scalar, exact, moment, Values, none, more}
+use Rattle.format.specs.Own.{moment-exactly, sized-exactly}
 use Rattle.fields.specs.Parts.{length-part, part-cons, part-first, part-add, part-through, pieces}
 use Rattle.fields.specs.Judged.{passes, judged-taken, judged-end}
 use Rattle.fields.specs.Sequence.{through}
@@ -51,7 +53,7 @@ value-bytes s C.UInt32 p h = refl
 value-bytes s C.UInt64 p h = refl
 
 value-length : (c : PrimitiveCode) (v : List ℕ) → 0 < sizeOf c → Value c v → length v ≡ sizeOf c
-value-length c v h (number g l) = l
+value-length c v h (number {n = n} g l) = l ∙ sized-exactly c n .1 g .1
 value-length c v h (boolean g) = absurd (omega arith)
 value-length c v h (scalar g n l) = absurd (omega arith)
 value-length c v h (exact t d l e) = absurd (omega arith)
@@ -88,10 +90,11 @@ decimal-there s t p e g h w =
 
 pub value-there : (s : List ℕ) (c : PrimitiveCode) (v : List ℕ) (p e : ℕ) → Value c v → Stand s v p e → valueAt s c p ≡ F.End e
 unfolding valueAt
-value-there s c v p e (number h l) w =
+value-there s c v p e (number {n = n} g l) w =
     let k = stand-size w in
+    let h = sized-exactly c n .1 g in
     let z : e ≡ p + sizeOf c = omega arith in
-    value-bytes s c p h ∙ rw z (bytes-end s p (sizeOf c) (omega (arith, w .room)))
+    value-bytes s c p (h .0) ∙ rw z (bytes-end s p (sizeOf c) (omega (arith, w .room)))
 value-there s c v p e (boolean h) w =
     let k = stand-size w in
     rw k (boolean-end s p (stand-inside w) (rw (stand-here w) h))
@@ -101,7 +104,7 @@ value-there s c v p e (moment l d) w =
     let k = stand-size w in
     let z : e - p ≡ 8 = omega arith in
     let same : part s p 8 ≡ v = rw z at (stand-same w) in
-    date-judged s p ∙ judged-end J.moment R.BadValue s p 8 e (record { ends = omega arith; room = omega (arith, w .room); good = rw same d })
+    date-judged s p ∙ judged-end J.moment R.BadValue s p 8 e (record { ends = omega arith; room = omega (arith, w .room); good = rw same (moment-exactly (le v) .1 d) })
 
 -- ---- what is read is written so
 
@@ -109,7 +112,7 @@ number-back : (s : List ℕ) (c : PrimitiveCode) (p e : ℕ) → 0 < sizeOf c �
 number-back s c p e h q =
     let w = judged-taken any R.BadValue s p (sizeOf c) e (sym (bytes-judged s p (sizeOf c)) ∙ (sym (value-bytes s c p h) ∙ q)) in
     let z : e - p ≡ sizeOf c = omega arith in
-    rw z (number {c = c} {v = part s p (sizeOf c)} h (length-part s p (sizeOf c) (w .room)))
+    rw z (number {c = c} {v = part s p (sizeOf c)} (sized-exactly c (sizeOf c) .0 (h, refl)) (length-part s p (sizeOf c) (w .room)))
 
 boolean-back : (s : List ℕ) (p e : ℕ) → booleanAt s p ≡ F.End e → Value C.Boolean (part s p (e - p))
 boolean-back s p e q =
@@ -145,7 +148,7 @@ date-back : (s : List ℕ) (p e : ℕ) → dateTimeAt s p ≡ F.End e → Value 
 date-back s p e q =
     let w = judged-taken J.moment R.BadValue s p 8 e (sym (date-judged s p) ∙ q) in
     let z : e - p ≡ 8 = omega arith in
-    rw z (moment (length-part s p 8 (w .room)) (w .good))
+    rw z (moment (length-part s p 8 (w .room)) (moment-exactly (le (part s p 8)) .0 (w .good)))
 
 value-of : (s : List ℕ) (c : PrimitiveCode) (p e : ℕ) → Bytes s → valueAt s c p ≡ F.End e → Value c (part s p (e - p))
 unfolding valueAt
@@ -219,7 +222,7 @@ bytes-values : (s : List ℕ) (c : PrimitiveCode) (n p : ℕ) → 0 < sizeOf c �
 bytes-values s c zero p h g = let z : sizeOf c * 0 ≡ 0 = omega arith in rw z none
 bytes-values s c (suc n) p h g =
     let z = pieces (sizeOf c) n in
-    rw z (more {v = part s p (sizeOf c)} (number h (length-part s p (sizeOf c) (omega arith))) (bytes-values s c n (p + sizeOf c) h (omega arith)) (part-add s p (sizeOf c) (sizeOf c * n)))
+    rw z (more {v = part s p (sizeOf c)} (number (sized-exactly c (sizeOf c) .0 (h, refl)) (length-part s p (sizeOf c) (omega arith))) (bytes-values s c n (p + sizeOf c) h (omega arith)) (part-add s p (sizeOf c) (sizeOf c * n)))
 
 pub items-back : (s : List ℕ) (c : PrimitiveCode) (n p e : ℕ) → Bytes s → p ≤ length s → itemsAt s c n p ≡ F.End e
     → Values c n (part s p (e - p)) × Stand s (part s p (e - p)) p e

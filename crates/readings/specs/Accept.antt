@@ -14,11 +14,11 @@ use Rattle.format.specs.declared.Typed.{Typed}
 use Rattle.format.specs.declared.Head.{Head}
 use Rattle.format.specs.declared.Row.{Row}
 use Rattle.format.specs.declared.Frame.{Frame}
-use Rattle.format.specs.Types.{moved, isPrimitive}
+use Rattle.format.specs.Types.{moved}
 use Rattle.format.specs.Rows.{blank, isObject, objectRow, findFrom, isLost, linked}
 use Rattle.format.specs.Records.{inSlot, isClassKind}
 use Rattle.format.specs.Contents.{Rec, header, string, typedPrimitive, reference, null, nulls, manyNulls, end, library, value, enc, encs}
-use Rattle.format.specs.Grammar.{Entry, another, aLibrary, Value, typesOf, Cur, cur, size, rowOf, Object, system-class, library-class, class-by-id, Body, hollow, Slots, full, member-value, an-object, a-string, a-typed-primitive, a-reference, a-null, a-run, a-long-run, a-library, Array, of-objects, of-strings, of-primitives, of-any, of-values, Objects, the-end, one-object, one-string, one-array, one-library, Reading}
+use Rattle.format.specs.Grammar.{Entry, another, aLibrary, Value, typesOf, Cur, cur, size, rowOf, Object, system-class, library-class, class-by-id, Body, hollow, Slots, full, member-value, an-object, a-string, a-typed-primitive, a-reference, a-null, a-run, a-long-run, a-library, Array, of-objects, of-strings, of-primitives, of-any, of-values, Objects, the-end, one-object, one-string, one-array, one-library, Reading, takesRecords}
 use Rattle.format.specs.Grammar as G
 use Rattle.format.specs.Machine.{Open, State, Outcome, accepted, go, ended, close, filledBy, filled, opened, rowIn, valueHead, step, finish, onward, run, start, begin, readOf}
 use Rattle.links.specs.Links.{length-linked}
@@ -228,7 +228,7 @@ module _ (s : List ℕ) (room : ℕ) (final : List Row) (v : Outcome) (big : len
 
   -- a null run fills as many slots as it counts
   run-ok : {at row : ℕ} {es : List Entry} {r : Rec} {rs : List Rec} {it : Row} {is : List Row} (f g : Frame) (gs : List Frame) (k count own slot n : ℕ) (us : List SlotType)
-      (t : SlotType) (ts : List SlotType) (w : Passing s f count us) → Nearest s f t ts → isPrimitive t ≡ false → Good es k r 0 count 0 [] → inSlot k ≡ true → isRun k ≡ true
+      (t : SlotType) (ts : List SlotType) (w : Passing s f count us) → Nearest s f t ts → takesRecords t ≡ true → Good es k r 0 count 0 [] → inSlot k ≡ true → isRun k ≡ true
       → f .owner ≡ own → f .count ≡ slot + f .left → it ≡ rowOf k at r 0 own slot 0 count → size r ≡ n → entryFor (suc row) r ≡ []
       → Ok (close (filledBy f count (w .type)) (g ∷ gs)) (at + n) (suc row) es rs is → Ok (close f (g ∷ gs)) at row es (r ∷ rs) (it ∷ is)
   run-ok {at} {row} {es} {r} f g gs k count own slot n us t ts w y p a i j x z q l b c =

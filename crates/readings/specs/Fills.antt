@@ -17,7 +17,8 @@ use Rattle.format.specs.Rows.{isObject}
 use Rattle.format.specs.Records.{allowed}
 use Rattle.format.specs.Contents.{Rec, enc}
 use Rattle.format.specs.Grammar as G
-use Rattle.format.specs.Grammar.{Entry, another, Cur, cur, rowOf, size, takesObjects, takesStrings, somePrimitive, system-class, library-class, class-by-id, Body, hollow, Slots, an-object, a-string, a-typed-primitive, a-reference, a-null, a-run, a-long-run, a-library, Array, of-objects, of-strings, of-primitives, of-any, of-values, Objects, the-end, one-object, one-string, one-array, one-library}
+use Rattle.format.specs.Grammar.{Entry, another, Cur, cur, rowOf, size, takesObjects, takesStrings, system-class, library-class, class-by-id, Body, hollow, Slots, an-object, a-string, a-typed-primitive, a-reference, a-null, a-run, a-long-run, a-library, Array, of-objects, of-strings, of-primitives, of-any, of-values, Objects, the-end, one-object, one-string, one-array, one-library, allTake}
+use Rattle.format.specs.Own.{takes-exactly}
 use Rattle.laws.specs.Tests.{apart}
 use Rattle.places.specs.Recs.{Good, is-header, is-class-by-id, is-system-class, is-library-class, is-string, is-typed-primitive, is-reference, is-null, is-end, is-library, is-nulls, is-many-nulls, is-array, entryFor}
 use Rattle.readings.specs.Steps.{whereOf}
@@ -140,23 +141,23 @@ module _ {at row : ℕ} {es : List Entry} {rs : List Rec} {is : List Row} where
   pub slot-library : {room own slot id count class : ℕ} {r : Rec} {ts : List SlotType} {c : Cur} (t : SlotType) (us : List SlotType) → Good es 12 r id count class ts
       → isPrimitive t ≡ false → Slots room own slot (t ∷ us) (after at row es r rs is) c
       → Slots room own slot (t ∷ us) (cur at row es (r ∷ rs) (rowOf 12 at r id 0 0 class count ∷ is)) c
-  slot-library t us (is-library a b e) p k = a-library p a b e refl k
+  slot-library t us (is-library a b e) p k = a-library (takes-exactly t .0 p) a b e refl k
 
   -- a null run
   pub slot-run : {room own slot id count class : ℕ} {r : Rec} {ts : List SlotType} {c : Cur} (t : SlotType) (us vs : List SlotType) → Good es 13 r id count class ts
-      → isPrimitive t ≡ false → count ≤ length (t ∷ us) → somePrimitive (take count (t ∷ us)) ≡ false → vs ≡ drop count (t ∷ us)
+      → isPrimitive t ≡ false → count ≤ length (t ∷ us) → allTake (take count (t ∷ us)) ≡ true → vs ≡ drop count (t ∷ us)
       → Slots room own (slot + count) vs (after at row es r rs is) c
       → Slots room own slot (t ∷ us) (cur at row es (r ∷ rs) (rowOf 13 at r id own slot class count ∷ is)) c
   unfolding enc
   slot-run {room} {own} {slot} {count = count} {c = c} t us vs (is-nulls a) p l n e k =
-      a-run p a l n e refl (subst (λ (x : List Entry). Slots room own (slot + count) vs (cur (at + 2) (suc row) x rs is) c) (append-nil es) k)
+      a-run (takes-exactly t .0 p) a l n e refl (subst (λ (x : List Entry). Slots room own (slot + count) vs (cur (at + 2) (suc row) x rs is) c) (append-nil es) k)
 
   pub slot-long-run : {room own slot id count class : ℕ} {r : Rec} {ts : List SlotType} {c : Cur} (t : SlotType) (us vs : List SlotType) → Good es 14 r id count class ts
-      → isPrimitive t ≡ false → count ≤ length (t ∷ us) → somePrimitive (take count (t ∷ us)) ≡ false → vs ≡ drop count (t ∷ us)
+      → isPrimitive t ≡ false → count ≤ length (t ∷ us) → allTake (take count (t ∷ us)) ≡ true → vs ≡ drop count (t ∷ us)
       → Slots room own (slot + count) vs (after at row es r rs is) c
       → Slots room own slot (t ∷ us) (cur at row es (r ∷ rs) (rowOf 14 at r id own slot class count ∷ is)) c
   slot-long-run {room} {own} {slot} {count = count} {r = r} {c = c} t us vs (is-many-nulls a) p l n e k =
-      a-long-run p a l n e refl (subst (λ (x : List Entry). Slots room own (slot + count) vs (cur (at + size r) (suc row) x rs is) c) (append-nil es) k)
+      a-long-run (takes-exactly t .0 p) a l n e refl (subst (λ (x : List Entry). Slots room own (slot + count) vs (cur (at + size r) (suc row) x rs is) c) (append-nil es) k)
 
   -- a typed primitive, a reference or a null
   pub slot-plain : {room own slot k id count class : ℕ} {r : Rec} {ts : List SlotType} {c : Cur} (t : SlotType) (us : List SlotType) → Good es k r id count class ts
@@ -172,9 +173,9 @@ module _ {at row : ℕ} {es : List Entry} {rs : List Rec} {is : List Row} where
   slot-plain {room} {own} {slot} {r = r} {c = c} t us (is-typed-primitive a) o n l e w p k =
       a-typed-primitive (takes-objects t 8 refl refl w) a refl (subst (λ (x : List Entry). Slots room own (slot + 1) us (cur (at + size r) (suc row) x rs is) c) (append-nil es) k)
   slot-plain {room} {own} {slot} {r = r} {c = c} t us (is-reference a) o n l e w p k =
-      a-reference p a refl (subst (λ (x : List Entry). Slots room own (slot + 1) us (cur (at + size r) (suc row) x rs is) c) (append-nil es) k)
+      a-reference (takes-exactly t .0 p) a refl (subst (λ (x : List Entry). Slots room own (slot + 1) us (cur (at + size r) (suc row) x rs is) c) (append-nil es) k)
   slot-plain {room} {own} {slot} {c = c} t us is-null o n l e w p k =
-      a-null p refl (subst (λ (x : List Entry). Slots room own (slot + 1) us (cur (at + 1) (suc row) x rs is) c) (append-nil es) k)
+      a-null (takes-exactly t .0 p) refl (subst (λ (x : List Entry). Slots room own (slot + 1) us (cur (at + 1) (suc row) x rs is) c) (append-nil es) k)
   slot-plain t us is-end o n l e w p k = apart (sym e)
   slot-plain t us (is-library a b f) o n l e w p k = apart (sym l)
   slot-plain t us (is-nulls a) o n l e w p k = apart (sym n)

@@ -17,8 +17,9 @@ use Rattle.format.specs.Values.{times}
 use Rattle.format.specs.Types.{typeByteAt, nameAt, typedAt, moved, isPrimitive}
 use Rattle.format.specs.Rows.{blank, isClass, classRow}
 use Rattle.format.specs.Records.{goodClassId, infosAt, afterInfos, membersAt, classAt, classByIdAt, headingAt}
-use Rattle.format.specs.Contents.{Rec}
+use Rattle.format.specs.Contents.{slotFor, Rec}
 use Rattle.format.specs.Grammar.{Entry, Array, of-objects, of-strings, of-primitives, of-any, of-values}
+use Rattle.format.specs.Own.{takes-exactly}
 use Rattle.lookups.specs.Find.{class-at}
 use Rattle.class_info.specs.Ends.{number-moves}
 use Rattle.class_info.specs.Moves.{names-there}
@@ -97,7 +98,7 @@ array-first : {es : List Entry} {r : Rec} {k i n : ℕ} {us : List SlotType} (t 
 array-first {n = n} t ts (of-objects a) e = alike-first ts n t _ e refl
 array-first {n = n} t ts (of-strings a) e = alike-first ts n t _ e refl
 array-first t ts (of-primitives a b) e = absurd (let z : suc (length ts) ≡ 0 = ap length e in omega arith)
-array-first {n = n} t ts (of-any a b c d f) e = alike-first ts n t _ (e ∙ f) d
+array-first {n = n} t ts (of-any {d = g} a b c d f) e = alike-first ts n t (slotFor g) (e ∙ f) (takes-exactly (slotFor g) .1 d)
 array-first t ts (of-values a b c) e = absurd (let z : suc (length ts) ≡ 0 = ap length e in omega arith)
 
 -- ---- any record

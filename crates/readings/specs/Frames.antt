@@ -17,15 +17,15 @@ use Rattle.format.specs.declared.Passed.{Passed}
 use Rattle.format.specs.declared.Passed.the-variants as O
 use Rattle.format.specs.declared.Head.{Head}
 use Rattle.format.specs.declared.Frame.{Frame}
-use Rattle.format.specs.Bytes.{pick}
 use Rattle.format.specs.Types.{moved, isPrimitive, passed, passedOf}
 use Rattle.format.specs.Rows.{isObject}
 use Rattle.format.specs.Records.{inSlot, isClassKind, allowed}
 use Rattle.format.specs.Contents.{Rec}
-use Rattle.format.specs.Grammar.{Entry, takesObjects, takesStrings, somePrimitive, Array, of-objects, of-strings, of-primitives, of-any, of-values}
+use Rattle.format.specs.Grammar.{Entry, takesObjects, takesStrings, Array, of-objects, of-strings, of-primitives, of-any, of-values, takesRecords, allTake}
 use Rattle.format.specs.Machine.{Open, close, filledBy, filled, opened, start}
+use Rattle.format.specs.Own.{takes-exactly}
 use Rattle.slots.specs.Slots.{moved-alike, passed-alike, passed-walk}
-use Rattle.laws.specs.Tests.{or-right}
+use Rattle.laws.specs.Tests.{or-right, both-of}
 use Rattle.places.specs.Env.{slotsFrom}
 use Rattle.places.specs.Recs.{length-slots}
 use Rattle.readings.specs.Steps.{whereOf, Allows}
@@ -88,14 +88,12 @@ module _ (s : List ℕ) where
       let z : suc m - suc n ≡ m - n = omega arith in
       rw z (alike-drop t n m (omega arith) e ∙ ap (λ (u : Typed). drop n (slotsFrom s u m)) (sym e))
 
-  split-some : (t : SlotType) (ts : List SlotType) → somePrimitive (t ∷ ts) ≡ false → (isPrimitive t ≡ false) × (somePrimitive ts ≡ false)
-  split-some t ts e = by-test (isPrimitive t) refl e
-    where
-      by-test : (b : Bool) → isPrimitive t ≡ b → pick b true (somePrimitive ts) ≡ false → (isPrimitive t ≡ false) × (somePrimitive ts ≡ false)
-      by-test true q e = absurd (let z : _≡_ {A = ℕ} 0 1 = cc in omega arith)
-      by-test false q e = (q, e)
+  split-some : (t : SlotType) (ts : List SlotType) → allTake (t ∷ ts) ≡ true → (isPrimitive t ≡ false) × (allTake ts ≡ true)
+  split-some t ts e =
+      let w = both-of (takesRecords t) (allTake ts) e in
+      (takes-exactly t .1 (w .0), w .1)
 
-  walk-passes : (t : Typed) (n m : ℕ) → n ≤ m → somePrimitive (take n (slotsFrom s t m)) ≡ false → Passes t n m (passed s t n)
+  walk-passes : (t : Typed) (n m : ℕ) → n ≤ m → allTake (take n (slotsFrom s t m)) ≡ true → Passes t n m (passed s t n)
   unfolding slotsFrom passed
   walk-passes t zero m h e = let z : m - 0 ≡ m = omega arith in (t, refl, rw z)
   walk-passes t (suc n) zero h e = absurd (omega arith)
@@ -105,7 +103,7 @@ module _ (s : List ℕ) where
       let w = walk-passes (moved s t) n m (omega arith) (q .1) in
       (w .0, rw (q .0) (w .1), ap (slotsFrom s (w .0)) z ∙ w .2)
 
-  run-passes : (t : Typed) (n m : ℕ) → n ≤ m → somePrimitive (take n (slotsFrom s t m)) ≡ false → Passes t n m (passedOf s t n)
+  run-passes : (t : Typed) (n m : ℕ) → n ≤ m → allTake (take n (slotsFrom s t m)) ≡ true → Passes t n m (passedOf s t n)
   run-passes t n m h e = by-test (eqb (t .types) 0) refl
     where
       by-test : (b : Bool) → eqb (t .types) 0 ≡ b → Passes t n m (passedOf s t n)
@@ -139,10 +137,10 @@ module _ (s : List ℕ) where
     pub over : passedOf s (f .typed) n ≡ O.Over type
     pub rest : slotsFrom s type (f .left - n) ≡ us
 
-  pub run-law : (f : Frame) (n : ℕ) (ts us : List SlotType) → slotsFrom s (f .typed) (f .left) ≡ ts → n ≤ length ts → somePrimitive (take n ts) ≡ false → us ≡ drop n ts → Passing f n us
+  pub run-law : (f : Frame) (n : ℕ) (ts us : List SlotType) → slotsFrom s (f .typed) (f .left) ≡ ts → n ≤ length ts → allTake (take n ts) ≡ true → us ≡ drop n ts → Passing f n us
   run-law f n ts us e h p q =
       let l : f .left ≡ length ts = left-slots s f ts e in
-      let w = run-passes s (f .typed) n (f .left) (omega arith) (ap (λ (x : List SlotType). somePrimitive (take n x)) e ∙ p) in
+      let w = run-passes s (f .typed) n (f .left) (omega arith) (ap (λ (x : List SlotType). allTake (take n x)) e ∙ p) in
       record { type = w .0; fits = omega arith; over = w .1; rest = w .2 ∙ (ap (drop n) e ∙ sym q) }
 
   pub opened-is : (o : Open) (row : ℕ) (h : Head) (u : Typed) (t : SlotType) (ts : List SlotType) → slotsFrom s (h .first) (h .slots) ≡ t ∷ ts
@@ -160,7 +158,7 @@ object-slot k e =
     or-right (isClassKind k) (eqb k 6 || (eqb k 8 || inSlot k)) (or-right (eqb k 6) (eqb k 8 || inSlot k) (or-right (eqb k 8) (inSlot k) e))
 
 -- references, nulls and libraries
-in-slot : (t : SlotType) (k : ℕ) → isPrimitive t ≡ false → inSlot k ≡ true → allowed (whereOf t) k ≡ true
+in-slot : (t : SlotType) (k : ℕ) → takesRecords t ≡ true → inSlot k ≡ true → allowed (whereOf t) k ≡ true
 unfolding allowed
 in-slot (S.Primitive c) k n e = e
 in-slot S.Text k n e = or-right (eqb k 6) (inSlot k) e
@@ -210,8 +208,8 @@ module _ (f g : Frame) (gs : List Frame) (t : SlotType) (k : ℕ) (e : f .typed 
   pub allows : isPrimitive t ≡ false → allowed (whereOf t) k ≡ true → Allows (openAt f (g ∷ gs)) k
   allows n a = record { by-record = ap isPrimitive e ∙ n; fits = ap (λ (u : SlotType). allowed (whereOf u) k) e ∙ a }
 
-  pub allows-any : isPrimitive t ≡ false → inSlot k ≡ true → Allows (openAt f (g ∷ gs)) k
-  allows-any n a = allows n (in-slot t k n a)
+  pub allows-any : takesRecords t ≡ true → inSlot k ≡ true → Allows (openAt f (g ∷ gs)) k
+  allows-any n a = allows (takes-exactly t .1 n) (in-slot t k n a)
 
   pub allows-object : takesObjects t ≡ true → ofObjects k → Allows (openAt f (g ∷ gs)) k
   allows-object n a =

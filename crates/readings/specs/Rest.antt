@@ -13,7 +13,7 @@ use Rattle.format.specs.declared.Typed.{Typed}
 use Rattle.format.specs.declared.Frame.{Frame}
 use Rattle.format.specs.Bytes.{pick}
 use Rattle.format.specs.Types.{moved}
-use Rattle.format.specs.Grammar.{Cur, somePrimitive, Slots, full, Objects}
+use Rattle.format.specs.Grammar.{Cur, Slots, full, Objects, allTake}
 use Rattle.format.specs.Machine.{Open, close, filledBy}
 use Rattle.places.specs.Env.{slotsFrom}
 use Rattle.places.specs.Recs.{length-slots}
@@ -70,7 +70,7 @@ module _ (s : List ℕ) (f g : Frame) (gs : List Frame) (w : Sound f) (left : 0 
       (r .0, subst (λ (us : List SlotType). Slots room (f .owner) slot us c (r .0)) (sym e) (k (slotsFrom s (moved s (f .typed)) (f .left - 1)) (r .0) x), r .2)
 
   pub fill-run : (n : ℕ) (u : Typed) → n ≤ f .left → Ran s (f .typed) u n (f .left)
-      → ((ts us : List SlotType) (c₂ : Cur) → f .left ≡ length (f .typed .slot ∷ ts) → somePrimitive (take n (f .typed .slot ∷ ts)) ≡ false → us ≡ drop n (f .typed .slot ∷ ts)
+      → ((ts us : List SlotType) (c₂ : Cur) → f .left ≡ length (f .typed .slot ∷ ts) → allTake (take n (f .typed .slot ∷ ts)) ≡ true → us ≡ drop n (f .typed .slot ∷ ts)
       → Slots room (f .owner) (slot + n) us c₁ c₂ → Slots room (f .owner) slot (f .typed .slot ∷ ts) c c₂)
       → Rest s (filledBy f n u) (g ∷ gs) c₁ → Rest s f (g ∷ gs) c
   fill-run n u h a k r =
@@ -83,6 +83,6 @@ module _ (s : List ℕ) (f g : Frame) (gs : List Frame) (w : Sound f) (left : 0 
       let l : f .left ≡ length (f .typed .slot ∷ ts) = sym (length-slots s (f .typed) (f .left)) ∙ ap length e in (
         r .0,
         subst (λ (us : List SlotType). Slots room (f .owner) slot us c (r .0)) (sym e)
-            (k ts us (r .0) l (ap (λ (us : List SlotType). somePrimitive (take n us)) (sym e) ∙ a .none) (a .rest ∙ ap (drop n) e) x),
+            (k ts us (r .0) l (ap (λ (us : List SlotType). allTake (take n us)) (sym e) ∙ a .none) (a .rest ∙ ap (drop n) e) x),
         r .2,
       )

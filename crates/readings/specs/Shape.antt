@@ -13,8 +13,9 @@ use Rattle.format.specs.declared.Passed.the-variants as O
 use Rattle.format.specs.declared.Frame.{Frame}
 use Rattle.format.specs.Bytes.{pick}
 use Rattle.format.specs.Types.{typedAt, moved, isPrimitive, passed, passedOf}
-use Rattle.format.specs.Grammar.{somePrimitive}
+use Rattle.format.specs.Grammar.{allTake}
 use Rattle.format.specs.Machine.{Open, close, filledBy, topLevel}
+use Rattle.format.specs.Own.{takes-exactly}
 use Rattle.fields.specs.Judged.{picked}
 use Rattle.slots.specs.Slots.{moved-alike, passed-alike, passed-walk}
 use Rattle.places.specs.Env.{slotsFrom}
@@ -48,7 +49,7 @@ free-moved s t f =
 
 -- what a run that is within n slots of m leaves
 pub record Ran (s : List ℕ) (t u : Typed) (n m : ℕ) : Type 0 where
-  pub none : somePrimitive (take n (slotsFrom s t m)) ≡ false
+  pub none : allTake (take n (slotsFrom s t m)) ≡ true
   pub rest : slotsFrom s u (m - n) ≡ drop n (slotsFrom s t m)
   pub free : Free u
 
@@ -70,7 +71,7 @@ ran s t u (suc n) (suc m) f e h = go (isPrimitive (t .slot)) refl e (λ q. ran s
     go false q e k =
         let w = k e in
         let d : suc m - suc n ≡ m - n = omega arith in
-        record { none = rw q (w .none); rest = rw d (w .rest); free = w .free }
+        record { none = rw (takes-exactly (t .slot) .0 q) (w .none); rest = rw d (w .rest); free = w .free }
 
 -- a run over slots that are alike, walked
 walked-alike : (s : List ℕ) (t : Typed) (n : ℕ) → moved s t ≡ t → isPrimitive (t .slot) ≡ false → passed s t n ≡ O.Over t

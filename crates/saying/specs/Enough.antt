@@ -10,10 +10,9 @@ use lib.Dec.{eqb}
 use borrow.Author.Tests.{eqb-true, eqb-false}
 use Rattle.format.specs.declared.SlotType.{SlotType}
 use Rattle.format.specs.Bytes.{pick}
-use Rattle.format.specs.Types.{positive}
 use Rattle.format.specs.Rows.{isObject}
 use Rattle.format.specs.Contents.{Rec, array, end}
-use Rattle.format.specs.Grammar.{Entry, Array, of-objects, of-strings, of-primitives, of-any, of-values, idOf, refOf, idsOf, refsOf, among}
+use Rattle.format.specs.Grammar.{Positive, Entry, Array, of-objects, of-strings, of-primitives, of-any, of-values, idOf, refOf, idsOf, refsOf, among}
 use Rattle.format.specs.Says.{Class, What, anObject, aString, anArray, aPrimitive, aReference, aNull, aPrimitiveArray, anObjectArray, aStringArray, aValue, Node}
 use Rattle.format.specs.Tidy.{sameClass, numberIn, Progress, nothing, Libraries, libraryRecords, allEntered, detailNeeds, classNeeds, detailBy, classBy, objectBy, afterObject, recordsOf, afterWhat}
 use Rattle.laws.specs.Tests.{apart}
@@ -143,9 +142,8 @@ array-refs (of-primitives a b) = refl
 array-refs (of-any a b c d e) = refl
 array-refs (of-values a b c) = refl
 
-pub not-zero : (i : ℕ) → positive i ≡ true → 0 < i
-not-zero zero e = absurd (let z : _≡_ {A = ℕ} 0 1 = cc in omega arith)
-not-zero (suc i) e = omega arith
+pub not-zero : (i : ℕ) → Positive i → 0 < i
+not-zero i w = w .above
 
 -- the target of a reference
 taken-refs : {total : ℕ} {es : List Entry} {r : Rec} {ts : List SlotType} → Takes total es r ts → (i : ℕ) → among i (refOf r) ≡ true → (0 < i) × (i ≤ total)

@@ -2,15 +2,14 @@
 -- places, libraries' numbers or packing.
 use Prim.Native.Nat.{ℕ, suc, _+_, _≤_, _<_}
 use mathlib.Core.Path.{_≡_, refl}
-use mathlib.Core.Bool.{true, false}
+use mathlib.Core.Bool.{true}
 use mathlib.Core.List.{List, [], _∷_}
 use lib.ListN.{length, replicate}
 use Rattle.format.specs.declared.PrimitiveCode.{PrimitiveCode}
 use Rattle.format.specs.declared.SlotType.{SlotType}
 use Rattle.format.specs.declared.SlotType.the-variants as S
-use Rattle.format.specs.Types.{isPrimitive}
 use Rattle.format.specs.Contents.{Detail, primitive, text, object, system, class, objects, texts, primitives, Member, slotFor}
-use Rattle.format.specs.Grammar.{Name, Value, Values, takesObjects, takesStrings, Shape, product}
+use Rattle.format.specs.Grammar.{Name, Value, Values, takesObjects, takesStrings, Shape, product, takesRecords}
 use Rattle.format.specs.Says.{From, theSystem, theLibrary, Class, What, anObject, aString, anArray, aPrimitive, aReference, aNull, aPrimitiveArray, anObjectArray, aStringArray, aValue, Node, Model}
 
 -- ---- contents
@@ -101,14 +100,14 @@ pub data Allowed (total : ℕ) : List Place → What → Type 0 where
   top-objects : {n : ℕ} → n < 2147483648 → Allowed total [] (anObjectArray n)
   top-strings : {n : ℕ} → n < 2147483648 → Allowed total [] (aStringArray n)
   top-primitives : {n : ℕ} {c : PrimitiveCode} {vs : List ℕ} → n < 2147483648 → Values c n vs → Allowed total [] (aPrimitiveArray n c vs)
-  top-array : {type : ℕ} {ns : List ℕ} {d : Detail (List ℕ)} → Shape type ns → GoodType d → isPrimitive (slotFor d) ≡ false → Allowed total [] (anArray type ns d [])
+  top-array : {type : ℕ} {ns : List ℕ} {d : Detail (List ℕ)} → Shape type ns → GoodType d → takesRecords (slotFor d) ≡ true → Allowed total [] (anArray type ns d [])
   top-values : {type : ℕ} {ns : List ℕ} {c : PrimitiveCode} {vs : List ℕ} → Shape type ns → Values c (product ns) vs → Allowed total [] (anArray type ns (primitive c) vs)
   in-object : {o n : ℕ} {t : SlotType} {ts : List SlotType} {fs : List Place} {c : Class} → takesObjects t ≡ true → GoodClass c → Deep (slotsOf (c .members)) (place o n (t ∷ ts) ∷ fs)
       → Allowed total (place o n (t ∷ ts) ∷ fs) (anObject c)
   in-string : {o n : ℕ} {t : SlotType} {ts : List SlotType} {fs : List Place} {x : List ℕ} → takesStrings t ≡ true → Name x → Allowed total (place o n (t ∷ ts) ∷ fs) (aString x)
   in-primitive : {o n : ℕ} {t : SlotType} {ts : List SlotType} {fs : List Place} {c : PrimitiveCode} {v : List ℕ} → takesObjects t ≡ true → Value c v → Allowed total (place o n (t ∷ ts) ∷ fs) (aPrimitive c v)
-  in-reference : {o n k : ℕ} {t : SlotType} {ts : List SlotType} {fs : List Place} → isPrimitive t ≡ false → 0 < k → k ≤ total → Allowed total (place o n (t ∷ ts) ∷ fs) (aReference k)
-  in-null : {o n : ℕ} {t : SlotType} {ts : List SlotType} {fs : List Place} → isPrimitive t ≡ false → Allowed total (place o n (t ∷ ts) ∷ fs) aNull
+  in-reference : {o n k : ℕ} {t : SlotType} {ts : List SlotType} {fs : List Place} → takesRecords t ≡ true → 0 < k → k ≤ total → Allowed total (place o n (t ∷ ts) ∷ fs) (aReference k)
+  in-null : {o n : ℕ} {t : SlotType} {ts : List SlotType} {fs : List Place} → takesRecords t ≡ true → Allowed total (place o n (t ∷ ts) ∷ fs) aNull
   in-value : {o n : ℕ} {c : PrimitiveCode} {ts : List SlotType} {fs : List Place} {v : List ℕ} → Value c v → Allowed total (place o n (S.Primitive c ∷ ts) ∷ fs) (aValue v)
 
 -- how many objects it is, and the open objects after it

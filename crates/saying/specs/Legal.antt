@@ -10,10 +10,9 @@ use Rattle.format.specs.declared.PrimitiveCode.{PrimitiveCode}
 use Rattle.format.specs.declared.SlotType.{SlotType}
 use Rattle.format.specs.declared.SlotType.the-variants as S
 use Rattle.format.specs.Bytes.{pick}
-use Rattle.format.specs.Types.{positive, isPrimitive}
 use Rattle.format.specs.Rows.{isObject, isClass}
 use Rattle.format.specs.Contents.{Member, Rec, header, classById, systemClass, libraryClass, string, array, typedPrimitive, reference, null, nulls, manyNulls, end, library, primitiveArray, objectArray, stringArray, value}
-use Rattle.format.specs.Grammar.{Entry, known, classed, classOf, ClassId, ObjectId, LibraryId, Name, Value, ClassInfo, typesOf, takesObjects, takesStrings, somePrimitive, Array, idOf}
+use Rattle.format.specs.Grammar.{Positive, Entry, known, classed, classOf, ClassId, ObjectId, LibraryId, Name, Value, ClassInfo, typesOf, takesObjects, takesStrings, Array, idOf, takesRecords, allTake}
 use Rattle.saying.specs.Good.{Place, place, shut, ownerOf, slotOf, openedIn, Deep}
 use Rattle.saying.specs.There.{kindOf}
 use Rattle.saying.specs.Shown.{Shown}
@@ -29,11 +28,11 @@ pub data Takes (total : ℕ) (es : List Entry) : Rec → List SlotType → Type 
   a-string : {i : ℕ} {x : List ℕ} → ObjectId i es → Name x → Takes total es (string i x) []
   an-array : {k i n : ℕ} {r : Rec} {ts : List SlotType} → ObjectId i es → Array es r k i n ts → Takes total es r ts
   a-primitive : {c : PrimitiveCode} {v : List ℕ} → Value c v → Takes total es (typedPrimitive c v) []
-  a-reference : {i : ℕ} → positive i ≡ true → i ≤ total → Takes total es (reference i) []
+  a-reference : {i : ℕ} → Positive i → i ≤ total → Takes total es (reference i) []
   a-null : Takes total es null []
   some-nulls : {k : ℕ} → 0 < k → k < 256 → Takes total es (nulls k) []
-  many-nulls : {k : ℕ} → positive k ≡ true → Takes total es (manyNulls k) []
-  a-library : {i : ℕ} {x : List ℕ} → positive i ≡ true → known i es ≡ false → Name x → Takes total es (library i x) []
+  many-nulls : {k : ℕ} → Positive k → Takes total es (manyNulls k) []
+  a-library : {i : ℕ} {x : List ℕ} → Positive i → known i es ≡ false → Name x → Takes total es (library i x) []
   a-value : {c : PrimitiveCode} {v : List ℕ} → Value c v → Takes total es (value v) []
 
 -- one null, or a run of so many
@@ -56,11 +55,11 @@ pub data Stands : List Place → Rec → List SlotType → Type 0 where
       → Stands (place o n (t ∷ us) ∷ fs) (string i x) []
   in-primitive : {o n : ℕ} {t : SlotType} {us : List SlotType} {fs : List Place} {c : PrimitiveCode} {v : List ℕ} → takesObjects t ≡ true
       → Stands (place o n (t ∷ us) ∷ fs) (typedPrimitive c v) []
-  in-reference : {o n i : ℕ} {t : SlotType} {us : List SlotType} {fs : List Place} → isPrimitive t ≡ false → Stands (place o n (t ∷ us) ∷ fs) (reference i) []
+  in-reference : {o n i : ℕ} {t : SlotType} {us : List SlotType} {fs : List Place} → takesRecords t ≡ true → Stands (place o n (t ∷ us) ∷ fs) (reference i) []
   -- nulls fill slots of one object, none of them primitive
-  in-nulls : {o n k : ℕ} {t : SlotType} {us : List SlotType} {fs : List Place} {r : Rec} → Nulls r k → isPrimitive t ≡ false → k ≤ length (t ∷ us)
-      → somePrimitive (take k (t ∷ us)) ≡ false → Stands (place o n (t ∷ us) ∷ fs) r []
-  in-library : {o n i : ℕ} {t : SlotType} {us : List SlotType} {fs : List Place} {x : List ℕ} → isPrimitive t ≡ false
+  in-nulls : {o n k : ℕ} {t : SlotType} {us : List SlotType} {fs : List Place} {r : Rec} → Nulls r k → takesRecords t ≡ true → k ≤ length (t ∷ us)
+      → allTake (take k (t ∷ us)) ≡ true → Stands (place o n (t ∷ us) ∷ fs) r []
+  in-library : {o n i : ℕ} {t : SlotType} {us : List SlotType} {fs : List Place} {x : List ℕ} → takesRecords t ≡ true
       → Stands (place o n (t ∷ us) ∷ fs) (library i x) []
   in-value : {o n : ℕ} {c : PrimitiveCode} {us : List SlotType} {fs : List Place} {v : List ℕ} → Value c v → Stands (place o n (S.Primitive c ∷ us) ∷ fs) (value v) []
 

@@ -7,13 +7,11 @@ use mathlib.Core.List.{List, [], _∷_, _++_}
 use native.Mathlib.Omega.{arith}
 use lib.ListN.{length, replicate, length-append, length-replicate}
 use lib.Dec.{eqb}
-use borrow.Author.Tests.{ne-eqb, lt-leb}
 use Rattle.format.specs.declared.SlotType.{SlotType}
 use Rattle.format.specs.declared.SlotType.the-variants as S
 use Rattle.format.specs.Bytes.{pick, sameBytes}
-use Rattle.format.specs.Types.{positive, isPrimitive}
 use Rattle.format.specs.Contents.{Detail, primitive, text, object, system, class, objects, texts, primitives, Member, slotFor}
-use Rattle.format.specs.Grammar.{Entry, LibraryId, GoodDetail, Members, Name, ClassInfo, typesOf, product}
+use Rattle.format.specs.Grammar.{Positive, Entry, LibraryId, GoodDetail, Members, Name, ClassInfo, typesOf, product, takesRecords}
 use Rattle.format.specs.Grammar as G
 use Rattle.format.specs.Says.{From, theSystem, theLibrary, Class, What, anObject, aString, anArray, aPrimitive, aReference, aNull, aPrimitiveArray, anObjectArray, aStringArray, aValue, Node}
 use Rattle.format.specs.Tidy.{sameClass, numberIn, Progress, Libraries, entered, allEntered, detailNeeds, membersNeed, fromNeeds, classNeeds, detailBy, membersBy, afterObject, afterWhat}
@@ -24,8 +22,8 @@ use Rattle.saying.specs.Counts.{Knows}
 
 -- ---- numbers
 
-pub positive-of : (n : ℕ) → 0 < n → n < 2147483648 → positive n ≡ true
-positive-of n a b = rw (ne-eqb n 0 (λ e. omega arith), lt-leb 2147483648 n b)
+pub positive-of : (n : ℕ) → 0 < n → n < 2147483648 → Positive n
+positive-of n a b = record { above = a; below = b }
 
 entered-grows : (name : List ℕ) (ls : Libraries) → length ls ≤ length (entered name ls)
 unfolding entered
@@ -211,7 +209,7 @@ slotsFor (anObjectArray n) = replicate n S.Object
 slotsFor (aStringArray n) = replicate n S.Text
 slotsFor (aValue v) = []
 
-pub item-slots : (ns : List ℕ) (d : Detail (List ℕ)) → isPrimitive (slotFor d) ≡ false → itemSlots ns d ≡ replicate (product ns) (slotFor d)
+pub item-slots : (ns : List ℕ) (d : Detail (List ℕ)) → takesRecords (slotFor d) ≡ true → itemSlots ns d ≡ replicate (product ns) (slotFor d)
 item-slots ns (primitive c) e = absurd (let z : _≡_ {A = ℕ} 0 1 = cc in omega arith)
 item-slots ns text e = refl
 item-slots ns object e = refl

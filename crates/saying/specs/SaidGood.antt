@@ -1,7 +1,7 @@
 -- What an accepted list says is good: along the grammar's derivation each record says what its slot allows, and opens what its class or shape asks.
 use Prim.Native.Nat.{ℕ, zero, suc, _+_, _-_, _≤_, _<_}
 use mathlib.Core.Path.{_≡_, refl, sym, ap, subst, _∙_}
-use mathlib.Core.Bool.{Bool, true, false}
+use mathlib.Core.Bool.{Bool, true, false, _&&_}
 use mathlib.Core.List.{List, [], _∷_, _++_, map}
 use native.Mathlib.Omega.{arith}
 use lib.ListN.{length, getD, take, drop, replicate}
@@ -12,10 +12,9 @@ use Rattle.format.specs.declared.SlotType.{SlotType}
 use Rattle.format.specs.declared.SlotType.the-variants as S
 use Rattle.format.specs.declared.Row.{Row}
 use Rattle.format.specs.Bytes.{pick}
-use Rattle.format.specs.Types.{isPrimitive}
 use Rattle.format.specs.Rows.{blank, isObject, findFrom, objectRow, withLink, linkOf, linked}
 use Rattle.format.specs.Contents.{Detail, primitive, text, object, system, class, objects, texts, primitives, Member, slotFor, Rec, header, classById, systemClass, libraryClass, string, typedPrimitive, reference, null, nulls, manyNulls, end, library, value, enc, encs}
-use Rattle.format.specs.Grammar.{Name, Values, ClassInfo, LibraryId, typesOf, classed, classOf, product, Array, of-objects, of-strings, of-primitives, of-any, of-values, Object, system-class, library-class, class-by-id, Body, hollow, filled, Slots, full, member-value, an-object, a-string, a-typed-primitive, a-reference, a-null, a-run, a-long-run, a-library, Objects, the-end, one-object, one-string, one-array, one-library, Entry, aClass, another, aLibrary, known, Cur, cur, size, rowOf, somePrimitive, refOf, refsOf, idsOf, among, Reading}
+use Rattle.format.specs.Grammar.{Name, Values, ClassInfo, LibraryId, typesOf, classed, classOf, product, Array, of-objects, of-strings, of-primitives, of-any, of-values, Object, system-class, library-class, class-by-id, Body, hollow, filled, Slots, full, member-value, an-object, a-string, a-typed-primitive, a-reference, a-null, a-run, a-long-run, a-library, Objects, the-end, one-object, one-string, one-array, one-library, Entry, aClass, another, aLibrary, known, Cur, cur, size, rowOf, refOf, refsOf, idsOf, among, Reading, takesRecords, allTake}
 use Rattle.format.specs.Says.{theSystem, theLibrary, Class, What, anObject, aString, anArray, aPrimitive, aReference, aNull, aPrimitiveArray, anObjectArray, aStringArray, aValue, Node, node, libraryName, classFrom, objectsIn, orderOf, spread, isNulls, nodesOf, nodesFrom, says}
 use Rattle.laws.specs.Fields.{size-header, positive-bits}
 use Rattle.laws.specs.Ids.{among-right, shown-more, objects-shown, id-there}
@@ -29,15 +28,15 @@ use Rattle.saying.specs.Known.{classAt, no-entry, Knows, library-known, 
 -- ---- nulls
 
 module _ (total count o : ℕ) (fs : List Place) (ns : List Node) where
-  -- a run of nulls over slots none of which is primitive
-  pub run-fits : (k slot : ℕ) (ts : List SlotType) → k ≤ length ts → somePrimitive (take k ts) ≡ false
+  -- a run of nulls over slots that all take records
+  pub run-fits : (k slot : ℕ) (ts : List SlotType) → k ≤ length ts → allTake (take k ts) ≡ true
       → Fits total count (shut (place o (slot + k) (drop k ts) ∷ fs)) ns → Fits total count (shut (place o slot ts ∷ fs)) (spread k o slot ++ ns)
   unfolding spread shut
   run-fits zero slot ts h p w =
       let z : slot + 0 ≡ slot = omega arith in
       subst (λ (n : ℕ). Fits total count (shut (place o n ts ∷ fs)) ns) z w
   run-fits (suc k) slot [] h p w = absurd (omega arith)
-  run-fits (suc k) slot (t ∷ ts) h p w = go (isPrimitive t) refl p (run-fits k (slot + 1) ts (omega arith))
+  run-fits (suc k) slot (t ∷ ts) h p w = go (takesRecords t) refl p (run-fits k (slot + 1) ts (omega arith))
     where
       a : slot + suc k ≡ slot + 1 + k
       a = omega arith
@@ -45,12 +44,12 @@ module _ (total count o : ℕ) (fs : List Place) (ns : List Node) where
       b : count ≡ count + 0
       b = omega arith
 
-      go : (x : Bool) → isPrimitive t ≡ x → pick x true (somePrimitive (take k ts)) ≡ false
-          → (somePrimitive (take k ts) ≡ false → Fits total count (shut (place o (slot + 1 + k) (drop k ts) ∷ fs)) ns
+      go : (x : Bool) → takesRecords t ≡ x → (x && allTake (take k ts)) ≡ true
+          → (allTake (take k ts) ≡ true → Fits total count (shut (place o (slot + 1 + k) (drop k ts) ∷ fs)) ns
           → Fits total count (shut (place o (slot + 1) ts ∷ fs)) (spread k o (slot + 1) ++ ns))
           → Fits total count (place o slot (t ∷ ts) ∷ fs) (node aNull o slot ∷ (spread k o (slot + 1) ++ ns))
-      go true q e again = absurd (let z : _≡_ {A = ℕ} 0 1 = cc in omega arith)
-      go false q e again =
+      go false q e again = absurd (let z : _≡_ {A = ℕ} 0 1 = cc in omega arith)
+      go true q e again =
           let f = again e (subst (λ (n : ℕ). Fits total count (shut (place o n (drop k ts) ∷ fs)) ns) a w) in
           a-node (in-null q) refl refl (subst (λ (n : ℕ). Fits total n (shut (place o (slot + 1) ts ∷ fs)) (spread k o (slot + 1) ++ ns)) b f)
 
@@ -268,11 +267,11 @@ module _ (s : List ℕ) (raw : List Row) where
             let u = knows-library s table (map withOwn is) y row (w .rows-there) i refl refl f (w .knows) m in
             fits-same [] w refl e (k .leads (after w refl u))
 
-    -- a null, or a run of them, in slots none of which is primitive
+    -- a null, or a run of them, in slots that all take records
     nulls-ok : {at₁ own slot : ℕ} {us : List SlotType} (ts : List SlotType) (fs : List Place) (r : Rec) (n : ℕ) → isNulls (kindOf r) ≡ true
         → isObject (kindOf r) ≡ false → eqb (kindOf r) 12 ≡ false → CountIs r n → GoodRec r
         → LinkIs s table (classAt s table) (orderOf table) r (withOwn (rowFor at r 0 own slot 0 n))
-        → at₁ ≡ at + size r → n ≤ length ts → somePrimitive (take n ts) ≡ false → us ≡ drop n ts → it ≡ rowFor at r 0 own slot 0 n
+        → at₁ ≡ at + size r → n ≤ length ts → allTake (take n ts) ≡ true → us ≡ drop n ts → it ≡ rowFor at r 0 own slot 0 n
         → Ok (shut (place (orderOf table own) (slot + n) us ∷ fs)) at₁ (suc row) es rs is
         → Ok (shut (place (orderOf table own) slot ts ∷ fs)) at row es (r ∷ rs) (it ∷ is)
     nulls-ok {own = own} {slot = slot} ts fs r n a b l c g z p h j u q k =
@@ -397,7 +396,7 @@ module _ (s : List ℕ) (raw : List Row) where
 
   -- ---- arrays
 
-  items-are : (name : ℕ → List ℕ) (ns : List ℕ) (d : Detail ℕ) → isPrimitive (slotFor d) ≡ false
+  items-are : (name : ℕ → List ℕ) (ns : List ℕ) (d : Detail ℕ) → takesRecords (slotFor d) ≡ true
       → itemSlots ns (named name d) ≡ replicate (product ns) (slotFor d)
   items-are name ns (primitive c) e = absurd (let z : _≡_ {A = ℕ} 0 1 = cc in omega arith)
   items-are name ns text e = refl
@@ -426,7 +425,7 @@ module _ (s : List ℕ) (raw : List Row) where
         let u : itemSlots ns (named name d) ≡ replicate n (slotFor d) = items-are name ns d f ∙ ap (λ (m : ℕ). replicate m (slotFor d)) (sym e) in
         record-ok i 0 0 0 n q top-stands tt (g, own-detail es d h) refl refl
         (λ w. plain-step (anArray type ns (named name d) []) tt refl refl (opened [] (order-next w refl) (u ∙ sym z))
-        (G.top-array g (type-good s table es (w .knows .good) d h) (ap isPrimitive (slot-same name d) ∙ f)) (known-another w i refl)) k
+        (G.top-array g (type-good s table es (w .knows .good) d h) (ap takesRecords (slot-same name d) ∙ f)) (known-another w i refl)) k
     array-ok {i = i} {n = n} (of-values {type = type} {ns = ns} {b = b} {vs = vs} g e h) q k =
         record-ok i 0 0 0 n q top-stands tt (g, tt) refl refl
         (λ w. plain-step (anArray type ns (primitive b) vs) tt refl refl refl

@@ -2,7 +2,6 @@
 -- record of each kind. Its bytes are those of the encoder, and nothing is asked of the stream after them.
 use Prim.Native.Nat.{ℕ, suc, _+_, _-_, _*_, _<_}
 use mathlib.Core.Path.{_≡_, refl, sym, ap, _∙_}
-use mathlib.Core.Bool.{true}
 use mathlib.Core.List.{List, [], _∷_, _++_, map, append-assoc}
 use native.Mathlib.Omega.{arith}
 use lib.ListN.{length, getD, drop, length-append}
@@ -18,17 +17,18 @@ use Rattle.format.specs.Bytes.{pick, part}
 use Rattle.format.specs.Numbers.{leBytes}
 use Rattle.format.specs.Prefix.{prefixBytes}
 use Rattle.format.specs.Text.{stringAt, stringBytes}
-use Rattle.format.specs.Types.{codeNumber, primitiveOf, codeAt, nameAt, positive, infoAt}
+use Rattle.format.specs.Types.{codeNumber, primitiveOf, codeAt, nameAt, infoAt}
 use Rattle.format.specs.Values.{times}
 use Rattle.format.specs.Rows.{blank, withLink}
 use Rattle.format.specs.Contents.{Detail, primitive, text, object, system, class, objects, texts, primitives, Member, Rec, header, classById, systemClass, libraryClass, string, array, typedPrimitive, reference, null, nulls, manyNulls, end, library, primitiveArray, objectArray, stringArray, value, typeByte, infoBytes, slotFor, namesBytes, typesBytes, infosBytes, classBytes, numbersBytes, enc}
 use Rattle.format.specs.Says.{From, theSystem, theLibrary, Class, What, anObject, aString, anArray, aPrimitive, aReference, aPrimitiveArray, anObjectArray, aStringArray, aValue, Node, node, textFrom, afterText, numberFrom, codeFrom, numbersFrom, libraryName, detailFrom, afterInfo, membersFrom, classFrom, arrayFrom, orderOf, whatFrom, spread, isNulls, isSilent, nodesOf}
-use Rattle.format.specs.Grammar.{Name, GoodDetail, Members, no-more, member, Entry, typesOf, Lengths, no-length, length-of, Ranked, single, jagged, rectangular, Shape, rowOf, Array, of-objects, of-strings, of-primitives, of-any, of-values}
+use Rattle.format.specs.Grammar.{Positive, Name, GoodDetail, Members, no-more, member, Entry, typesOf, Lengths, no-length, length-of, Ranked, single, jagged, rectangular, Shape, rowOf, Array, of-objects, of-strings, of-primitives, of-any, of-values}
 use Rattle.num.specs.Le.{length-leBytes}
 use Rattle.num.specs.Read.{says-written, u32-written}
 use Rattle.strings.specs.Laws.{string-round}
 use Rattle.codes.specs.Codes.{primitive-number}
 use Rattle.codes.specs.Ends.{code-end, name-end, library-end}
+use Rattle.format.specs.Own.{positive-exactly}
 use Rattle.laws.specs.Fields.{positive-bits, length-numbers-bytes}
 use Rattle.saying.specs.Said.{named, namedAll, classOfAll, saidBy}
 use Rattle.saying.specs.Good.{slotsOf}
@@ -102,7 +102,7 @@ OwnDetail (primitive c) = Unit {0}
 OwnDetail text = Unit {0}
 OwnDetail object = Unit {0}
 OwnDetail (system n) = Name n
-OwnDetail (class n l) = Name n × (positive l ≡ true)
+OwnDetail (class n l) = Name n × Positive l
 OwnDetail objects = Unit {0}
 OwnDetail texts = Unit {0}
 OwnDetail (primitives c) = Unit {0}
@@ -130,7 +130,7 @@ module _ (s q : List ℕ) (p : ℕ) where
       let m = p + length (stringBytes n) in
       let u = u32-written s q m l (positive-bits l (g .1)) (x .2) in
       let k : m + 4 ≡ p + length (stringBytes n ++ leBytes 4 l) = simp (length-append, length-leBytes) (omega arith) in
-      rw (name-there s n (leBytes 4 l ++ q) p (g .0) f, ← k) (library-end s m l (m + 4) u (g .1))
+      rw (name-there s n (leBytes 4 l ++ q) p (g .0) f, ← k) (library-end s m l (m + 4) u (positive-exactly l .1 (g .1)))
   info-there objects g d = ap F.End (omega arith)
   info-there texts g d = ap F.End (omega arith)
   info-there (primitives c) g d = code-ends s q c p d

@@ -2,7 +2,7 @@
 -- where the objects that are open allow it.
 use Prim.Native.Nat.{ℕ, zero, suc, _+_, _≤_, _<_}
 use mathlib.Core.Path.{_≡_, refl, sym, ap, subst, _∙_}
-use mathlib.Core.Bool.{Bool, true, false}
+use mathlib.Core.Bool.{Bool, true, false, _&&_}
 use mathlib.Core.List.{List, [], _∷_, _++_, map, append-assoc, append-nil}
 use native.Mathlib.Omega.{arith}
 use lib.ListN.{length, drop, replicate, length-append}
@@ -12,13 +12,13 @@ use borrow.Author.Tests.{eqb-true, eq-eqb, ne-eqb, leb-true}
 use Rattle.format.specs.declared.SlotType.{SlotType}
 use Rattle.format.specs.declared.SlotType.the-variants as S
 use Rattle.format.specs.Bytes.{pick, sameBytes}
-use Rattle.format.specs.Types.{isPrimitive}
 use Rattle.format.specs.Rows.{isObject}
 use Rattle.format.specs.Contents.{Detail, primitive, text, object, system, class, objects, texts, primitives, slotFor, Rec, null, library}
-use Rattle.format.specs.Grammar.{Entry, another, aClass, aLibrary, ClassId, ObjectId, Name, ClassInfo, takesObjects, somePrimitive, product, of-objects, of-strings, of-primitives, of-any, of-values}
+use Rattle.format.specs.Grammar.{Entry, another, aClass, aLibrary, ClassId, ObjectId, Name, ClassInfo, takesObjects, product, of-objects, of-strings, of-primitives, of-any, of-values, takesRecords, allTake}
 use Rattle.format.specs.Grammar as G
 use Rattle.format.specs.Says.{From, theSystem, theLibrary, Class, What, anObject, aString, anArray, aPrimitive, aReference, aNull, aPrimitiveArray, anObjectArray, aStringArray, aValue, Node}
 use Rattle.format.specs.Tidy.{sameClass, numberIn, Progress, nothing, Libraries, libraryRecords, entered, allEntered, detailNeeds, membersNeed, fromNeeds, classNeeds, detailBy, membersBy, classBy, objectBy, afterObject, recordsOf, afterWhat, runOf}
+use Rattle.laws.specs.Tests.{both-of}
 use Rattle.fields.specs.Judged.{picked}
 use Rattle.laws.specs.Numbers.{entered-new, entered-old, afterNodes}
 use Rattle.laws.specs.Runs.{Sort, a-null, plain, sort-of}
@@ -66,25 +66,21 @@ module _ (total count row o s : ℕ) (us ts : List SlotType) (rest : List Place)
   nulls-step r k some t st e l = a-record t st refl refl refl (no-object count) (filled-is k e) (sym (append-nil es)) l
   nulls-step r k many t st e l = a-record t st refl refl refl (no-object count) (filled-is k e) (sym (append-nil es)) l
 
-none-primitive : (u : SlotType) (us : List SlotType) → somePrimitive (u ∷ us) ≡ false → isPrimitive u ≡ false
-none-primitive u us e = go (isPrimitive u) e
-  where
-    go : (b : Bool) → pick b true (somePrimitive us) ≡ false → b ≡ false
-    go true e = e
-    go false e = refl
+first-takes : (u : SlotType) (us : List SlotType) → allTake (u ∷ us) ≡ true → takesRecords u ≡ true
+first-takes u us e = both-of (takesRecords u) (allTake us) e .0
 
-nulls-stand : (o s k : ℕ) (us ts : List SlotType) (rest : List Place) (r : Rec) → Nulls r k → 0 < k → length us ≡ k → somePrimitive us ≡ false
+nulls-stand : (o s k : ℕ) (us ts : List SlotType) (rest : List Place) (r : Rec) → Nulls r k → 0 < k → length us ≡ k → allTake us ≡ true
     → Stands (place o s (us ++ ts) ∷ rest) r []
 nulls-stand o s k [] ts rest r n a e p = absurd (omega arith)
 nulls-stand o s k (u ∷ us) ts rest r n a e p =
     let l = length-append us ts in
     let a : k ≤ length (u ∷ (us ++ ts)) = omega arith in
-    in-nulls n (none-primitive u us p) a (ap somePrimitive (take-at (u ∷ us) ts k e) ∙ p)
+    in-nulls n (first-takes u us p) a (ap allTake (take-at (u ∷ us) ts k e) ∙ p)
 
 -- nulls that wait: gs is open before them, fs after them
 pub data Pending (w : Wait) (gs fs : List Place) : Type 0 where
   none-wait : w .owner ≡ 0 → w .count ≡ 0 → gs ≡ fs → Pending w gs fs
-  nulls-wait : (us ts : List SlotType) (rest : List Place) → 0 < w .count → w .count < 2147483648 → length us ≡ w .count → somePrimitive us ≡ false
+  nulls-wait : (us ts : List SlotType) (rest : List Place) → 0 < w .count → w .count < 2147483648 → length us ≡ w .count → allTake us ≡ true
       → Under (w .owner) rest → gs ≡ place (w .owner) (w .slot) (us ++ ts) ∷ rest → fs ≡ shut (place (w .owner) (w .slot + w .count) ts ∷ rest)
       → Pending w gs fs
 
@@ -115,16 +111,16 @@ abbrev outer : List Place → List Place
 outer [] = []
 outer (f ∷ fs) = fs
 
-one-primitive : (us : List SlotType) (t : SlotType) → somePrimitive us ≡ false → isPrimitive t ≡ false → somePrimitive (us ++ (t ∷ [])) ≡ false
-one-primitive [] t e f = rw f
-one-primitive (u ∷ us) t e f = go (isPrimitive u) e (one-primitive us t)
+one-takes : (us : List SlotType) (t : SlotType) → allTake us ≡ true → takesRecords t ≡ true → allTake (us ++ (t ∷ [])) ≡ true
+one-takes [] t e f = rw f
+one-takes (u ∷ us) t e f = go (takesRecords u) e (one-takes us t)
   where
-    go : (b : Bool) → pick b true (somePrimitive us) ≡ false
-        → (somePrimitive us ≡ false → isPrimitive t ≡ false → somePrimitive (us ++ (t ∷ [])) ≡ false) → pick b true (somePrimitive (us ++ (t ∷ []))) ≡ false
-    go true e again = e
-    go false e again = again e f
+    go : (b : Bool) → (b && allTake us) ≡ true
+        → (allTake us ≡ true → takesRecords t ≡ true → allTake (us ++ (t ∷ [])) ≡ true) → (b && allTake (us ++ (t ∷ []))) ≡ true
+    go true e again = again e f
+    go false e again = e
 
-module _ (o n : ℕ) (t : SlotType) (ts : List SlotType) (fs : List Place) (p : isPrimitive t ≡ false) (small : n + suc (length ts) < 2147483648) (under : Under o fs) where
+module _ (o n : ℕ) (t : SlotType) (ts : List SlotType) (fs : List Place) (p : takesRecords t ≡ true) (small : n + suc (length ts) < 2147483648) (under : Under o fs) where
   -- the first of a run
   pending-first : Pending (wait o n 1) (place o n (t ∷ ts) ∷ fs) (shut (place o (n + 1) ts ∷ fs))
   pending-first = nulls-wait (t ∷ []) ts fs (omega arith) (omega arith) refl (rw p) under refl refl
@@ -150,7 +146,7 @@ module _ (o n : ℕ) (t : SlotType) (ts : List SlotType) (fs : List Place) (p : 
       ∙ (ap (λ (hs : List Place). place o (w .slot) (us ++ (t ∷ ts)) ∷ hs) (sym m)
       ∙ ap (λ (ys : List SlotType). place o (w .slot) ys ∷ fs) (sym (append-assoc us (t ∷ []) ts))))) in
       let y : n + 1 ≡ w .slot + suc (w .count) = omega arith in
-      nulls-wait (us ++ (t ∷ [])) ts fs (omega arith) (omega arith) x (one-primitive us t s p) under z (ap (λ (i : ℕ). shut (place o i ts ∷ fs)) y)
+      nulls-wait (us ++ (t ∷ [])) ts fs (omega arith) (omega arith) x (one-takes us t s p) under z (ap (λ (i : ℕ). shut (place o i ts ∷ fs)) y)
 
 -- ---- libraries and objects
 
@@ -165,7 +161,7 @@ Goes total p fs xs = (row : ℕ) (es : List Entry) → KnowsAll es p → Legal t
 module _ (total : ℕ) (few : total < 2147483648) where
   class-id : (es : List Entry) (p : Progress) → KnowsAll es p → suc (p .count) ≤ total → ClassId (suc (p .count)) es
   class-id es p k l =
-      record { apart = ne-eqb (suc (p .count)) 0 (λ e. omega arith); bits = omega arith; fresh = k .used-not (suc (p .count)) (omega arith) }
+      record { apart = omega arith; bits = omega arith; fresh = k .used-not (suc (p .count)) (omega arith) }
 
   object-id : (es : List Entry) (p : Progress) → KnowsAll es p → suc (p .count) ≤ total → ObjectId (suc (p .count)) es
   object-id es p k l = record { sign = positive-of (suc (p .count)) (omega arith) (omega arith); fresh = k .used-not (suc (p .count)) (omega arith) }
@@ -250,7 +246,7 @@ module _ (total : ℕ) (few : total < 2147483648) where
 
 -- ---- one node
 
-no-value : (t : SlotType) → takesObjects t ≡ true → isPrimitive t ≡ false
+no-value : (t : SlotType) → takesObjects t ≡ true → takesRecords t ≡ true
 no-value (S.Primitive c) e = absurd (let z : _≡_ {A = ℕ} 0 1 = cc in omega arith)
 no-value S.Text e = refl
 no-value S.Object e = refl
@@ -302,7 +298,7 @@ module _ (total : ℕ) (few : total < 2147483648) (p : Progress) (h : Numbered p
       legal-libraries total few (p .count) o n (p .classes) [] _ xs (λ i x. top-library) (detailNeeds d) (p .libraries) (detail-names d g) (h .libraries-rise) b
       (λ row es k. a-record
       (an-array (object-id total few es (record { count = p .count; classes = p .classes; libraries = ls }) k l)
-      (of-any s refl (detail-good es ls (library-there es (p .count) (p .classes) ls w b k) d g has) (ap isPrimitive (sym (slot-by ls d)) ∙ q) t))
+      (of-any s refl (detail-good es ls (library-there es (p .count) (p .classes) ls w b k) d g has) (ap takesRecords (sym (slot-by ls d)) ∙ q) t))
       (L.top-object refl) e f refl (one-object (p .count)) refl refl (again (suc row) _ (after-another ls row es k)))
       row es k
   legal-node fs (anArray type ns d vs) o n xs (top-values s g) e f l b again row es k =
@@ -314,7 +310,7 @@ module _ (total : ℕ) (few : total < 2147483648) (p : Progress) (h : Numbered p
       a-record (L.a-reference (positive-of i a (omega arith)) r) (L.in-reference q) e f refl (no-object (p .count)) refl (sym (append-nil es)) (again (suc row) es k)
   legal-node fs aNull o n xs (in-null {t = t} {ts = ts} q) e f l b again row es k =
       let m : 1 ≤ suc (length ts) = omega arith in
-      let i : somePrimitive (t ∷ []) ≡ false = rw q in
+      let i : allTake (t ∷ []) ≡ true = rw q in
       a-record L.a-null (in-nulls one q m i) e f refl (no-object (p .count)) refl (sym (append-nil es)) (again (suc row) es k)
   legal-node fs (aPrimitiveArray i c vs) o n xs (top-primitives a g) e f l b again row es k =
       a-record (an-array (object-id total few es p k l) (of-primitives a g)) (L.top-object refl) e f refl (one-object (p .count)) refl refl
@@ -333,7 +329,7 @@ module _ (total : ℕ) (few : total < 2147483648) (p : Progress) (h : Numbered p
 module _ (total : ℕ) (few : total < 2147483648) where
   -- a null waits
   legal-null : (p : Progress) (w : Wait) (gs : List Place) (o n : ℕ) (t : SlotType) (ts : List SlotType) (fs : List Place) (xs : List Shown)
-      → isPrimitive t ≡ false → Under (suc (p .count)) (place o n (t ∷ ts) ∷ fs) → Small (place o n (t ∷ ts) ∷ fs) → Pending w gs (place o n (t ∷ ts) ∷ fs)
+      → takesRecords t ≡ true → Under (suc (p .count)) (place o n (t ∷ ts) ∷ fs) → Small (place o n (t ∷ ts) ∷ fs) → Pending w gs (place o n (t ∷ ts) ∷ fs)
       → ((v : Wait) (hs : List Place) → Pending v hs (shut (place o (n + 1) ts ∷ fs)) → Goes total p hs (squeezed v xs))
       → Goes total p gs (squeezed w (shown null o n ∷ xs))
   legal-null p w gs o n t ts fs xs q u s pending again row es k =

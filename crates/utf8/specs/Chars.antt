@@ -14,6 +14,7 @@ use Rattle.format.specs.Bytes.{part}
 use Rattle.format.specs.Text.{needOf, between, after, wellFormed}
 use Rattle.format.specs.Values.{charAt}
 use Rattle.format.specs.Grammar.{Value, number, scalar}
+use Rattle.format.specs.Own.{sized-exactly}
 use Rattle.fields.specs.Parts.{length-part, part-first}
 use Rattle.fields.specs.Judged.{passes}
 use Rattle.items.specs.Judged.{char-taken, char-of}
@@ -97,7 +98,7 @@ pub char-value : (v : List ℕ) → Value C.Char v ↔ ((c : ℕ) × Encodes (c 
 char-value v = (there v, λ w. back (w .0) v (w .1))
   where
     there : (v : List ℕ) → Value C.Char v → (c : ℕ) × Encodes (c ∷ []) v
-    there v (number h l) = absurd (omega arith)
+    there v (number {n = n} h l) = let s = sized-exactly C.Char n .1 h in absurd (omega arith)
     there v (scalar g h l) =
         let w = one-scalar v g l in
         (w .0, record { scalars = (w .1 .0, tt); bytes = append-nil (encode (w .0)) ∙ sym (w .1 .1) })
