@@ -1,16 +1,18 @@
 -- The tidy copy of a good model has a reading, with the rows of its records (01, The tidy copy).
 use Prim.Native.Nat.{ℕ, suc, _+_, _≤_, _<_}
 use mathlib.Core.Path.{_≡_, refl, sym, ap, _∙_}
+use mathlib.Core.Bool.{true}
 use mathlib.Core.List.{List, [], _∷_, _++_}
 use native.Mathlib.Omega.{arith}
 use lib.ListN.{length, length-append}
 use Rattle.format.specs.declared.Row.{Row}
 use Rattle.format.specs.Rows.{linked}
 use Rattle.format.specs.Contents.{Rec, header, end, enc, encs}
-use Rattle.format.specs.Grammar.{rowOf, Reading}
+use Rattle.format.specs.Grammar.{cur, rowOf, Objects, idsOf, refsOf, among, Reading}
 use Rattle.format.specs.Says.{Model}
 use Rattle.format.specs.Tidy.{Progress, nothing, tidyRecords, tidyOf}
 use Rattle.links.specs.Links.{length-linked}
+use Rattle.laws.specs.Links.{linked-links}
 use Rattle.laws.specs.Numbers.{afterNodes}
 use Rattle.saying.specs.Good.{Good}
 use Rattle.saying.specs.Numbers.{Numbered, numbered-none, numbered-nodes}
@@ -77,19 +79,31 @@ module _ (m : Model) (g : Good m) where
         let d = shown-few in
         omega arith
 
+    abbrev records : List Rec
+    records = recsOf (shownOf m) ++ (end ∷ [])
+
+    nested : Objects (cur 17 1 [] records (rowsFrom (whichIn m) 17 1 [] (shownOf m)))
+    nested = legal-nests (whichIn m) refl written-legal (placed-all (shownOf m)) 17
+
+    rooted : among (m .root) (idsOf records) ≡ true
+    rooted = legal-ids written-legal (m .root) (g .rooted) (g .root-in)
+
+    targets : (i : ℕ) → among i (refsOf records) ≡ true → among i (idsOf records) ≡ true
+    targets i e = let r = legal-refs written-legal i e in legal-ids written-legal i (r .0) (r .1)
+
     pub reading : Reading (tidyOf m) (tableOf m)
     reading =
         record {
           root = m .root;
           header-id = m .root;
-          rs = recsOf (shownOf m) ++ (end ∷ []);
+          rs = records;
           is = rowsFrom (whichIn m) 17 1 [] (shownOf m);
           root-bits = root-small;
           header-bits = root-small;
           bytes-are = tidy-bytes m;
           small = small;
-          objects-are = legal-nests (whichIn m) refl written-legal (placed-all (shownOf m)) 17;
-          rooted = legal-ids written-legal (m .root) (g .rooted) (g .root-in);
-          targets = λ i e. let r = legal-refs written-legal i e in legal-ids written-legal i (r .0) (r .1);
-          rows-are = refl;
+          objects-are = nested;
+          rooted = rooted;
+          targets = targets;
+          links-are = linked-links (m .root) (m .root) records (rowsFrom (whichIn m) 17 1 [] (shownOf m)) nested rooted targets;
         }

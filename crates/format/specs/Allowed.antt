@@ -7,7 +7,7 @@ use mathlib.Core.List.{List, [], _∷_, map}
 use native.Mathlib.Omega.{arith}
 use lib.ListN.{length, take, drop, length-replicate}
 use lib.Dec.{eqb}
-use borrow.Author.Tests.{eqb-true}
+use borrow.Author.Tests.{eqb-true, eqb-false}
 use Rattle.format.specs.declared.PrimitiveCode.the-variants as C
 use Rattle.format.specs.declared.SlotType.{SlotType}
 use Rattle.format.specs.declared.SlotType.the-variants as S
@@ -16,10 +16,10 @@ use Rattle.format.specs.Bytes.{pick}
 use Rattle.format.specs.Numbers.{leBytes}
 use Rattle.format.specs.Prefix.{groupsOf}
 use Rattle.format.specs.Text.{needOf, loOf, hiOf, leadOf, stepOf, after, wellFormed}
-use Rattle.format.specs.Rows.{findFrom, objectRow, linkOf, linked, withLink, rowsOf}
+use Rattle.format.specs.Rows.{withLink, rowsOf}
 use Rattle.format.specs.Contents.{text, Rec, header, classById, nulls, end, library, objectArray, enc, encs}
 use Rattle.format.specs.Contents.{object as anything}
-use Rattle.format.specs.Grammar.{Positive, Name, Entry, no-more, member, Cur, cur, Object, system-class, library-class, Body, hollow, filled, Slots, full, allTake, class-by-id, an-object, a-string, a-reference, a-run, a-library, Array, of-objects, Objects, the-end, one-object, one-string, one-array, one-library, among, Reading}
+use Rattle.format.specs.Grammar.{Positive, Name, Entry, no-more, member, Cur, cur, Object, system-class, library-class, Body, hollow, filled, Slots, full, allTake, class-by-id, an-object, a-string, a-reference, a-run, a-library, Array, of-objects, Objects, the-end, one-object, one-string, one-array, one-library, Link, to-root, to-object, stays, no-links, one-link, among, Reading}
 use Rattle.format.specs.Examples.{hexOnto}
 use Rattle.format.specs.Lists.{jaw, named, inSlot, inSlotRows, forwards, forwardsRows}
 
@@ -51,9 +51,13 @@ only i j e = eqb-true i j (either (eqb i j) e)
 to-text : (i : ℕ) → among i (2 ∷ []) ≡ true → among i (4 ∷ 6 ∷ 2 ∷ []) ≡ true
 to-text i e = rw (only i 2 e)
 
+-- the row of neither a header nor a reference
+other : {rs : List Rec} {it : Row} → eqb (it .kind) 0 ≡ false → eqb (it .kind) 9 ≡ false → Link rs it it
+other a b = stays (λ e. eqb-false _ 0 a e) (λ e. eqb-false _ 9 b e)
+
 -- a library stands in a slot, and a reference names what the list has
 pub allowed-in-slot : Reading (encs (inSlot 4294967295 4 6 2 9 text 2)) (rowsOf 7 inSlotRows)
-unfolding rowsOf linked linkOf objectRow findFrom encs enc leBytes groupsOf wellFormed after stepOf leadOf hiOf loOf needOf hexOnto
+unfolding rowsOf encs enc leBytes groupsOf wellFormed after stepOf leadOf hiOf loOf needOf hexOnto
 allowed-in-slot =
     record {
       root = 4;
@@ -76,7 +80,11 @@ allowed-in-slot =
           (the-end refl);
       rooted = refl;
       targets = to-text;
-      rows-are = refl;
+      links-are =
+          one-link (to-root {j = 1} refl (record { inside = omega arith; id = refl }))
+          (one-link (other refl refl) (one-link (other refl refl) (one-link (other refl refl) (one-link (other refl refl)
+          (one-link (to-object {j = 4} refl (record { inside = omega arith; id = refl }))
+          (one-link (other refl refl) no-links))))));
     }
 
 -- the one reference names the text, which comes later
@@ -85,7 +93,7 @@ to-later i e = rw (only i 3 e)
 
 -- a reference may point forwards, and an object may be of a class whose first object is still open
 pub allowed-forwards : Reading (encs forwards) (rowsOf 6 forwardsRows)
-unfolding rowsOf linked linkOf objectRow findFrom encs enc leBytes groupsOf wellFormed after stepOf leadOf hiOf loOf needOf hexOnto
+unfolding rowsOf encs enc leBytes groupsOf wellFormed after stepOf leadOf hiOf loOf needOf hexOnto
 allowed-forwards =
     record {
       root = 1;
@@ -107,7 +115,11 @@ allowed-forwards =
           (one-string (record { sign = positive-of 3 (omega arith) (omega arith); fresh = refl }) (name-of jaw refl (omega arith)) refl (the-end refl));
       rooted = refl;
       targets = to-later;
-      rows-are = refl;
+      links-are =
+          one-link (to-root {j = 1} refl (record { inside = omega arith; id = refl }))
+          (one-link (other refl refl) (one-link (other refl refl)
+          (one-link (to-object {j = 4} refl (record { inside = omega arith; id = refl }))
+          (one-link (other refl refl) (one-link (other refl refl) no-links)))));
     }
 
 -- ---- not allowed

@@ -16,7 +16,7 @@ use Rattle.format.specs.Numbers.{le}
 use Rattle.format.specs.Prefix.{prefixBytes}
 use Rattle.format.specs.Text.{needOf, wellFormed}
 use Rattle.format.specs.Values.{decimal}
-use Rattle.format.specs.Rows.{linked}
+use Rattle.format.specs.Rows.{withLink}
 use Rattle.format.specs.Contents.{Detail, primitive, text, object, system, class, objects, texts, primitives, Member, slotFor, Rec, header, classById, systemClass, libraryClass, string, array, typedPrimitive, reference, null, nulls, manyNulls, end, library, primitiveArray, objectArray, stringArray, value, enc, encs}
 
 -- ---- fields
@@ -363,6 +363,23 @@ abbrev pub among : ℕ → List ℕ → Bool
 among i [] = false
 among i (j ∷ js) = eqb i j || among i js
 
+-- ---- links
+
+-- the record of this number, counted from 0, has this ObjectId
+pub record Holds (rs : List Rec) (i j : ℕ) : Type 0 where
+  pub inside : j < length rs
+  pub id : idOf (getD rs j end) ≡ i ∷ []
+
+-- a row with its link (01, The table): the header's names the row of the root, a reference's that of its object, each plus 1; all others stay
+pub data Link (rs : List Rec) : Row → Row → Type 0 where
+  to-root : {it : Row} {j : ℕ} → it .kind ≡ 0 → Holds rs (it .id) j → Link rs it (withLink it (suc j))
+  to-object : {it : Row} {j : ℕ} → it .kind ≡ 9 → Holds rs (it .id) j → Link rs it (withLink it (suc j))
+  stays : {it : Row} → (it .kind ≡ 0 → ⊥) → (it .kind ≡ 9 → ⊥) → Link rs it it
+
+pub data Links (rs : List Rec) : List Row → List Row → Type 0 where
+  no-links : Links rs [] []
+  one-link : {it row : Row} {is rows : List Row} → Link rs it row → Links rs is rows → Links rs (it ∷ is) (row ∷ rows)
+
 -- a reading of a stream, with the rows that show it
 pub record Reading (s : List ℕ) (rows : List Row) : Type 0 where
   pub root : ℕ
@@ -376,4 +393,4 @@ pub record Reading (s : List ℕ) (rows : List Row) : Type 0 where
   pub objects-are : Objects (cur 17 1 [] rs is)
   pub rooted : among root (idsOf rs) ≡ true
   pub targets : (i : ℕ) → among i (refsOf rs) ≡ true → among i (idsOf rs) ≡ true
-  pub rows-are : rows ≡ linked (rowOf 0 0 (header root header-id) root 0 0 0 0 ∷ is)
+  pub links-are : Links (header root header-id ∷ rs) (rowOf 0 0 (header root header-id) root 0 0 0 0 ∷ is) rows

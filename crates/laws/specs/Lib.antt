@@ -7,4 +7,5 @@ pub mod Orders
 pub mod Numbers
 pub mod Runs
 pub mod Ids
+pub mod Links
 pub mod Answers

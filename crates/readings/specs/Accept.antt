@@ -25,6 +25,7 @@ use Rattle.links.specs.Links.{length-linked}
 use Rattle.items.specs.Keeps.{value-moves}
 use Rattle.laws.specs.Fields.{size-header}
 use Rattle.laws.specs.Ids.{Shown, objects-shown, id-there}
+use Rattle.laws.specs.Links.{rows-are}
 use Rattle.places.specs.Env.{slotsFrom, envFrom, entryOf, envOf, env-more}
 use Rattle.places.specs.Stand.{Stand, stand-of, stand-rest}
 use Rattle.places.specs.Recs.{Good, is-header, is-class-by-id, is-system-class, is-library-class, is-string, is-typed-primitive, is-reference, is-null, is-end, is-library, is-nulls, is-many-nulls, is-array, entryFor, rowWith}
@@ -361,11 +362,11 @@ module _ {s : List ℕ} {rows : List Row} (w : Reading s rows) where
       let i : getD raw 0 blank .id ≡ w .root = first-id raw headRow (w .is) (sym e) in
       let r : eqb (objectRow (getD raw 0 blank .id) raw) 0 ≡ false = ap (λ (j : ℕ). eqb (objectRow j raw) 0) i ∙ id-there (w .rs) raw x (w .root) (w .rooted) in
       let t : eqb (findFrom (isLost raw) 0 raw) 0 ≡ true = eq-eqb (findFrom (isLost raw) 0 raw) 0 (none-lost (w .rs) raw x (w .targets)) in
-      rw (le-ltb at (length s) h, r, t) (ap accepted (sym (linked-bare raw) ∙ (ap linked (sym e) ∙ sym (w .rows-are))))
+      rw (le-ltb at (length s) h, r, t) (ap accepted (sym (linked-bare raw) ∙ (ap linked (sym e) ∙ sym (rows-are w))))
 
   roomy : (room : ℕ) → length rows ≤ room → length (headRow ∷ w .is) ≤ room
   roomy room h =
-      let n : length rows ≡ length (headRow ∷ w .is) = ap length (w .rows-are) ∙ length-linked (headRow ∷ w .is) in
+      let n : length rows ≡ length (headRow ∷ w .is) = ap length (rows-are w) ∙ length-linked (headRow ∷ w .is) in
       omega arith
 
   module _ (room : ℕ) (h : length rows ≤ room) where

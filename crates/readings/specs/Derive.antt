@@ -22,7 +22,7 @@ use Rattle.format.specs.declared.Frame.{Frame}
 use Rattle.format.specs.Rows.{blank, objectRow, findFrom, isLost, linked}
 use Rattle.format.specs.Records.{allowed, kindAt, headingAt}
 use Rattle.format.specs.Contents.{Rec, header, enc}
-use Rattle.format.specs.Grammar.{Reading, Entry, cur, rowOf, Objects}
+use Rattle.format.specs.Grammar.{Reading, Entry, cur, rowOf, Objects, Links, idsOf, refsOf, among}
 use Rattle.format.specs.Machine.{State, Next, go, ended, refuse, close, filled, add, act, onKind, recordStep, topLevel, step, Outcome, accepted, refused, finish, onward, run, start, begin, readOf}
 use Rattle.fields.specs.Judged.{picked}
 use Rattle.num.specs.Le.{Bytes}
@@ -30,6 +30,7 @@ use Rattle.links.specs.Links.{length-linked}
 use Rattle.laws.specs.Tests.{apart}
 use Rattle.laws.specs.Fields.{size-header}
 use Rattle.laws.specs.Ids.{shown-more, objects-shown, id-back}
+use Rattle.laws.specs.Links.{linked-links}
 use Rattle.kinds.specs.Kinds.{kind-byte}
 use Rattle.places.specs.Env.{envFrom}
 use Rattle.places.specs.Recs.{Good, is-header, Told, Back, rowWith, told-env, told-end}
@@ -145,6 +146,12 @@ module _ (s : List ℕ) (byte : Bytes s) (room : ℕ) (rows : List Row) where
       let shown = shown-bare (header root other ∷ g .rs) (row ∷ g .later) here in
       let f : Finished rows (row ∷ g .later) = subst (Finished rows) (g .rows-are) (c .finished) in
       let n : length rows ≡ length (c .final) = ap length (c .finished .same) ∙ length-linked (c .final) in
+      let bared : List Row = rowOf 0 0 (header root other) root 0 0 0 0 ∷ map bare (g .later) in
+      let same : rows ≡ linked bared = f .same ∙ (sym (linked-bare (row ∷ g .later)) ∙ ap (λ (x : Row). linked (x ∷ map bare (g .later))) first) in
+      let rooted : among root (idsOf (g .rs)) ≡ true =
+      id-back (header root other ∷ g .rs) (row ∷ g .later) shown root (subst (λ (i : ℕ). eqb (objectRow i (row ∷ g .later)) 0 ≡ false) (t .id-is) (f .root)) in
+      let targets : (i : ℕ) → among i (refsOf (g .rs)) ≡ true → among i (idsOf (g .rs)) ≡ true =
+      λ i m. targets-back (header root other ∷ g .rs) (row ∷ g .later) shown (f .targets) i m in
       let l = c .roomy in (
         record {
           root = root;
@@ -156,10 +163,9 @@ module _ (s : List ℕ) (byte : Bytes s) (room : ℕ) (rows : List Row) where
           bytes-are = t .stands .bytes ∙ ap (λ (b : List ℕ). enc (header root other) ++ b) (g .bytes-are);
           small = small;
           objects-are = objects;
-          rooted = id-back (header root other ∷ g .rs) (row ∷ g .later) shown root
-              (subst (λ (i : ℕ). eqb (objectRow i (row ∷ g .later)) 0 ≡ false) (t .id-is) (f .root));
-          targets = λ i m. targets-back (header root other ∷ g .rs) (row ∷ g .later) shown (f .targets) i m;
-          rows-are = f .same ∙ (sym (linked-bare (row ∷ g .later)) ∙ ap (λ (x : Row). linked (x ∷ map bare (g .later))) first);
+          rooted = rooted;
+          targets = targets;
+          links-are = subst (Links (header root other ∷ g .rs) bared) (sym same) (linked-links root other (g .rs) (map bare (g .later)) objects rooted targets);
         },
         omega arith,
       )

@@ -18,6 +18,7 @@ use Rattle.format.specs.Grammar.{Name, Values, ClassInfo, LibraryId, typesOf, c
 use Rattle.format.specs.Says.{theSystem, theLibrary, Class, What, anObject, aString, anArray, aPrimitive, aReference, aNull, aPrimitiveArray, anObjectArray, aStringArray, aValue, Node, node, libraryName, classFrom, objectsIn, orderOf, spread, isNulls, nodesOf, nodesFrom, says}
 use Rattle.laws.specs.Fields.{size-header, positive-bits}
 use Rattle.laws.specs.Ids.{among-right, shown-more, objects-shown, id-there}
+use Rattle.laws.specs.Links.{rows-are}
 use Rattle.saying.specs.Said.{named, classOfAll, saidBy}
 use Rattle.saying.specs.Good.{length-filled, GoodClass, slotsOf, Place, place, shut, ownerOf, slotOf, filledOne, openedIn, Deep, never-open, one-more, Allowed, in-null, countOf, itemSlots, openAfter, Fits, a-node, Good}
 use Rattle.saying.specs.Good as G
@@ -539,6 +540,6 @@ said-good s rows r =
     let w = shown-more it (header (r .root) (r .header-id)) 0 0 (r .root) 0 0 0 0 refl refl refl (objects-shown (r .objects-are)) in
     let there : (i : ℕ) → among i (idsOf (r .rs)) ≡ true → eqb (objectRow i all) 0 ≡ false =
     id-there (header (r .root) (r .header-id) ∷ r .rs) all w in
-    subst (λ (x : List Row). Good (says s x)) (sym (r .rows-are))
+    subst (λ (x : List Row). Good (says s x)) (sym (rows-are r))
     (good-linked s (r .root) (r .header-id) (r .rs) (r .is) (target-ordered all (r .root) (there (r .root) (r .rooted)))
     (begins s (r .root) (r .header-id) (r .rs) (r .is) (r .bytes-are) (λ i m. there i (r .targets i m))) (r .objects-are))
