@@ -21,6 +21,7 @@ use Rattle.same.specs.Laws.{same-eq, same-refl}
 use Rattle.laws.specs.Tests.{class-refl}
 use Rattle.laws.specs.Numbers.{number-new, entered-new, all-more, afterNodes}
 use Rattle.laws.specs.Runs.{Sort, a-null, plain, sort-of}
+use Rattle.utf8.specs.Widths.{some-bytes}
 use Rattle.saying.specs.Said.{classOfAll, saidBy}
 use Rattle.saying.specs.Good.{Place, Allowed, in-value, countOf, openAfter, Fits, a-node}
 use Rattle.saying.specs.Numbers.{within-counted, Listed, listed-counted, number-back, entered-listed, all-have, each-so, Numbered, numbered-what, Later, later-nodes, nameIn, classIn, name-back, class-back}
@@ -110,7 +111,7 @@ prefix-some (suc k) n = picked (λ (b : List ℕ). 0 < length b) (ltb n 128) (λ
 value-some : {c : PrimitiveCode} {x : List ℕ} → Value c x → 0 < length x
 value-some (number {c = c} {n = n} a b) = let s = sized-exactly c n .1 a in omega arith
 value-some (boolean a) = omega arith
-value-some (scalar a b c) = omega arith
+value-some (scalar c i q) = let s = some-bytes c in let l = ap length q in omega arith
 value-some (exact {v = v} t a b e) =
     let z = prefix-some 4 (length t) in
     let l : length v ≡ length (prefixBytes (length t)) + length t = ap length e ∙ length-append (prefixBytes (length t)) t in

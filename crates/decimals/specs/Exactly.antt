@@ -5,7 +5,7 @@ use mathlib.Core.Bool.{true}
 use mathlib.Core.Logic.{_↔_}
 use mathlib.Core.List.{List}
 use Rattle.format.specs.Values.{decimal}
-use Rattle.decimals.specs.Rule.{Decimal}
+use Rattle.format.specs.Decimals.{Decimal}
 use Rattle.decimals.specs.Bytes.{takenFrom}
 use Rattle.decimals.specs.Written.{decimal-taken}
 use Rattle.decimals.specs.Taken.{taken-decimal}

@@ -1,5 +1,4 @@
--- What the rules say a Decimal is, and that the format's definition takes exactly that.
-pub mod Rule
+-- The machine of format over the bytes of a Decimal takes exactly what the rules say is one.
 pub mod Numbers
 pub mod Bytes
 pub mod Written

@@ -7,7 +7,7 @@ use native.Mathlib.Nat.{pow-suc, mul-le-mul-left, mul-le-mul-right, le-of-mul-le
 use native.Mathlib.Decide.{decLt}
 use lib.ListN.{length}
 use Rattle.format.specs.Values.{most}
-use Rattle.decimals.specs.Rule.{valueOf, Each, Fraction, no-point, point}
+use Rattle.format.specs.Decimals.{valueOf, Each, Fraction, no-point, point}
 
 -- the value of digits behind others of value w, as it grows digit by digit
 unfoldable pub valueFrom : ℕ → List ℕ → ℕ

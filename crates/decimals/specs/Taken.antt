@@ -6,7 +6,7 @@ use mathlib.Core.List.{List, [], _∷_, _++_}
 use native.Mathlib.Omega.{arith}
 use native.Mathlib.Decide.{decLe, decLt, ℕ-discrete}
 use Rattle.format.specs.Values.{Read, most, refused, decimalByte, decimalAfter}
-use Rattle.decimals.specs.Rule.{valueOf, written, Each, Sign, no-minus, minus, Fraction, no-point, point, Decimal}
+use Rattle.format.specs.Decimals.{valueOf, written, Each, Sign, no-minus, minus, Fraction, no-point, point, Decimal}
 use Rattle.decimals.specs.Numbers.{valueFrom, from-nothing, Within, below, within-none, within-zero, each-of, within-range}
 use Rattle.decimals.specs.Bytes.{stage, takenFrom, taken-step, Next, a-digit, a-minus, a-point, no-more, next-of, refused-stays, whole-digit, whole-too-great, zero-behind, digit-behind, behind-the-greatest}
 

@@ -7,7 +7,7 @@ use native.Mathlib.Omega.{arith}
 use native.Mathlib.Decide.{ℕ-discrete}
 use Rattle.format.specs.Values.{most, decimalByte, decimalAfter}
 use Rattle.decimal.specs.Laws.{byte-minus, byte-point}
-use Rattle.decimals.specs.Rule.{valueOf, written, Each, Digits, Sign, no-minus, minus, Fraction, no-point, point, Decimal}
+use Rattle.format.specs.Decimals.{valueOf, written, Each, Digits, Sign, no-minus, minus, Fraction, no-point, point, Decimal}
 use Rattle.decimals.specs.Numbers.{valueFrom, from-nothing, from-grows, Within, below, greatest, within-rest, within-most, each-of, range-within}
 use Rattle.decimals.specs.Bytes.{stage, takenFrom, taken-step, whole-digit, zero-behind, digit-behind}
 

@@ -2,12 +2,12 @@
 -- object of a class that is still open; no null run past an object's end, none over a primitive member, no library twice, no class that comes later.
 use Prim.Native.Nat.{ℕ, suc, _≤_, _<_}
 use mathlib.Core.Path.{_≡_, refl}
-use mathlib.Core.Bool.{Bool, true, false, _||_}
+use mathlib.Core.Bool.{Bool, true, false, _&&_, _||_}
 use mathlib.Core.List.{List, [], _∷_, map}
 use native.Mathlib.Omega.{arith}
 use lib.ListN.{length, take, drop, length-replicate}
-use lib.Dec.{eqb}
-use borrow.Author.Tests.{eqb-true, eqb-false}
+use lib.Dec.{ltb, eqb}
+use borrow.Author.Tests.{ltb-true, eqb-true, eqb-false, lt-ltb}
 use Rattle.format.specs.declared.PrimitiveCode.the-variants as C
 use Rattle.format.specs.declared.SlotType.{SlotType}
 use Rattle.format.specs.declared.SlotType.the-variants as S
@@ -15,8 +15,8 @@ use Rattle.format.specs.declared.Row.{Row}
 use Rattle.format.specs.Bytes.{pick}
 use Rattle.format.specs.Numbers.{leBytes}
 use Rattle.format.specs.Prefix.{groupsOf}
-use Rattle.format.specs.Text.{needOf, loOf, hiOf, leadOf, stepOf, after, wellFormed}
 use Rattle.format.specs.Rows.{withLink, rowsOf}
+use Rattle.format.specs.Unicode.{Scalar, encode, Encodes}
 use Rattle.format.specs.Contents.{text, Rec, header, classById, nulls, end, library, objectArray, enc, encs}
 use Rattle.format.specs.Contents.{object as anything}
 use Rattle.format.specs.Grammar.{Positive, Name, Entry, no-more, member, Cur, cur, Object, system-class, library-class, Body, hollow, filled, Slots, full, allTake, class-by-id, an-object, a-string, a-reference, a-run, a-library, Array, of-objects, Objects, the-end, one-object, one-string, one-array, one-library, Link, to-root, to-object, stays, no-links, one-link, among, Reading}
@@ -25,8 +25,28 @@ use Rattle.format.specs.Lists.{jaw, named, inSlot, inSlotRows, forwards,
 
 -- ---- allowed
 
-name-of : (t : List ℕ) → wellFormed t ≡ true → length t < 2147483648 → Name t
-name-of t a b = record { good = a; short = b }
+-- bytes below 80 are their own scalar values
+abbrev ascii : List ℕ → Bool
+ascii [] = true
+ascii (c ∷ cs) = ltb c 0x80 && ascii cs
+
+one-byte : (c : ℕ) → c < 0x80 → Scalar c × (encode c ≡ c ∷ [])
+unfolding encode
+one-byte c h = (record { codePoint = omega arith; noSurrogate = λ a b. omega arith }, rw (lt-ltb c 0x80 h))
+
+own-scalars : (t : List ℕ) → ascii t ≡ true → Encodes t t
+own-scalars [] e = record { scalars = tt; bytes = refl }
+own-scalars (c ∷ t) e = go (ltb c 0x80) refl e (own-scalars t)
+  where
+    go : (b : Bool) → ltb c 0x80 ≡ b → (b && ascii t) ≡ true → (ascii t ≡ true → Encodes t t) → Encodes (c ∷ t) (c ∷ t)
+    go true q e again =
+        let w = one-byte c (ltb-true c 0x80 q) in
+        let v = again e in
+        record { scalars = (w .0, v .scalars); bytes = rw (w .1, v .bytes) }
+    go false q e again = absurd (let z : _≡_ {A = ℕ} 0 1 = cc in omega arith)
+
+name-of : (t : List ℕ) → ascii t ≡ true → length t < 2147483648 → Name t
+name-of t a b = record { good = (t, own-scalars t a); short = b }
 
 positive-of : (n : ℕ) → 0 < n → n < 2147483648 → Positive n
 positive-of n a b = record { above = a; below = b }
@@ -57,7 +77,7 @@ other a b = stays (λ e. eqb-false _ 0 a e) (λ e. eqb-false _ 9 b e)
 
 -- a library stands in a slot, and a reference names what the list has
 pub allowed-in-slot : Reading (encs (inSlot 4294967295 4 6 2 9 text 2)) (rowsOf 7 inSlotRows)
-unfolding rowsOf encs enc leBytes groupsOf wellFormed after stepOf leadOf hiOf loOf needOf hexOnto
+unfolding rowsOf encs enc leBytes groupsOf hexOnto
 allowed-in-slot =
     record {
       root = 4;
@@ -93,7 +113,7 @@ to-later i e = rw (only i 3 e)
 
 -- a reference may point forwards, and an object may be of a class whose first object is still open
 pub allowed-forwards : Reading (encs forwards) (rowsOf 6 forwardsRows)
-unfolding rowsOf encs enc leBytes groupsOf wellFormed after stepOf leadOf hiOf loOf needOf hexOnto
+unfolding rowsOf encs enc leBytes groupsOf hexOnto
 allowed-forwards =
     record {
       root = 1;

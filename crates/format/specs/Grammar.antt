@@ -14,9 +14,9 @@ use Rattle.format.specs.declared.Row.{Row}
 use Rattle.format.specs.Bytes.{pick}
 use Rattle.format.specs.Numbers.{le}
 use Rattle.format.specs.Prefix.{prefixBytes}
-use Rattle.format.specs.Text.{needOf, wellFormed}
-use Rattle.format.specs.Values.{decimal}
 use Rattle.format.specs.Rows.{withLink}
+use Rattle.format.specs.Unicode.{Scalar, encode, Encodes}
+use Rattle.format.specs.Decimals.{Decimal}
 use Rattle.format.specs.Contents.{Detail, primitive, text, object, system, class, objects, texts, primitives, Member, slotFor, Rec, header, classById, systemClass, libraryClass, string, array, typedPrimitive, reference, null, nulls, manyNulls, end, library, primitiveArray, objectArray, stringArray, value, enc, encs}
 
 -- ---- fields
@@ -26,9 +26,9 @@ pub record Positive (n : ℕ) : Type 0 where
   pub above : 0 < n
   pub below : n < 2147483648
 
--- a name or a text
+-- a name or a text: the UTF-8 form of some scalar values
 pub record Name (t : List ℕ) : Type 0 where
-  pub good : wellFormed t ≡ true
+  pub good : (cs : List ℕ) × Encodes cs t
   pub short : length t < 2147483648
 
 -- the 64 bits of a DateTime (2.1.1.5): the kind in the top two, then ticks that are not negative as 62 signed bits
@@ -57,8 +57,9 @@ pub data Sized : PrimitiveCode → ℕ → Type 0 where
 pub data Value : PrimitiveCode → List ℕ → Type 0 where
   number : {c : PrimitiveCode} {n : ℕ} {v : List ℕ} → Sized c n → length v ≡ n → Value c v
   boolean : {b : ℕ} → b ≤ 1 → Value C.Boolean (b ∷ [])
-  scalar : {v : List ℕ} → wellFormed v ≡ true → needOf (getD v 0 0) < 4 → length v ≡ needOf (getD v 0 0) + 1 → Value C.Char v
-  exact : {v : List ℕ} (t : List ℕ) → decimal t ≡ true → length t < 2147483648 → v ≡ prefixBytes (length t) ++ t → Value C.Decimal v
+  -- the UTF-8 form of one scalar value
+  scalar : {v : List ℕ} (c : ℕ) → Scalar c → v ≡ encode c → Value C.Char v
+  exact : {v : List ℕ} (t : List ℕ) → Decimal t → length t < 2147483648 → v ≡ prefixBytes (length t) ++ t → Value C.Decimal v
   moment : {v : List ℕ} → length v ≡ 8 → Moment (le v) → Value C.DateTime v
 
 -- the bytes of n values, one after the other

@@ -12,6 +12,8 @@ pub mod Records
 pub mod Machine
 pub mod View
 pub mod Contents
+pub mod Unicode
+pub mod Decimals
 pub mod Grammar
 pub mod Says
 pub mod Tidy
@@ -22,3 +24,4 @@ pub mod CounterExamples
 pub mod Lists
 pub mod Allowed
 pub mod Own
+pub mod Words

@@ -6,7 +6,6 @@ use mathlib.Core.Bool.{false}
 use mathlib.Core.List.{List, [], _∷_}
 use native.Mathlib.Omega.{arith}
 use lib.ListN.{length, getD, drop}
-use lib.Dec.{eqb}
 use borrow.Author.Tests.{leb-false, lt-leb}
 use Rattle.format.specs.declared.Refusal.the-variants as R
 use Rattle.format.specs.declared.PrimitiveCode.{PrimitiveCode}
@@ -30,6 +29,7 @@ use Rattle.strings.specs.Laws.{string-told, string-moves, string-well, string-r
 use Rattle.codes.specs.Codes.{primitive-number, number-primitive}
 use Rattle.codes.specs.Ends.{code-end, name-end}
 use Rattle.types.specs.Keeps.{code-told, name-told}
+use Rattle.utf8.specs.Exactly.{utf8-exactly}
 use Rattle.places.specs.Stand.{Stand, stand-size, stand-same, stand-part, stand-byte, stand-split, stand-inside, stand-here}
 
 -- ---- numbers
@@ -80,7 +80,7 @@ module _ (s t : List ℕ) (p e : ℕ) (n : Name t) (w : Stand s (stringBytes t) 
   string-there : stringAt s p ≡ T.Part (p + length (prefixBytes (length t))) e
   string-there =
       let k = stand-size w in
-      rw (← k) at (string-round s t (drop e s) p (w .bytes) (n .good) (n .short))
+      rw (← k) at (string-round s t (drop e s) p (w .bytes) (utf8-exactly t .1 (n .good)) (n .short))
 
   pub name-there : nameAt s p ≡ F.End e
   name-there = name-end s p (p + length (prefixBytes (length t))) e string-there
@@ -104,7 +104,7 @@ name-back s p e b q =
     let i = bound s p (c .0) a (c .1 .says) in
     let j = judged-taken wellFormed R.BadText s a (c .0) e (c .1 .ends) in
     let l = length-part s a (e - a) (omega arith) in (
-      record { good = rw (w .1) (string-well s p a e (w .1)); short = rw (w .1, l) (omega (arith, j .ends)) },
+      record { good = utf8-exactly (textFrom s p) .0 (rw (w .1) (string-well s p a e (w .1))); short = rw (w .1, l) (omega (arith, j .ends)) },
       rw (w .1) (record { bytes = string-converse s b p a e (w .1); onward = omega arith; room = m .2 }),
       rw q,
     )

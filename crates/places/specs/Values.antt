@@ -6,7 +6,7 @@ use mathlib.Core.List.{List, _++_}
 use native.Mathlib.Omega.{arith}
 use lib.ListN.{length, getD, drop, length-append}
 use lib.Dec.{eqb}
-use borrow.Author.Tests.{leb-true, ne-eqb, eqb-false}
+use borrow.Author.Tests.{leb-true, eqb-false}
 use Rattle.format.specs.declared.Refusal.the-variants as R
 use Rattle.format.specs.declared.PrimitiveCode.{PrimitiveCode}
 use Rattle.format.specs.declared.PrimitiveCode.the-variants as C
@@ -14,22 +14,24 @@ use Rattle.format.specs.declared.Field.the-variants as F
 use Rattle.format.specs.Bytes.{pick, part}
 use Rattle.format.specs.Numbers.{le}
 use Rattle.format.specs.Prefix.{prefixBytes}
-use Rattle.format.specs.Text.{needOf, wellFormed}
 use Rattle.format.specs.Values.{bytesAt, booleanAt, charAt, decimal, decimalAt, dateTimeAt, sizeOf, valueAt, times, itemsAt}
+use Rattle.format.specs.Unicode.{Scalar, encode}
+use Rattle.format.specs.Decimals.{Decimal}
 use Rattle.format.specs.Grammar.{Value, number, boolean, scalar, exact, moment, Values, none, more}
 use Rattle.format.specs.Own.{moment-exactly, sized-exactly}
 use Rattle.fields.specs.Parts.{length-part, part-cons, part-first, part-add, part-through, pieces}
-use Rattle.fields.specs.Judged.{passes, judged-taken, judged-end}
+use Rattle.fields.specs.Judged.{judged-taken, judged-end}
 use Rattle.fields.specs.Sequence.{through}
 use Rattle.num.specs.Le.{Bytes}
 use Rattle.prefix.specs.Laws.{bound}
 use Rattle.prefix.specs.Both.{round-trip, taken}
 use Rattle.strings.specs.Counted.{counted-moves}
-use Rattle.text.specs.Laws.{need-bound}
 use Rattle.value_forms.specs.Ends.{bytes-end, boolean-end}
-use Rattle.items.specs.Judged.{any, truth, bytes-judged, boolean-judged, date-judged, char-taken, char-of, decimal-told, decimal-of}
+use Rattle.items.specs.Judged.{any, truth, bytes-judged, boolean-judged, date-judged, decimal-told, decimal-of}
 use Rattle.items.specs.Judged as J
 use Rattle.items.specs.Keeps.{value-moves, items-kept}
+use Rattle.utf8.specs.Chars.{char-exactly}
+use Rattle.decimals.specs.Exactly.{decimal-exactly}
 use Rattle.places.specs.Stand.{Stand, stand-size, stand-same, stand-part, stand-split, stand-inside, stand-here}
 
 -- ---- values whose every pattern is taken
@@ -55,26 +57,20 @@ value-bytes s C.UInt64 p h = refl
 value-length : (c : PrimitiveCode) (v : List ℕ) → 0 < sizeOf c → Value c v → length v ≡ sizeOf c
 value-length c v h (number {n = n} g l) = l ∙ sized-exactly c n .1 g .1
 value-length c v h (boolean g) = absurd (omega arith)
-value-length c v h (scalar g n l) = absurd (omega arith)
+value-length c v h (scalar x i q) = absurd (omega arith)
 value-length c v h (exact t d l e) = absurd (omega arith)
 value-length c v h (moment l d) = absurd (omega arith)
 
 -- ---- what is written is read
 
-scalar-there : (s v : List ℕ) (p e : ℕ) → wellFormed v ≡ true → needOf (getD v 0 0) < 4 → length v ≡ needOf (getD v 0 0) + 1 → Stand s v p e
-    → charAt s p ≡ F.End e
-scalar-there s v p e g n l w =
+scalar-there : (s v : List ℕ) (p e c : ℕ) → Scalar c → v ≡ encode c → Stand s v p e → charAt s p ≡ F.End e
+scalar-there s v p e c i q w =
     let k = stand-size w in
-    let same = stand-same w in
-    let first : getD v 0 0 ≡ getD s p 0 = rw (← same) (part-first s p (e - p) (omega arith)) in
-    let width : needOf (getD s p 0) + 1 ≡ e - p = rw (← first) (omega arith) in
-    char-of s p e (record {
-      ends = rw width (omega arith);
-      room = rw width (omega (arith, w .room));
-      good = rw (width, same, ne-eqb (needOf (getD v 0 0)) 4 (λ z. omega arith)) g;
-    })
+    let z : e - p ≡ length v = omega arith in
+    let same : part s p (length v) ≡ v = rw z at (stand-same w) in
+    char-exactly s p e .1 (c, record { scalar = i; bytes = rw (← q) same; ends = rw (← q) k })
 
-decimal-there : (s t : List ℕ) (p e : ℕ) → decimal t ≡ true → length t < 2147483648 → Stand s (prefixBytes (length t) ++ t) p e → decimalAt s p ≡ F.End e
+decimal-there : (s t : List ℕ) (p e : ℕ) → Decimal t → length t < 2147483648 → Stand s (prefixBytes (length t) ++ t) p e → decimalAt s p ≡ F.End e
 decimal-there s t p e g h w =
     let x = stand-split (prefixBytes (length t)) t w in
     let m = x .0 in
@@ -85,7 +81,7 @@ decimal-there s t p e g h w =
     let same : part s m (length t) ≡ t = rw z at (stand-same (x .2)) in
     decimal-of s p (length t) m e (record {
       says = rw (← k) at r;
-      ends = judged-end decimal R.BadValue s m (length t) e (record { ends = j; room = omega (arith, x .2 .room); good = rw same g });
+      ends = judged-end decimal R.BadValue s m (length t) e (record { ends = j; room = omega (arith, x .2 .room); good = rw same (decimal-exactly t .1 g) });
     })
 
 pub value-there : (s : List ℕ) (c : PrimitiveCode) (v : List ℕ) (p e : ℕ) → Value c v → Stand s v p e → valueAt s c p ≡ F.End e
@@ -98,7 +94,7 @@ value-there s c v p e (number {n = n} g l) w =
 value-there s c v p e (boolean h) w =
     let k = stand-size w in
     rw k (boolean-end s p (stand-inside w) (rw (stand-here w) h))
-value-there s c v p e (scalar g n l) w = scalar-there s v p e g n l w
+value-there s c v p e (scalar x i q) w = scalar-there s v p e x i q w
 value-there s c v p e (exact t g h z) w = decimal-there s t p e g h (subst (λ (b : List ℕ). Stand s b p e) z w)
 value-there s c v p e (moment l d) w =
     let k = stand-size w in
@@ -123,13 +119,9 @@ boolean-back s p e q =
 
 char-back : (s : List ℕ) (p e : ℕ) → charAt s p ≡ F.End e → Value C.Char (part s p (e - p))
 char-back s p e q =
-    let w = char-taken s p e q in
-    let n = needOf (getD s p 0) + 1 in
-    let z : e - p ≡ n = omega arith in
-    let f : getD (part s p n) 0 0 ≡ getD s p 0 = part-first s p n (omega arith) in
-    let g : pick (eqb (needOf (getD s p 0)) 4) false (wellFormed (part s p n)) ≡ true = rw f at (w .good) in
-    let v = passes (eqb (needOf (getD s p 0)) 4) (wellFormed (part s p n)) g in
-    rw z (scalar (v .1) (rw f (omega (arith, need-bound (getD s p 0), eqb-false (needOf (getD s p 0)) 4 (v .0)))) (rw f (length-part s p n (w .room))))
+    let w = char-exactly s p e .0 q in
+    let z : e - p ≡ length (encode (w .0)) = omega (arith, w .1 .ends) in
+    scalar {v = part s p (e - p)} (w .0) (w .1 .scalar) (rw z (w .1 .bytes))
 
 decimal-back : (s : List ℕ) (p e : ℕ) → Bytes s → decimalAt s p ≡ F.End e → Value C.Decimal (part s p (e - p))
 decimal-back s p e b q =
@@ -141,7 +133,7 @@ decimal-back s p e b q =
     let j = judged-taken decimal R.BadValue s a n e (c .ends) in
     let l = length-part s a n (j .room) in
     let z : e - a ≡ n = omega arith in
-    exact (part s a n) (j .good) (rw l (bound s p n a (c .says)))
+    exact (part s a n) (decimal-exactly (part s a n) .0 (j .good)) (rw l (bound s p n a (c .says)))
     (part-through s p a e (omega arith) (m .1) ∙ rw (z, l, taken s b p n a (c .says)))
 
 date-back : (s : List ℕ) (p e : ℕ) → dateTimeAt s p ≡ F.End e → Value C.DateTime (part s p (e - p))

@@ -30,6 +30,7 @@ use Rattle.codes.specs.Codes.{primitive-number}
 use Rattle.codes.specs.Ends.{code-end, name-end, library-end}
 use Rattle.format.specs.Own.{positive-exactly}
 use Rattle.laws.specs.Fields.{positive-bits, length-numbers-bytes}
+use Rattle.utf8.specs.Exactly.{utf8-exactly}
 use Rattle.saying.specs.Said.{named, namedAll, classOfAll, saidBy}
 use Rattle.saying.specs.Good.{slotsOf}
 use Rattle.saying.specs.Order.{place-inside, item-there}
@@ -67,7 +68,7 @@ module _ (s q : List ℕ) (n p : ℕ) (d : drop p s ≡ leBytes 4 n ++ q) where
 
 module _ (s x q : List ℕ) (p : ℕ) (n : Name x) (d : drop p s ≡ stringBytes x ++ q) where
   string-there : stringAt s p ≡ T.Part (p + length (prefixBytes (length x))) (p + length (stringBytes x))
-  string-there = string-round s x q p d (n .good) (n .short)
+  string-there = string-round s x q p d (utf8-exactly x .1 (n .good)) (n .short)
 
   pub name-there : nameAt s p ≡ F.End (p + length (stringBytes x))
   name-there = name-end s p (p + length (prefixBytes (length x))) (p + length (stringBytes x)) string-there

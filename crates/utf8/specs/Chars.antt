@@ -1,4 +1,4 @@
--- A Char, where it is read and in the grammar, is the UTF-8 form of one scalar value.
+-- A Char, where it is read, is the UTF-8 form of one scalar value.
 use Prim.Native.Nat.{ℕ, _+_, _≤_, _<_}
 use mathlib.Core.Path.{_≡_, refl, sym, ap, _∙_}
 use mathlib.Core.Logic.{_↔_}
@@ -8,17 +8,14 @@ use native.Mathlib.Omega.{arith}
 use lib.ListN.{length, getD, length-append, length-take, length-drop}
 use lib.Dec.{eqb}
 use borrow.Author.Tests.{eqb-true, ne-eqb}
-use Rattle.format.specs.declared.PrimitiveCode.the-variants as C
 use Rattle.format.specs.declared.Field.the-variants as F
 use Rattle.format.specs.Bytes.{part}
 use Rattle.format.specs.Text.{needOf, between, after, wellFormed}
 use Rattle.format.specs.Values.{charAt}
-use Rattle.format.specs.Grammar.{Value, number, scalar}
-use Rattle.format.specs.Own.{sized-exactly}
 use Rattle.fields.specs.Parts.{length-part, part-first}
 use Rattle.fields.specs.Judged.{passes}
 use Rattle.items.specs.Judged.{char-taken, char-of}
-use Rattle.utf8.specs.Scalars.{Scalar, encode, Encodes}
+use Rattle.format.specs.Unicode.{Scalar, encode, Encodes}
 use Rattle.utf8.specs.Widths.{some-bytes, width-told}
 use Rattle.utf8.specs.Firsts.{first}
 use Rattle.utf8.specs.Exactly.{utf8-exactly}
@@ -90,22 +87,3 @@ module _ (s : List ℕ) (at e : ℕ) where
   -- for every stream and place: a Char is read and ends at e exactly when the bytes of some scalar value stand there and end at e
   pub char-exactly : (charAt s at ≡ F.End e) ↔ ((c : ℕ) × Char c s at e)
   char-exactly = (char-bytes, λ w. char-reads (w .0) (w .1))
-
--- ---- in the grammar
-
--- for every list of numbers: it is the value of a Char exactly when it is the UTF-8 form of one scalar value
-pub char-value : (v : List ℕ) → Value C.Char v ↔ ((c : ℕ) × Encodes (c ∷ []) v)
-char-value v = (there v, λ w. back (w .0) v (w .1))
-  where
-    there : (v : List ℕ) → Value C.Char v → (c : ℕ) × Encodes (c ∷ []) v
-    there v (number {n = n} h l) = let s = sized-exactly C.Char n .1 h in absurd (omega arith)
-    there v (scalar g h l) =
-        let w = one-scalar v g l in
-        (w .0, record { scalars = (w .1 .0, tt); bytes = append-nil (encode (w .0)) ∙ sym (w .1 .1) })
-
-    back : (c : ℕ) (v : List ℕ) → Encodes (c ∷ []) v → Value C.Char v
-    back c v w =
-        let i = w .scalars .0 in
-        let t = scalar-width c i in
-        let q : encode c ≡ v = sym (append-nil (encode c)) ∙ w .bytes in
-        rw (← q) (scalar (scalar-good c i) (t .1) (sym (t .0)))

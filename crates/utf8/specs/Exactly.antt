@@ -9,7 +9,7 @@ use lib.ListN.{length, drop, length-append}
 use lib.Seq.{drop-at}
 use borrow.Author.Tests.{eqb-true, eq-eqb}
 use Rattle.format.specs.Text.{between, after, wellFormed}
-use Rattle.utf8.specs.Scalars.{encode, encoded, Encodes}
+use Rattle.format.specs.Unicode.{encode, encoded, Encodes}
 use Rattle.utf8.specs.Widths.{some-bytes, firstIn, first-again}
 use Rattle.utf8.specs.Firsts.{first}
 use Rattle.utf8.specs.Passes.{all-pass}

@@ -1,5 +1,4 @@
--- Text is UTF-8: scalar values and their bytes in Unicode's words, the machine of format over these bytes, and the theorems.
-pub mod Scalars
+-- Text is UTF-8: the machine of format over the bytes of scalar values, and the theorems.
 pub mod Steps
 pub mod Widths
 pub mod Firsts

@@ -10,7 +10,7 @@ use borrow.Author.Tests.{ltb-true, ltb-false, lt-ltb, le-ltb}
 use Rattle.format.specs.Bytes.{pick}
 use Rattle.format.specs.Text.{needOf}
 use Rattle.fields.specs.Judged.{picked}
-use Rattle.utf8.specs.Scalars.{Scalar, one, two, three, four, fromTwo, fromThree, fromFour, encode}
+use Rattle.format.specs.Unicode.{Scalar, one, two, three, four, fromTwo, fromThree, fromFour, encode}
 use Rattle.utf8.specs.Steps.{need-none, need-one, need-two, need-three}
 
 -- what holds of the bytes of each width
