@@ -1,6 +1,6 @@
 -- What is gathered and written before and after a row, the copy row by row, and the answers of the copying: one law for each way that a function ends.
 use Prim.Native.Nat.{ℕ, _+_, _-_, _*_, _≤_, _<_}
-use mathlib.Core.Path.{_≡_, refl, sym, ap, _∙_}
+use mathlib.Core.Path.{_≡_, refl, sym, ap, subst, _∙_}
 use mathlib.Core.Bool.{Bool, true, false}
 use mathlib.Core.List.{List, [], _∷_, _++_}
 use native.Mathlib.Omega.{arith}
@@ -8,7 +8,7 @@ use native.Mathlib.Numerals.{add-one}
 use lib.ListN.{length, getD, drop, drop-of-length-le}
 use lib.Seq.{drop-cons}
 use lib.Dec.{eqb}
-use borrow.Author.Tests.{eq-eqb, ne-eqb, le-leb, lt-leb}
+use borrow.Author.Tests.{eq-eqb, ne-eqb, eqb-true, le-leb, lt-leb}
 use borrow.Rule.Slice.PartMut.{putMid, midOf}
 use Rattle.format.specs.declared.Row.{Row}
 use Rattle.format.specs.declared.TidyAnswer.the-variants as A
@@ -135,6 +135,70 @@ module _ (s d e y : List ℕ) (rs : List Row) (n i a b m t : ℕ) (w v : Gathere
     along-more (copyOf s rs) (copyFrom s rs i w (drop i rs)) d e y a b m t p q z
         (rowOut s rs i w r) (copyFrom s rs (i + 1) v (drop (i + 1) rs)) (copy-more s rs i w r v (omega arith) x g) o f,
   )
+
+-- ---- more of the nulls before
+
+-- a row of this kind and owner is more of the nulls gathered so far
+unfoldable pub isMore : Gathered → ℕ → ℕ → Bool
+isMore w kind owner = pick (isNulls kind) (eqb owner (w .owner)) false
+
+pub more-known : (w : Gathered) (kind owner : ℕ) (t : Bool) → t ≡ isNulls kind → t ≡ true → eqb owner (w .owner) ≡ isMore w kind owner
+unfolding isMore
+more-known w kind owner t x h = let n : isNulls kind ≡ true = sym x ∙ h in rw n
+
+pub more-none : (w : Gathered) (kind owner : ℕ) (t : Bool) → t ≡ isNulls kind → t ≡ false → false ≡ isMore w kind owner
+unfolding isMore
+more-none w kind owner t x h = let n : isNulls kind ≡ false = sym x ∙ h in rw n
+
+either : {X : Type 0} (t u : Bool) → (t ≡ true → X) → (u ≡ true → X) → pick t true u ≡ true → X
+either true u f g h = f refl
+either false u f g h = g h
+
+by-nulls : {X : Type 0} (k : ℕ) → (k ≡ 10 → X) → (k ≡ 13 → X) → (k ≡ 14 → X) → isNulls k ≡ true → X
+by-nulls k a b c = either _ _ (λ e. a (eqb-true k 10 e)) (either _ _ (λ e. b (eqb-true k 13 e)) (λ e. c (eqb-true k 14 e)))
+
+both : (t u : Bool) → pick t u false ≡ true → (t ≡ true) × (u ≡ true)
+both true u e = (refl, e)
+both false u e = absurd (let z : _≡_ {A = ℕ} 0 1 = ap (λ (b : Bool). pick b 1 0) e in omega arith)
+
+module _ (w : Gathered) (r : Row) (n : isNulls (r .kind) ≡ true) (o : r .owner ≡ w .owner) where
+  skip-before : beforeOut w r ≡ []
+  unfolding beforeOut
+  skip-before = picked (λ (l : List ℕ). l ≡ []) (isPassed r) (λ a. refl) (λ a. rw (n, eq-eqb _ _ o))
+
+  skip-record : (s : List ℕ) (rs : List Row) (i : ℕ) → recordOut s rs i r ≡ []
+  unfolding recordOut
+  skip-record s rs i = by-nulls (r .kind) (λ e. rw e) (λ e. rw e) (λ e. rw e) n
+
+  no-library : r .kind ≡ 12 → ⊥
+  no-library f = by-nulls (r .kind) (λ e. omega arith) (λ e. omega arith) (λ e. omega arith) n
+
+  skip-after : record { owner = r .owner; count = w .count + r .count } ≡ runAfter w r
+  unfolding runAfter
+  skip-after =
+      picked (λ (g : Gathered). record { owner = r .owner; count = w .count + r .count } ≡ g) (isPassed r)
+      (λ a.
+      let z = eqb-true (r .count) 0 (passed-nulls r no-library true (sym n) (eqb (r .count) 0) refl refl ∙ a) in
+      let c : w .count + r .count ≡ w .count = omega arith in
+      rw (o, c))
+      (λ a. rw (n, eq-eqb _ _ o))
+
+module _ (s d e : List ℕ) (rs : List Row) (n i a kind owner count : ℕ) (w v : Gathered) where
+  pub row-skipped : length rs ≡ n → i < n → kind ≡ getD rs i blank .kind → owner ≡ getD rs i blank .owner → count ≡ getD rs i blank .count
+      → count < 4294967296 → isMore w kind owner ≡ true → v ≡ record { owner = owner; count = w .count + count } → w .count ≤ 4294967296 * i
+      → Along (copyOf s rs) (copyFrom s rs i w (drop i rs)) d e a
+      → (i + 1 ≤ n) × (v .count ≤ 4294967296 * (i + 1)) × Along (copyOf s rs) (copyFrom s rs (i + 1) v (drop (i + 1) rs)) d e a
+  unfolding isMore
+  row-skipped l h x y z k m g j p =
+      let r = getD rs i blank in
+      let q = both (isNulls kind) (eqb owner (w .owner)) m in
+      let f : isNulls (r .kind) ≡ true = rw (← x) (q .0) in
+      let o : r .owner ≡ w .owner = sym y ∙ eqb-true owner (w .owner) (q .1) in
+      let b : v ≡ runAfter w r = g ∙ (rw (y, z) (skip-after w r f o)) in
+      let c : beforeOut w r ++ recordOut s rs i r ≡ [] = rw (skip-before w r f o, skip-record w r f o s rs i) in
+      let t : copyFrom s rs i w (drop i rs) ≡ copyFrom s rs (i + 1) v (drop (i + 1) rs) =
+      copy-more s rs i w r v (omega arith) refl b ∙ ap (λ (u : List ℕ). u ++ copyFrom s rs (i + 1) v (drop (i + 1) rs)) (row-is s rs r i w ∙ c) in
+      (omega arith, few-more w v r i b j (rw (← z) k), subst (λ (u : List ℕ). Along (copyOf s rs) u d e a) t p)
 
 -- ---- all or nothing
 pub dry : (x y : List ℕ) → length y ≡ 0 → putMid 0 0 x y ≡ x

@@ -11,6 +11,7 @@ ghost use Rattle.format.specs.Rows.{rowsOf, roomOf};
 ghost use Rattle.format.specs.Says.{isNulls};
 ghost use Rattle.format.specs.Tidy.{answerBy, outBy};
 ghost use Rattle.put.specs.Put.{Filled};
+ghost use Rattle.copying.specs.Laws.{isMore};
 ghost use Rattle.pieces.specs.Copy.{isPassed, beforeOut, runAfter, rowOut, copyOf};
 
 // ---- null runs
@@ -78,6 +79,16 @@ fn run_after(before: Gathered, r: Row) -> Gathered
     Gathered { owner: 0, count: 0 }
 }
 
+// Whether a row of this kind and owner is more of the nulls gathered so far: it adds nothing to the copy yet.
+fn is_more(w: Gathered, kind: u32, owner: u32) -> bool
+    ensures { λ q. ⌜ q ≡ isMore w kind owner ⌝ }
+{
+    if is_nulls(kind) {
+        return owner == w.owner;
+    }
+    false
+}
+
 // ---- the copy
 
 // Row i, which is r, after the nulls before it.
@@ -108,6 +119,16 @@ fn copy_all(out: &mut [u8], s: &[u8], table: &[u32], n: usize) -> usize
     let mut w = Gathered { owner: 0, count: 0 };
     let mut i: usize = 0;
     while i < n {
+        let kind = table::kind_at(table, n, i);
+        let owner = table::owner_at(table, n, i);
+        if is_more(w, kind, owner) {
+            w = Gathered {
+                owner,
+                count: w.count + (table::count_at(table, n, i) as usize),
+            };
+            i += 1;
+            continue;
+        }
         let r = table::row_at(table, n, i);
         let from = put::least(at, out.len());
         let b = put_row(&mut out[from..], s, table, n, i, w, r);

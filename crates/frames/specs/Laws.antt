@@ -15,7 +15,7 @@ use Rattle.format.specs.declared.Typed.{Typed}
 use Rattle.format.specs.declared.Head.{Head}
 use Rattle.format.specs.declared.Frame.{Frame}
 use Rattle.format.specs.declared.Reader.{Reader}
-use Rattle.format.specs.Machine.{close, filled, opened, whereIn}
+use Rattle.format.specs.Machine.{close, filledBy, filled, opened, whereIn}
 use Rattle.slot_words.specs.Words.{slotCode, slot-back}
 use Rattle.frames.specs.Frames.{frameAt, saved, openOf}
 
@@ -124,11 +124,19 @@ save-at f d g k h z q =
 
 -- ---- slots are filled, an object is opened
 
-pub fill-at : (f : List ℕ) (m : Reader) (k rest : ℕ) (t : Typed) → rest ≡ m .top .left - k
-    → close (record { owner = m .top .owner; count = m .top .count; left = rest; typed = t }) (saved f (m .depth))
-    ≡ filled (openOf f m) k t
-unfolding filled
-fill-at f m k rest t e = rw e
+-- n is m with k slots filled and nothing closed yet
+module _ (f : List ℕ) (m : Reader) (k : ℕ) (t : Typed) (n : Reader)
+    (e : n ≡ record { at = m .at; rows = m .rows; depth = m .depth; top = filledBy (m .top) k t }) where
+  pub fill-at : close (n .top) (saved f (n .depth)) ≡ filled (openOf f m) k t
+  unfolding filled
+  fill-at = rw e
+
+  -- an object of which slots are left stays open
+  pub fill-open : k < m .top .left → openOf f n ≡ filled (openOf f m) k t
+  unfolding filled
+  fill-open h =
+      let z : m .top .left - k ≡ 0 → ⊥ = λ q. omega arith in
+      rw e (close-stop (filledBy (m .top) k t) f (m .depth) z)
 
 pub open-at : (f e : List ℕ) (m : Reader) (row rest : ℕ) (h : Head) (t : Typed) → rest ≡ m .top .left - 1
     → saved e (m .depth + 1) ≡ record { owner = m .top .owner; count = m .top .count; left = rest; typed = t } ∷ saved f (m .depth)

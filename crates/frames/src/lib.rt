@@ -8,7 +8,7 @@ ghost use mathlib.Core.Path.{_≡_};
 ghost use mathlib.Core.List.{_∷_};
 ghost use Prim.Native.Nat.{_+_, _-_, _≤_, _<_};
 ghost use lib.ListN.{length};
-ghost use Rattle.format.specs.Machine.{close, filled, opened};
+ghost use Rattle.format.specs.Machine.{close, filledBy, filled, opened};
 ghost use Rattle.frames.specs.Frames.{frameAt, saved, openOf, Holds, Deeper};
 
 // ---- the saved frames
@@ -77,29 +77,48 @@ pub fn settle(frames: &[u32; Reader::WORDS], m: Reader) -> Reader
     }
 }
 
-// k slots of the innermost object are filled; the next one has the type t.
-pub fn fill(frames: &[u32; Reader::WORDS], m: Reader, k: u32, t: Typed) -> Reader
-    requires { ⌜ (m .depth ≤ 64) × (length (now frames) ≡ 384) ⌝ }
-    ensures { λ r. ⌜ Holds (now (frames .entry)) m r (filled (openOf (now (frames .entry)) m) k t) ⌝ }
+// The reader after k slots of the innermost object, with the type t for the next one; full objects are not closed.
+fn passed(m: Reader, k: u32, t: Typed) -> Reader
+    ensures { λ r. ⌜ r ≡ record { at = m .at; rows = m .rows; depth = m .depth; top = filledBy (m .top) k t } ⌝ }
 {
     let owner = m.top.owner;
     let count = m.top.count;
     let left = m.top.left;
     let rest = slot_words::less(left, k);
-    settle(
-        frames,
-        Reader {
-            at: m.at,
-            rows: m.rows,
-            depth: m.depth,
-            top: Frame {
-                owner,
-                count,
-                left: rest,
-                typed: t,
-            },
+    Reader {
+        at: m.at,
+        rows: m.rows,
+        depth: m.depth,
+        top: Frame {
+            owner,
+            count,
+            left: rest,
+            typed: t,
         },
-    )
+    }
+}
+
+// k slots of the innermost object are filled; the next one has the type t.
+pub fn fill(frames: &[u32; Reader::WORDS], m: Reader, k: u32, t: Typed) -> Reader
+    requires { ⌜ (m .depth ≤ 64) × (length (now frames) ≡ 384) ⌝ }
+    ensures { λ r. ⌜ Holds (now (frames .entry)) m r (filled (openOf (now (frames .entry)) m) k t) ⌝ }
+{
+    let n = passed(m, k, t);
+    settle(frames, n)
+}
+
+// The same, for a record that mostly leaves its object open: that way stays in registers, and what is lent to `fill` are copies of its own.
+pub fn fill_soon(frames: &[u32; Reader::WORDS], m: Reader, k: u32, t: Typed) -> Reader
+    requires { ⌜ (m .depth ≤ 64) × (length (now frames) ≡ 384) ⌝ }
+    ensures { λ r. ⌜ Holds (now (frames .entry)) m r (filled (openOf (now (frames .entry)) m) k t) ⌝ }
+{
+    if k < m.top.left {
+        return passed(m, k, t);
+    }
+    let n = m;
+    let u = t;
+    let r = fill(frames, n, k, u);
+    r
 }
 
 // An object is opened in the next slot; the slot after it has the type t. `row` is the number of its row plus 1.

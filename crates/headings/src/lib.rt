@@ -4,6 +4,10 @@ use format::SlotType;
 ghost use Prim.Native.Nat.{_≤_, _<_};
 ghost use mathlib.Core.Path.{_≡_};
 ghost use lib.ListN.{length};
+ghost use mathlib.Core.Bool.{true};
+ghost use mathlib.Core.List.{List};
+ghost use Rattle.format.specs.declared.Row.{Row};
+ghost use Rattle.kinds.specs.Kinds.{isBrief};
 ghost use Rattle.format.specs.Rows.{roomOf, rowsOf};
 ghost use Rattle.format.specs.Records.{headingAt};
 
@@ -31,5 +35,19 @@ pub fn heading_at(s: &[u8], table: &[u32], n: usize, k: u8, at: usize) -> Headin
         15 => arrays::primitive_array_at(s, table, n, at),
         16 => arrays::slot_array_at(s, table, n, SlotType::Object, at),
         _ => arrays::slot_array_at(s, table, n, SlotType::Text, at),
+    }
+}
+
+// ---- brief kinds
+
+// The fields of a record of a brief kind, whatever the rows are.
+pub fn brief_at(s: &[u8], k: u8, at: usize) -> Heading
+    requires { ⌜ (isBrief k ≡ true) × (at < length (now s)) ⌝ }
+    ensures { λ r. ⌜ ((rows : List Row) → r ≡ headingAt (now (s .entry)) rows k at) ⌝ }
+{
+    match k {
+        8 => records::typed_primitive_at(s, at),
+        9 => records::reference_at(s, at),
+        _ => arrays::plain_head(0, at + 1, 1),
     }
 }

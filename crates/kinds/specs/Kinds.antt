@@ -1,12 +1,12 @@
 -- What a kind byte says where it stands: one law for each answer, and what a kind that is taken says.
 use Prim.Native.Nat.{ℕ, _≤_, _<_}
-use mathlib.Core.Path.{_≡_, refl, sym, _∙_}
-use mathlib.Core.Bool.{Bool, true, false}
+use mathlib.Core.Path.{_≡_, refl, sym, subst, _∙_}
+use mathlib.Core.Bool.{Bool, true, false, _||_}
 use mathlib.Core.List.{List}
 use native.Mathlib.Omega.{arith}
 use lib.ListN.{length, getD}
-use lib.Dec.{ltb}
-use borrow.Author.Tests.{lt-ltb, le-ltb, ltb-true, ne-eqb}
+use lib.Dec.{ltb, eqb}
+use borrow.Author.Tests.{lt-ltb, le-ltb, ltb-true, ne-eqb, eqb-true}
 use Rattle.format.specs.declared.Refusal.{Refusal}
 use Rattle.format.specs.declared.Refusal.the-variants as R
 use Rattle.format.specs.declared.Where.{Where}
@@ -14,8 +14,15 @@ use Rattle.format.specs.declared.Where.the-variants as W
 use Rattle.format.specs.declared.Kind.{Kind}
 use Rattle.format.specs.declared.Kind.the-variants as K
 use Rattle.format.specs.Bytes.{pick}
-use Rattle.format.specs.Records.{isKind, notTaken, inSlot, allowed, kindOf, kindAt}
+use Rattle.format.specs.Records.{isKind, notTaken, inSlot, isClassKind, allowed, kindOf, kindAt}
 use Rattle.fields.specs.Judged.{told}
+
+-- fill one slot, look nothing up and open nothing
+abbrev pub isBrief : ℕ → Bool
+isBrief k = eqb k 8 || (eqb k 9 || eqb k 10)
+
+pub brief-null : (k : ℕ) → isBrief k ≡ true → (k ≡ 8 → ⊥) → (k ≡ 9 → ⊥) → k ≡ 10
+brief-null k e eight nine = let a : isBrief k ≡ eqb k 10 = rw (ne-eqb k 8 eight, ne-eqb k 9 nine) in eqb-true k 10 (sym a ∙ e)
 
 -- ---- the slots
 
@@ -47,6 +54,42 @@ module _ (k : ℕ) where
       pub kind-misplaced : notTaken k ≡ false → allowed w k ≡ false → kindOf w k ≡ K.Wrong R.WrongPlace
       unfolding kindOf
       kind-misplaced t a = rw (i, t, a)
+
+-- ---- a kind that is allowed somewhere is known, and not refused by name
+
+abbrev Known : ℕ → Type 0
+Known k = (isKind k ≡ true) × (notTaken k ≡ false)
+
+or : {X : Type 0} (a b : Bool) → (a ≡ true → X) → (b ≡ true → X) → (a || b) ≡ true → X
+or true b f g h = f refl
+or false b f g h = g h
+
+pub by-brief : (k : ℕ) (P : ℕ → Type 0) → P 8 → P 9 → P 10 → isBrief k ≡ true → P k
+by-brief k P a b c =
+    or _ _ (λ e. subst P (sym (eqb-true k 8 e)) a)
+    (or _ _ (λ e. subst P (sym (eqb-true k 9 e)) b) (λ e. subst P (sym (eqb-true k 10 e)) c))
+
+module _ (k : ℕ) where
+  is : (c : ℕ) → Known c → eqb k c ≡ true → Known k
+  is c p e = subst Known (sym (eqb-true k c e)) p
+
+  class-known : isClassKind k ≡ true → Known k
+  class-known = or _ _ (is 1 (refl, refl)) (or _ _ (is 4 (refl, refl)) (is 5 (refl, refl)))
+
+  slot-known : inSlot k ≡ true → Known k
+  slot-known = or _ _ (is 9 (refl, refl)) (or _ _ (is 10 (refl, refl)) (or _ _ (is 12 (refl, refl)) (or _ _ (is 13 (refl, refl)) (is 14 (refl, refl)))))
+
+  allowed-known : (w : Where) → allowed w k ≡ true → Known k
+  unfolding allowed
+  allowed-known W.Start = is 0 (refl, refl)
+  allowed-known W.Top =
+      or _ _ class-known (or _ _ (is 6 (refl, refl)) (or _ _ (is 7 (refl, refl)) (or _ _ (is 11 (refl, refl)) (or _ _ (is 12 (refl, refl)) (or _ _ (is 15 (refl, refl)) (or _ _ (is 16 (refl, refl)) (is 17 (refl, refl))))))))
+  allowed-known W.StringSlot = or _ _ (is 6 (refl, refl)) slot-known
+  allowed-known W.ObjectSlot = or _ _ class-known (or _ _ (is 6 (refl, refl)) (or _ _ (is 8 (refl, refl)) slot-known))
+  allowed-known W.ArraySlot = slot-known
+
+  pub kind-allowed : (w : Where) → allowed w k ≡ true → kindOf w k ≡ K.Taken k
+  kind-allowed w a = let x = allowed-known w a in kind-taken k w (x .0) (x .1) a
 
 module _ (s : List ℕ) (w : Where) (at : ℕ) where
   pub kind-there : at < length s → kindAt s w at ≡ kindOf w (getD s at 0)

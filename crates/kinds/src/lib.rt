@@ -6,6 +6,7 @@ ghost use Prim.Native.Nat.{_<_};
 ghost use mathlib.Core.Path.{_≡_};
 ghost use Rattle.format.specs.declared.Where.the-variants as W;
 ghost use Rattle.format.specs.Records.{isKind, notTaken, inSlot, allowed, kindOf, kindAt};
+ghost use Rattle.kinds.specs.Kinds.{isBrief};
 
 // ---- what may stand where
 
@@ -103,20 +104,33 @@ fn allowed(w: Where, k: u8) -> bool
     }
 }
 
-// A kind byte where it stands: unknown, then refused by name, then in the wrong place.
+// A kind byte where it stands: unknown, then refused by name, then in the wrong place. What is allowed is none of these, so the frequent
+// answer is asked for first.
 fn kind_of(w: Where, k: u8) -> Kind
     ensures { λ r. ⌜ r ≡ kindOf w k ⌝ }
 {
+    if allowed(w, k) {
+        return Kind::Taken(k);
+    }
     if is_kind(k) {
         if not_taken(k) {
             return Kind::Wrong(Refusal::NotTaken);
         }
-        if allowed(w, k) {
-            return Kind::Taken(k);
-        }
         return Kind::Wrong(Refusal::WrongPlace);
     }
     Kind::Wrong(Refusal::UnknownKind)
+}
+
+// Kinds that fill one slot and neither look anything up nor open anything: 8, 9 and 10.
+pub fn is_brief(k: u8) -> bool
+    ensures { λ r. ⌜ r ≡ isBrief k ⌝ }
+{
+    match k {
+        8 => true,
+        9 => true,
+        10 => true,
+        _ => false,
+    }
 }
 
 pub fn kind_at(s: &[u8], w: Where, at: usize) -> Kind

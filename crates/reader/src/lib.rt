@@ -5,7 +5,6 @@ use format::ObjectNo;
 use format::ReadAnswer;
 use format::Reader;
 use format::Refusal;
-use format::Where;
 ghost use mathlib.Core.Path.{_≡_};
 ghost use Prim.Native.Nat.{_≤_, _<_};
 ghost use lib.ListN.{length};
@@ -70,7 +69,7 @@ fn judge(s: &[u8], table: &mut [u32]) -> ReadAnswer
     }
     let mut frames = Reader::frames();
     let fresh = Reader::fresh();
-    let q = turns::record_step(s, table, &mut frames, fresh, Where::Start);
+    let q = turns::header_step(s, table, &mut frames, fresh);
     match q {
         Step::Go(m) => drive(s, table, &mut frames, m),
         Step::Ended(rows, at) => finish_rows(s, table, rows, at),

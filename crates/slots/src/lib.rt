@@ -70,7 +70,8 @@ pub fn move_on(s: &[u8], t: Typed) -> Typed
         return t;
     }
     let infos = after_info(s, codes::byte_at(s, types as usize), t.infos);
-    typed_at(s, next_place(s, types), infos)
+    let next = typed_at(s, next_place(s, types), infos);
+    next
 }
 
 fn is_primitive(slot: SlotType) -> bool

@@ -10,6 +10,8 @@ use format::Typed;
 ghost use mathlib.Core.Path.{_≡_};
 ghost use Prim.Native.Nat.{_-_, _≤_};
 ghost use lib.ListN.{length};
+ghost use mathlib.Core.Bool.{true};
+ghost use Rattle.kinds.specs.Kinds.{isBrief};
 ghost use Rattle.format.specs.Rows.{roomOf};
 ghost use Rattle.format.specs.Machine.{act, valueStep, valueHead};
 ghost use Rattle.adding.specs.Held.{stateOf, after, Held, Short};
@@ -107,5 +109,29 @@ pub fn take_value(
             taking::take_slots(table, frames, m, 32, h, 1, t)
         }
         Field::Fault(f) => Step::Refuse(f, m.at),
+    }
+}
+
+// A record of a brief kind by what its fields say.
+pub fn take_brief(
+    s: &[u8],
+    table: &mut [u32],
+    frames: &[u32; Reader::WORDS],
+    m: Reader,
+    kind: u32,
+    heading: Heading,
+) -> Step
+    requires { ⌜ Held (roomOf (now table)) m × Short heading × (isBrief kind ≡ true) × (length (now frames) ≡ 384) × (length (now s) ≤ 16777216) ⌝ }
+    ensures { λ q. ⌜ after (now (table .exit)) (now (frames .entry)) q
+        ≡ act (now (s .entry)) (roomOf (now (table .entry))) (stateOf (now (table .entry)) (now (frames .entry)) m) kind heading ⌝ }
+{
+    let at = m.at;
+    match heading {
+        Heading::Fields(h) => {
+            let typed = m.top.typed;
+            let t = slots::move_on(s, typed);
+            taking::take_slots(table, frames, m, kind, h, 1, t)
+        }
+        Heading::Bad(f) => Step::Refuse(f, at),
     }
 }

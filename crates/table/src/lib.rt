@@ -62,6 +62,22 @@ pub fn id_at(table: &[u32], n: usize, i: usize) -> u32
     table[8 * i + 3]
 }
 
+// The owner of row i alone.
+pub fn owner_at(table: &[u32], n: usize, i: usize) -> u32
+    requires { ⌜ (i < n) × (n ≤ roomOf (now table)) ⌝ }
+    ensures { λ r. ⌜ r ≡ getD (rowsOf n (now (table .entry))) i blank .owner ⌝ }
+{
+    table[8 * i + 4]
+}
+
+// The count of row i alone.
+pub fn count_at(table: &[u32], n: usize, i: usize) -> u32
+    requires { ⌜ (i < n) × (n ≤ roomOf (now table)) ⌝ }
+    ensures { λ r. ⌜ r ≡ getD (rowsOf n (now (table .entry))) i blank .count ⌝ }
+{
+    table[8 * i + 7]
+}
+
 // Row i of the first n is r.
 pub fn put_at(table: &mut [u32], n: usize, i: usize, r: Row)
     requires { ⌜ (i < n) × (n ≤ roomOf (now table)) ⌝ }

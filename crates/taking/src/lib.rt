@@ -63,7 +63,7 @@ pub fn take_slots(
         ≡ slotsTaken (roomOf (now (table .entry))) (stateOf (now (table .entry)) (now (frames .entry)) m) kind h k t ⌝ }
 {
     let r = adding::row_in(m, kind, h);
-    let next = frames::fill(frames, m, k, t);
+    let next = frames::fill_soon(frames, m, k, t);
     adding::add_row(table, m, r, next)
 }
 

@@ -7,10 +7,12 @@ use format::SlotType;
 use format::Where;
 ghost use mathlib.Core.Path.{_≡_};
 ghost use mathlib.Core.List.{List};
-ghost use Prim.Native.Nat.{ℕ, _≤_};
+ghost use Prim.Native.Nat.{ℕ, _≤_, _<_};
 ghost use lib.ListN.{length};
-ghost use Rattle.format.specs.Rows.{roomOf};
-ghost use Rattle.format.specs.Machine.{recordStep, whereIn, step};
+ghost use Rattle.format.specs.Rows.{roomOf, rowsOf};
+ghost use Rattle.format.specs.Records.{headingAt};
+ghost use Rattle.format.specs.declared.Where.the-variants as W;
+ghost use Rattle.format.specs.Machine.{act, recordStep, whereIn, step};
 ghost use Rattle.frames.specs.Frames.{saved};
 ghost use Rattle.adding.specs.Held.{stateOf, after, Held};
 ghost use Rattle.turns.specs.Due.{dueOf};
@@ -46,8 +48,46 @@ fn where_in(depth: usize, w: Where) -> Where
     w
 }
 
-// A kind byte and its record.
-pub fn record_step(
+// The record of a kind that is taken, whatever it does.
+fn long_step(
+    s: &[u8],
+    table: &mut [u32],
+    frames: &mut [u32; Reader::WORDS],
+    m: Reader,
+    kind: u8,
+) -> Step
+    requires { ⌜ Held (roomOf (now table)) m × (m .at < length (now s)) × (length (now frames) ≡ 384) × (length (now s) ≤ 16777216) ⌝ }
+    ensures { λ q. ⌜ (after (now (table .exit)) (now (frames .exit)) q
+        ≡ act (now (s .entry)) (roomOf (now (table .entry))) (stateOf (now (table .entry)) (now (frames .entry)) m) kind
+        (headingAt (now (s .entry)) (rowsOf (m .rows) (now (table .entry))) kind (m .at)))
+        × (length (now (frames .exit)) ≡ 384) ⌝ }
+{
+    let h = headings::heading_at(s, table, m.rows, kind, m.at);
+    steps::take(s, table, frames, m, kind as u32, h)
+}
+
+// The header, which stands first.
+pub fn header_step(
+    s: &[u8],
+    table: &mut [u32],
+    frames: &mut [u32; Reader::WORDS],
+    m: Reader,
+) -> Step
+    requires { ⌜ Held (roomOf (now table)) m × (length (now frames) ≡ 384) × (length (now s) ≤ 16777216) ⌝ }
+    ensures { λ q. ⌜ (after (now (table .exit)) (now (frames .exit)) q
+        ≡ recordStep (now (s .entry)) (roomOf (now (table .entry))) (stateOf (now (table .entry)) (now (frames .entry)) m) W.Start)
+        × (length (now (frames .exit)) ≡ 384) ⌝ }
+{
+    let at = m.at;
+    let k = kinds::kind_at(s, Where::Start, at);
+    match k {
+        Kind::Taken(kind) => long_step(s, table, frames, m, kind),
+        Kind::Wrong(f) => Step::Refuse(f, at),
+    }
+}
+
+// A kind byte and its record. What is lent to the long way are copies of its own, so that the brief way stays in registers.
+fn record_step(
     s: &[u8],
     table: &mut [u32],
     frames: &mut [u32; Reader::WORDS],
@@ -63,8 +103,13 @@ pub fn record_step(
     let k = kinds::kind_at(s, w, at);
     match k {
         Kind::Taken(kind) => {
-            let h = headings::heading_at(s, table, m.rows, kind, at);
-            steps::take(s, table, frames, m, kind as u32, h)
+            if kinds::is_brief(kind) {
+                let h = headings::brief_at(s, kind, at);
+                return steps::take_brief(s, table, frames, m, kind as u32, h);
+            }
+            let n = m;
+            let q = long_step(s, table, frames, n, kind);
+            q
         }
         Kind::Wrong(f) => Step::Refuse(f, at),
     }

@@ -1,6 +1,6 @@
 -- The invariant: what is written and the copy of the rows still left are the whole copy; a run is short, since each row adds a word to it at most.
 use Prim.Native.Nat.{_≤_, _-_, _*_}
-use mathlib.Core.Path.{_∙_}
+use mathlib.Core.Path.{refl, sym, _∙_}
 use native.Mathlib.Omega.{arith}
 use lib.ListN.{length, drop}
 use borrow.Rule.Slice.PartMut.{same-len-mid}
@@ -8,7 +8,7 @@ use Rattle.format.specs.Rows.{rowsOf}
 use Rattle.table.specs.Rows.{length-rowsOf}
 use Rattle.put.specs.Put.{Along, along-last, became}
 use Rattle.pieces.specs.Copy.{copyFrom, copyOf}
-use Rattle.copying.specs.Laws.{copy-start, row-copied, copy-end}
+use Rattle.copying.specs.Laws.{copy-start, row-skipped, row-copied, copy-end}
 use borrow.Author.Needs.{needs}
 use Rattle.copying.proofs.copy_all.Statement.{statement}
 use Rattle.copying.proofs.copy_all.Tie as tie
@@ -28,15 +28,30 @@ copy-all-spec =
     (λ c. (omega arith, omega arith, copy-start _ _ _))
     (λ c κs. search needs)
     (λ c κs. search needs)
-    (λ c. omega (arith, c .least .ensures .within))
-    (λ c. omega (arith, c .least .ensures .within))
-    (λ c. omega (arith, c .least .ensures .within))
     (λ c κs. search needs)
     (λ c κs. search needs)
-    (λ c κs. omega (arith, c .before .before .before .before .before .before .before .before .loop .inv .1, c .before .before .before .before .before .before .before .loop-test .taken, c .before .before .before .before .before .before .before .before .before .before .before .before .pre .1))
-    (λ c. omega (arith, c .before .before .before .before .before .before .before .before .loop-test .taken, c .before .before .before .before .before .before .before .before .before .before .before .before .before .pre .1))
-    (λ c. omega (arith, c .before .before .before .before .before .before .before .before .loop-test .taken))
-    (λ c. row-copied (c .before .before .before .before .before .before .before .before .before .before .before .before .before .args .s .now) _ _ _ (rowsOf (c .before .before .before .before .before .before .before .before .before .before .before .before .before .args .n) (c .before .before .before .before .before .before .before .before .before .before .before .before .before .args .table .now)) _ _ _ _ _ _ _ _ _ (length-rowsOf (c .before .before .before .before .before .before .before .before .before .before .before .before .before .args .n) (c .before .before .before .before .before .before .before .before .before .before .before .before .before .args .table .now)) (c .before .before .before .before .before .before .before .before .loop-test .taken) (c .before .before .before .before .before .before .before .row-at .ensures) (omega (arith, c .before .before .before .before .before .before .before .row-at .ok)) (c .run-after .ensures) (c .before .before .before .before .before .before .before .before .before .loop .inv .1) (c .before .before .before .before .before .before .before .before .before .loop .inv .2) (c .before .before .before .before .before .before .least .ensures) (c .before .add-up .ensures) (c .before .before .before .before .put-row .kept .0) (c .before .before .before .before .put-row .ensures))
+    (λ c. search needs)
+    (λ c. omega (arith, c .before .before .before .before .before .before .before .loop .inv .1, c .before .before .before .before .before .before .loop-test .taken, c .before .before .before .before .before .before .before .before .before .before .before .pre .1, c .before .count-at .ok))
+    (λ c. omega (arith, c .before .before .before .before .before .before .loop-test .taken, c .before .before .before .before .before .before .before .before .before .before .before .pre .1))
+    (λ c. omega (arith, c .before .before .before .before .before .before .loop-test .taken))
+    (λ c.
+    let a = c .before .before .before .before .before .before .before .before .before .before .before .args in
+    let i = c .before .before .before .before .before .before .before .loop .inv in
+    row-skipped (a .s .now) _ _ (rowsOf (a .n) (a .table .now)) _ _ _ _ _ _ _ _ (length-rowsOf (a .n) (a .table .now)) (c .before .before .before .before .before .before .loop-test .taken) (c .before .before .before .before .before .kind-at .ensures) (c .before .before .before .before .owner-at .ensures) (c .before .count-at .ensures) (omega (arith, c .before .count-at .ok)) (sym (c .before .before .before .is-more .ensures) ∙ c .before .before .if1 .taken) refl (i .1) (i .2))
+    (λ c κs. search needs)
+    (λ c κs. search needs)
+    (λ c. omega (arith, c .least .ensures .within))
+    (λ c. omega (arith, c .least .ensures .within))
+    (λ c. omega (arith, c .least .ensures .within))
+    (λ c κs. let p = c .before .before .before .before .before .before .before .before .before .before .before .before .pre in (p .0, omega arith, omega (arith, c .before .before .before .before .before .before .before .loop-test .taken)))
+    (λ c κs. search needs)
+    (λ c κs. omega (arith, c .before .before .before .before .before .before .before .before .before .before .before .before .loop .inv .1, c .before .before .before .before .before .before .before .before .before .before .before .loop-test .taken, c .before .before .before .before .before .before .before .before .before .before .before .before .before .before .before .before .pre .1))
+    (λ c. omega (arith, c .before .before .before .before .before .before .before .before .before .before .before .before .loop-test .taken, c .before .before .before .before .before .before .before .before .before .before .before .before .before .before .before .before .before .pre .1))
+    (λ c. omega (arith, c .before .before .before .before .before .before .before .before .before .before .before .before .loop-test .taken))
+    (λ c.
+    let a = c .before .before .before .before .before .before .before .before .before .before .before .before .before .before .before .before .before .args in
+    let i = c .before .before .before .before .before .before .before .before .before .before .before .before .before .loop .inv in
+    row-copied (a .s .now) _ _ _ (rowsOf (a .n) (a .table .now)) _ _ _ _ _ _ _ _ _ (length-rowsOf (a .n) (a .table .now)) (c .before .before .before .before .before .before .before .before .before .before .before .before .loop-test .taken) (c .before .before .before .before .before .before .before .row-at .ensures) (omega (arith, c .before .before .before .before .before .before .before .row-at .ok)) (c .run-after .ensures) (i .1) (i .2) (c .before .before .before .before .before .before .least .ensures) (c .before .add-up .ensures) (c .before .before .before .before .put-row .kept .0) (c .before .before .before .before .put-row .ensures))
     (λ c κs. search needs)
     (λ c. omega (arith, c .least2 .ensures .within))
     (λ c. omega (arith, c .least2 .ensures .within))

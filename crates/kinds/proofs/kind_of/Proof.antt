@@ -1,7 +1,7 @@
 -- One law for each answer.
 use borrow.Author.Needs.{needs}
 use mathlib.Core.Path.{sym, _∙_}
-use Rattle.kinds.specs.Kinds.{kind-unknown, kind-refused, kind-taken, kind-misplaced}
+use Rattle.kinds.specs.Kinds.{kind-unknown, kind-refused, kind-allowed, kind-misplaced}
 use Rattle.kinds.proofs.kind_of.Statement.{statement}
 use Rattle.kinds.proofs.kind_of.Tie as tie
 
@@ -10,9 +10,9 @@ kind-of-spec =
     tie.close
     (tie.spec
     (λ c κs. search needs)
+    (λ c. sym (kind-allowed _ _ (sym (c .before .allowed .ensures) ∙ c .if1 .taken)))
     (λ c κs. search needs)
-    (λ c. sym (kind-refused _ _ (sym (c .before .before .before .is-kind .ensures) ∙ c .before .before .if1 .taken) (sym (c .before .not-taken .ensures) ∙ c .if2 .taken)))
     (λ c κs. search needs)
-    (λ c. sym (kind-taken _ _ (sym (c .before .before .before .before .before .is-kind .ensures) ∙ c .before .before .before .before .if1 .taken) (sym (c .before .before .before .not-taken .ensures) ∙ c .before .before .if2 .left) (sym (c .before .allowed .ensures) ∙ c .if3 .taken)))
-    (λ c. sym (kind-misplaced _ _ (sym (c .before .before .before .before .before .is-kind .ensures) ∙ c .before .before .before .before .if1 .taken) (sym (c .before .before .before .not-taken .ensures) ∙ c .before .before .if2 .left) (sym (c .before .allowed .ensures) ∙ c .if3 .left)))
-    (λ c. sym (kind-unknown _ _ (sym (c .before .is-kind .ensures) ∙ c .if1 .left))))
+    (λ c. sym (kind-refused _ _ (sym (c .before .before .before .is-kind .ensures) ∙ c .before .before .if2 .taken) (sym (c .before .not-taken .ensures) ∙ c .if3 .taken)))
+    (λ c. sym (kind-misplaced _ _ (sym (c .before .before .before .is-kind .ensures) ∙ c .before .before .if2 .taken) (sym (c .before .not-taken .ensures) ∙ c .if3 .left) (sym (c .before .before .before .before .before .allowed .ensures) ∙ c .before .before .before .before .if1 .left)))
+    (λ c. sym (kind-unknown _ _ (sym (c .before .is-kind .ensures) ∙ c .if2 .left))))

@@ -24,7 +24,7 @@ judge-spec =
     (λ c. search needs)
     (λ c κs.
     let a = c .before .before .before .before .before .before .before .before .before .before .before .before .before .before .before .args in
-    let o = c .before .before .before .before .before .before .before .record-step in
+    let o = c .before .before .before .before .before .before .before .header-step in
     let u = o .last .1 .0 in
     let g = o .last .1 .1 .0 in
     let f = c .before .before .before .before .before .before .before .before .before .before .before .frames .result in
@@ -34,7 +34,7 @@ judge-spec =
     (λ c. search needs)
     (λ c κs.
     let a = c .before .before .before .before .before .before .before .before .before .before .before .before .before .before .args in
-    let o = c .before .before .before .before .before .before .record-step in
+    let o = c .before .before .before .before .before .before .header-step in
     let u = o .last .1 .0 in
     let g = o .last .1 .1 .0 in
     let f = c .before .before .before .before .before .before .before .before .before .before .frames .result in
@@ -47,7 +47,7 @@ judge-spec =
     (λ c. search needs)
     (λ c.
     let a = c .before .before .before .before .before .before .before .before .before .before .before .before .before .before .before .before .before .before .args in
-    let o = c .before .before .before .before .before .before .before .before .before .before .record-step in
+    let o = c .before .before .before .before .before .before .before .before .before .before .header-step in
     let u = o .last .1 .0 in
     let g = o .last .1 .1 .0 in
     let f = c .before .before .before .before .before .before .before .before .before .before .before .before .before .before .frames .result in
@@ -58,7 +58,7 @@ judge-spec =
     (λ c. search needs)
     (λ c.
     let a = c .before .before .before .before .before .before .before .before .before .before .before .before .before .before .before .before .before .args in
-    let o = c .before .before .before .before .before .before .before .before .before .record-step in
+    let o = c .before .before .before .before .before .before .before .before .before .header-step in
     let u = o .last .1 .0 in
     let g = o .last .1 .1 .0 in
     let f = c .before .before .before .before .before .before .before .before .before .before .before .before .before .frames .result in
@@ -69,7 +69,7 @@ judge-spec =
     (λ c. search needs)
     (λ c.
     let a = c .before .before .before .before .before .before .before .before .before .before .before .before .before .args in
-    let o = c .before .before .before .before .before .record-step in
+    let o = c .before .before .before .before .before .header-step in
     let u = o .last .1 .0 in
     let g = o .last .1 .1 .0 in
     let f = c .before .before .before .before .before .before .before .before .before .frames .result in

@@ -16,7 +16,7 @@ take-slots-spec =
     (λ c.
     let a = c .before .before .before .before .before .before .before .args in
     let p = c .before .before .add-row in
-    let n = c .before .before .before .before .fill in
+    let n = c .before .before .before .before .fill-soon in
     let r = c .before .before .before .before .before .row-in in
     let f = a .frames .now in
     took-slots (roomOf (a .table .now)) (a .table .now) (p .last .0) f f (a .m) (n .result) (p .result) (r .result) (a .kind) (a .h) (a .t) (a .k) (r .ensures (a .table .now) f) (n .ensures .stack) (p .ensures f f)))

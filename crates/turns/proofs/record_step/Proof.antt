@@ -1,5 +1,5 @@
--- The kind's byte is within the stream, so the heading ends within it; then the definition goes by what each call answered.
-use mathlib.Core.Path.{sym, _∙_}
+-- The kind's byte is within the stream, so a heading ends within it; then the definition goes by what each call answered.
+use mathlib.Core.Path.{refl, sym, _∙_}
 use Rattle.format.specs.Rows.{roomOf}
 use Rattle.adding.specs.Held.{stateOf}
 use Rattle.kinds.specs.Kinds.{kind-within}
@@ -14,28 +14,38 @@ record-step-spec =
     (tie.spec
     (λ c κs. search needs)
     (λ c. search needs)
+    (λ c κs. search needs)
     (λ c κs.
-    let a = c .before .before .before .before .before .before .before .args in
-    let p = c .before .before .before .before .before .before .before .pre in
-    let k = c .before .before .before .before .kind-at in
-    (p .0 .roomy, p .2, p .0 .counted, kind-within (a .s .now) (a .w) (a .m .at) _ (sym (k .ensures) ∙ c .before .before .k .given .1)))
+    let a = c .before .before .before .before .before .before .before .before .args in
+    let p = c .before .before .before .before .before .before .before .before .pre in
+    (sym (c .before .is-brief .ensures) ∙ c .if1 .taken, kind-within (a .s .now) (a .w) (a .m .at) _ (sym (c .before .before .before .before .before .kind-at .ensures) ∙ c .before .before .before .k .given .1)))
     (λ c. search needs)
+    (λ c κs.
+    let a = c .before .before .before .before .before .before .before .before .before .before .before .args in
+    let p = c .before .before .before .before .before .before .before .before .before .before .before .pre in
+    let h = c .before .before .brief-at in
+    (p .0, heading-short (a .s .now) (stateOf (a .table .now) (a .frames .now) (a .m) .rows) _ (a .m .at) (h .result) (h .ensures _) (kind-within (a .s .now) (a .w) (a .m .at) _ (sym (c .before .before .before .before .before .before .before .before .kind-at .ensures) ∙ c .before .before .before .before .before .before .k .given .1)) (p .2), sym (c .before .before .before .before .is-brief .ensures) ∙ c .before .before .before .if1 .taken, p .1, p .2))
+    (λ c. search needs)
+    (λ c.
+    let a = c .before .before .before .before .before .before .before .before .before .before .before .before .before .before .args in
+    let p = c .before .before .before .before .before .before .before .before .before .before .before .before .before .before .pre in
+    let k = c .before .before .before .before .before .before .before .before .before .before .before .kind-at in
+    let h = c .before .before .before .before .before .brief-at in
+    let o = c .before .before .take-brief in
+    (o .ensures ∙ record-on (a .s .now) (roomOf (a .table .now)) (stateOf (a .table .now) (a .frames .now) (a .m)) (a .w) (k .result) (k .ensures) _ (h .result) (c .before .before .before .before .before .before .before .before .before .k .given .1) (h .ensures _), p .1))
     (λ c κs.
     let a = c .before .before .before .before .before .before .before .before .before .before .args in
     let p = c .before .before .before .before .before .before .before .before .before .before .pre in
-    let k = c .before .before .before .before .before .before .before .kind-at in
-    let h = c .before .before .heading-at in
-    let i = kind-within (a .s .now) (a .w) (a .m .at) _ (sym (k .ensures) ∙ c .before .before .before .before .before .k .given .1) in
-    (p .0, heading-short (a .s .now) _ _ (a .m .at) (h .result) (h .ensures) i (p .2), p .1, p .2))
+    (p .0, kind-within (a .s .now) (a .w) (a .m .at) _ (sym (c .before .before .before .before .before .before .before .kind-at .ensures) ∙ c .before .before .before .before .before .k .given .1), p .1, p .2))
     (λ c. search needs)
     (λ c. search needs)
     (λ c.
     let a = c .before .before .before .before .before .before .before .before .before .before .before .before .before .args in
     let k = c .before .before .before .before .before .before .before .before .before .before .kind-at in
-    let h = c .before .before .before .before .before .heading-at in
-    let o = c .before .before .take in
-    (o .ensures .0 ∙ record-on (a .s .now) (roomOf (a .table .now)) (stateOf (a .table .now) (a .frames .now) (a .m)) (a .w) (k .result) (k .ensures) _ (h .result) (c .before .before .before .before .before .before .before .before .k .given .1) (h .ensures), o .ensures .1))
+    let o = c .before .before .long-step in
+    (o .ensures .0 ∙ record-on (a .s .now) (roomOf (a .table .now)) (stateOf (a .table .now) (a .frames .now) (a .m)) (a .w) (k .result) (k .ensures) _ _ (c .before .before .before .before .before .before .before .before .k .given .1) refl, o .ensures .1))
     (λ c.
     let a = c .before .before .before .before .before .before .args in
+    let p = c .before .before .before .before .before .before .pre in
     let k = c .before .before .before .kind-at in
-    (record-off (a .s .now) (roomOf (a .table .now)) (stateOf (a .table .now) (a .frames .now) (a .m)) (a .w) (k .result) (k .ensures) _ (c .before .k2 .given .1), c .before .before .before .before .before .before .pre .1)))
+    (record-off (a .s .now) (roomOf (a .table .now)) (stateOf (a .table .now) (a .frames .now) (a .m)) (a .w) (k .result) (k .ensures) _ (c .before .k2 .given .1), p .1)))
