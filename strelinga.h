@@ -3,8 +3,8 @@
    prints the path of. docs/EMBEDDING.md says what to lend and what is left in it.
 
    A stream is bytes and their count, a table is 32-bit words and their count, an output is bytes and their count. Any bytes and any sizes are
-   taken, none at all too. What is written must not overlap anything else that is lent, and no pointer is null, also beside a count of 0. Nothing
-   is kept after a call. */
+   taken, none at all too: beside a count of 0 the pointer may be null. Pointers to the numbers that are handed out (`place`, `rows`, ..) are never
+   null. What is written must not overlap anything else that is lent. Nothing is kept after a call. */
 #ifndef STRELINGA_H
 #define STRELINGA_H
 

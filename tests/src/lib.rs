@@ -1,11 +1,12 @@
 //! A second reader and tidier of parts lists, written from the rules alone, so
 //! that the proved one can be compared with something that shares no thought
-//! with it.
+//! with it; and a third, written for speed.
 
 pub mod asked;
 pub mod by_hand;
 pub mod cases;
 pub mod corpus;
+pub mod fast;
 pub mod generate;
 pub mod large;
 pub mod pairs;

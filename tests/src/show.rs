@@ -2,6 +2,7 @@
 //! a right reader or tidier sends back.
 
 use crate::corpus::refused;
+use crate::fast;
 use crate::reader::{read, Refusal, Reply};
 use crate::tidy::tidy;
 
@@ -49,7 +50,14 @@ pub fn littered(words: usize, room: usize) -> (Vec<u32>, Vec<u8>) {
     (vec![LITTER_WORD; words], vec![LITTER_BYTE; room])
 }
 
+type Read = fn(&[u8], &mut [u32]) -> Result<usize, Refusal>;
+type Tidy = fn(&[u8], &mut [u32], &mut [u8]) -> Result<usize, Refusal>;
+
 pub fn found(stream: &[u8], words: usize) -> Found {
+    found_by(read, stream, words)
+}
+
+fn found_by(read: Read, stream: &[u8], words: usize) -> Found {
     let (mut table, _) = littered(words, 0);
     let outcome = read(stream, &mut table);
     let answer = match &outcome {
@@ -60,6 +68,10 @@ pub fn found(stream: &[u8], words: usize) -> Found {
 }
 
 pub fn found_tidying(stream: &[u8], words: usize, room: usize) -> Found {
+    found_tidying_by(tidy, stream, words, room)
+}
+
+fn found_tidying_by(tidy: Tidy, stream: &[u8], words: usize, room: usize) -> Found {
     let (mut table, mut out) = littered(words, room);
     let outcome = tidy(stream, &mut table, &mut out);
     let answer = match &outcome {
@@ -79,6 +91,26 @@ fn is_full(refusal: &Refusal) -> bool {
 }
 
 impl Found {
+    /// What the fast reader or tidier, lent the same, answers or leaves
+    /// otherwise.
+    pub fn fast_fault(&self, stream: &[u8]) -> Option<String> {
+        let words = self.table.len();
+        let fast = match &self.out {
+            None => found_by(fast::read, stream, words),
+            Some(out) => found_tidying_by(fast::tidy, stream, words, out.len()),
+        };
+        if fast.answer != self.answer {
+            return Some(format!("fast         {}, not {}", fast.answer, self.answer));
+        }
+        let word = (0..words).find(|&at| fast.table[at] != self.table[at]);
+        let byte = (fast.out != self.out).then_some("the outputs differ");
+        let word = word.map(|at| {
+            let (fast, clear) = (fast.table[at], self.table[at]);
+            format!("fast         word {at} of the table is {fast}, not {clear}")
+        });
+        word.or(byte.map(|what| format!("fast         {what}")))
+    }
+
     pub fn line(&self) -> String {
         let mut line = format!("{} {}", self.answer, trace(&self.table));
         if let Some(out) = &self.out {

@@ -1,9 +1,12 @@
 //! The lists that are timed.
 
-use independent_reader::reader::STREAM_LIMIT;
+use independent_reader::reader::{NULL, STREAM_LIMIT};
 use independent_reader::stream::Stream;
 
 const INT32: u8 = 8;
+
+/// The number of the first object in an array that is object 1.
+const FIRST_OBJECT: i32 = 2;
 
 /// An object array whose slots each hold a typed Int32: a row each, and no
 /// object among them.
@@ -13,13 +16,33 @@ pub fn values(count: usize) -> Vec<u8> {
     (0..count).fold(start, fill).end().0
 }
 
+/// An object array of single nulls, a row each.
+pub fn nulls(count: usize) -> Vec<u8> {
+    Stream::new().objects(1, count as i32).bytes(&vec![NULL; count]).end().0
+}
+
+/// An object array whose objects are all of one class with five Int32. Every
+/// object's number and its class are looked up.
+pub fn members(count: usize) -> Vec<u8> {
+    let members = ["part", "hall", "shelf", "count", "price"].map(|name| (name, 0, &[INT32][..]));
+    let start = Stream::new().library(1, "Parts").objects(1, count as i32);
+    let fill = |stream: Stream, n: usize| {
+        let object = match n {
+            0 => stream.class(FIRST_OBJECT, "Part", &members, 1),
+            _ => stream.by_id(FIRST_OBJECT + n as i32, FIRST_OBJECT),
+        };
+        (0..5).fold(object, |object, member| object.int(n as i32 * 5 + member))
+    };
+    (0..count).fold(start, fill).end().0
+}
+
 /// A string array full of part numbers. Every string is an object whose number
 /// is looked up.
 pub fn texts(count: usize) -> Vec<u8> {
     let start = Stream::new().strings(1, count as i32);
     let fill = |stream: Stream, n: usize| {
         let text = format!("gripper jaw {n:06}, hall 7, shelf {:04}", n % 9973);
-        stream.string(n as i32 + 2, &text)
+        stream.string(FIRST_OBJECT + n as i32, &text)
     };
     (0..count).fold(start, fill).end().0
 }
@@ -30,8 +53,8 @@ pub fn references(count: usize) -> Vec<u8> {
     let half = count / 2;
     let start = Stream::new().strings(1, count as i32);
     let fill = |stream: Stream, n: usize| match n < half {
-        true => stream.string(n as i32 + 2, &format!("{n:06}")),
-        false => stream.reference((n - half) as i32 % half as i32 + 2),
+        true => stream.string(FIRST_OBJECT + n as i32, &format!("{n:06}")),
+        false => stream.reference(FIRST_OBJECT + (n - half) as i32 % half as i32),
     };
     (0..count).fold(start, fill).end().0
 }

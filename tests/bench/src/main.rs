@@ -1,7 +1,7 @@
-//! `bench DOCS LIST TAKEN`: times the proved reader and tidier beside the
-//! independent ones, in one run on the same lists, and writes the tables of
-//! DOCS/BENCHMARKS.md and the picture DOCS/growth.svg. LIST is a real list;
-//! TAKEN says where and when.
+//! `bench DOCS LIST TAKEN`: times the proved reader and tidier beside their peer,
+//! the fast ones of this folder, in one run on the same lists, and writes the
+//! tables of DOCS/BENCHMARKS.md and the picture DOCS/growth.svg. LIST is a real
+//! list; TAKEN says where and when.
 
 mod document;
 mod growth;
@@ -37,53 +37,57 @@ fn taken_line(taken: &str) -> String {
     )
 }
 
+/// Tidying a list is left out where reading it takes the proved job longer.
+const LONGEST_READING: f64 = 5.0;
+
 fn speed(real: Vec<u8>) -> String {
     let subjects = [
         ("100,000 small rows", Subject::of(lists::values(100_000))),
+        ("200,000 nulls", Subject::of(lists::nulls(200_000))),
         ("20,000 texts", Subject::of(lists::texts(20_000))),
+        ("20,000 objects", Subject::of(lists::members(20_000))),
         ("16 MiB of numbers", Subject::of(lists::numbers())),
         ("big_20000_nodes", Subject::of(real)),
     ];
     let mut text = String::from(
-        "| list | bytes | rows | job | by | time | bytes a second | rows a second |\n\
-         |---|---:|---:|---|---|---:|---:|---:|\n",
+        "| list | bytes | rows | job | proved | peer | times the peer | proved, ns a row | peer, ns a row |\n\
+         |---|---:|---:|---|---:|---:|---:|---:|---:|\n",
     );
     for (name, mut subject) in subjects {
         eprintln!("{name}");
-        let (read, tidied) = (subject.read(), subject.tidied());
-        for (job, times) in [("read", read), ("tidy", tidied)] {
-            for (by, seconds) in [("proved", times.proved), ("independent", times.independent)] {
-                text += &line(name, &subject, job, by, seconds);
-            }
-        }
+        let read = subject.read();
+        text += &line(name, &subject, "read", Some(read));
+        let tidied = (read.proved <= LONGEST_READING).then(|| subject.tidied());
+        text += &line(name, &subject, "tidy", tidied);
     }
-    text
-}
-
-fn line(name: &str, subject: &Subject, job: &str, by: &str, seconds: f64) -> String {
-    let (bytes, rows) = (subject.stream.len(), subject.rows);
-    format!(
-        "| {name} | {bytes} | {rows} | {job} | {by} | {} | {} | {} |\n",
-        timing::shown(seconds),
-        rate(bytes, seconds),
-        rate(rows, seconds)
+    text + &format!(
+        "\n\"Not run\": reading the list took the proved job more than {LONGEST_READING} s.\n"
     )
 }
 
-/// Thousands or millions a second; no rate where so little is done that it
-/// would say nothing.
-fn rate(count: usize, seconds: f64) -> String {
-    let rate = count as f64 / seconds;
-    match rate {
-        _ if seconds < SHORTEST_FOR_RATE => "–".to_string(),
-        1e7.. => format!("{:.0} M", rate / 1e6),
-        1e6.. => format!("{:.1} M", rate / 1e6),
-        1e4.. => format!("{:.0} k", rate / 1e3),
-        _ => format!("{rate:.0}"),
+fn line(name: &str, subject: &Subject, job: &str, times: Option<Times>) -> String {
+    let (bytes, rows) = (subject.stream.len(), subject.rows);
+    let times = match times {
+        None => "not run | not run | – | – | –".to_string(),
+        Some(times) => {
+            let Times { proved, peer } = times;
+            let (by_row, peer_by_row) = (a_row(proved, rows), a_row(peer, rows));
+            let (proved, peer) = (timing::shown(proved), timing::shown(peer));
+            format!("{proved} | {peer} | {} | {by_row} | {peer_by_row}", times.ratio())
+        }
+    };
+    format!("| {name} | {bytes} | {rows} | {job} | {times} |\n")
+}
+
+/// Nanoseconds a row, where there are rows enough for that to say anything.
+fn a_row(seconds: f64, rows: usize) -> String {
+    match rows {
+        FEWEST_ROWS.. => timing::short(seconds * 1e9 / rows as f64),
+        _ => "–".to_string(),
     }
 }
 
-const SHORTEST_FOR_RATE: f64 = 1e-5;
+const FEWEST_ROWS: usize = 1_000;
 
 /// Both jobs of both programs.
 #[derive(Clone, Copy)]

@@ -18,7 +18,7 @@ const SECOND_NAMES: [&str; 8] =
 const ROW_NAMES: [&str; 4] = ["1,000", "10,000", "100,000", "1,000,000"];
 
 const COLOURS: [&str; 2] = ["#1f6f8b", "#c8553d"];
-const DASHES: [(&str, &str); 2] = [("proved", "none"), ("independent", "5 4")];
+const DASHES: [(&str, &str); 2] = [("proved", "none"), ("peer", "5 4")];
 
 type Job = fn(&Point) -> Option<Times>;
 
@@ -80,9 +80,9 @@ fn panel(name: &str, left: f64) -> String {
     svg + &text(left + PANEL.0 / 2.0, bottom + 38.0, "middle", "rows")
 }
 
-/// The proved job's line and the independent one's.
+/// The proved job's line and the peer's.
 fn lines(times: &[(usize, Times)], colour: &str, left: f64) -> String {
-    let of: [fn(&Times) -> f64; 2] = [|times| times.proved, |times| times.independent];
+    let of: [fn(&Times) -> f64; 2] = [|times| times.proved, |times| times.peer];
     let mut svg = String::new();
     for (seconds, (_, dash)) in of.into_iter().zip(DASHES) {
         let at = |(rows, times): &(usize, Times)| (x(*rows as f64, left), y(seconds(times)));

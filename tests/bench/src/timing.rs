@@ -1,18 +1,26 @@
 //! Times both readers and both tidiers on one list, and holds what they leave
 //! against each other.
 
-use independent_reader::reader::{read_records, ROW_WORDS};
-use independent_reader::tidy::copy_of;
+use independent_reader::fast;
+use independent_reader::reader::{Reply, ROW_WORDS};
 
 pub const MOST_TURNS: usize = 7;
 
 /// No further turn is begun after so many seconds.
 pub const TIME_FOR_TURNS: f64 = 2.0;
 
+const FIRST_ROWS: usize = 1_024;
+
 #[derive(Clone, Copy)]
 pub struct Times {
     pub proved: f64,
-    pub independent: f64,
+    pub peer: f64,
+}
+
+impl Times {
+    pub fn ratio(&self) -> String {
+        short(self.proved / self.peer)
+    }
 }
 
 /// A list with a table and an output that just fit, written before, so that
@@ -26,9 +34,7 @@ pub struct Subject {
 
 impl Subject {
     pub fn of(stream: Vec<u8>) -> Subject {
-        let reading = read_records(&stream, usize::MAX).expect("the list is good");
-        let rows = reading.records.len();
-        let length = copy_of(&reading).len();
+        let (rows, length) = sizes(&stream);
         Subject { table: vec![1; rows * ROW_WORDS], out: vec![1; length], rows, stream }
     }
 
@@ -40,10 +46,9 @@ impl Subject {
         });
         let left = table.clone();
         table.fill(1);
-        let independent =
-            best(|| assert_eq!(independent_reader::read(stream, table), Ok(*rows), "read"));
+        let peer = best(|| assert_eq!(fast::read(stream, table), Ok(*rows), "read"));
         assert!(left == *table, "the readers leave different tables");
-        Times { proved, independent }
+        Times { proved, peer }
     }
 
     pub fn tidied(&mut self) -> Times {
@@ -56,11 +61,26 @@ impl Subject {
         let left = (table.clone(), out.clone());
         table.fill(1);
         out.fill(1);
-        let independent =
-            best(|| assert_eq!(independent_reader::tidy(stream, table, out), Ok(length), "tidy"));
+        let peer = best(|| assert_eq!(fast::tidy(stream, table, out), Ok(length), "tidy"));
         assert!(left.0 == *table && left.1 == *out, "the tidiers leave different memory");
-        Times { proved, independent }
+        Times { proved, peer }
     }
+}
+
+/// The rows of a list and the length of its copy.
+fn sizes(stream: &[u8]) -> (usize, usize) {
+    let mut table = vec![0; FIRST_ROWS * ROW_WORDS];
+    let rows = loop {
+        match fast::read(stream, &mut table) {
+            Ok(rows) => break rows,
+            Err(refusal) if refusal.number == Reply::NoRoom as u32 => {
+                table = vec![0; 2 * table.len()];
+            }
+            Err(refusal) => panic!("the list is refused: {refusal:?}"),
+        }
+    };
+    let full = fast::tidy(stream, &mut table, &mut []).expect_err("a copy has bytes");
+    (rows, full.needed)
 }
 
 fn best(mut turn: impl FnMut()) -> f64 {
@@ -103,5 +123,14 @@ pub fn shown(seconds: f64) -> String {
         1.0.. => format!("{seconds:.2} s"),
         1e-3.. => format!("{:.2} ms", seconds * 1e3),
         _ => format!("{:.1} µs", seconds * 1e6),
+    }
+}
+
+/// With a digit behind the point where that is worth it.
+pub fn short(number: f64) -> String {
+    match number {
+        ..0.1 => format!("{number:.5}"),
+        ..10.0 => format!("{number:.1}"),
+        _ => format!("{number:.0}"),
     }
 }

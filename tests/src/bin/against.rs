@@ -1,9 +1,9 @@
 //! `against RUN.. [--seed N] [--count N] [--lists FOLDER] [--linked PROGRAM]`:
 //! compares the proved jobs with the independent ones, stream by stream:
 //! answer, place or length, every word of the table and every byte of the
-//! output. RUN with its words runs the comparing program whose name comes after
-//! them. PROGRAM has the C forms linked; it compares pairs, shows texts and
-//! takes large streams.
+//! output; and the fast ones with the independent ones, on the same. RUN with
+//! its words runs the comparing program whose name comes after them. PROGRAM has
+//! the C forms linked; it compares pairs, shows texts and takes large streams.
 
 use independent_reader::asked::{ask, Asked};
 use independent_reader::cases::{self, Case};
@@ -195,6 +195,7 @@ fn compare_reading(program: &[String], cases: &[Case], report: &mut Report) -> R
         report.read.count(&found.outcome);
         report.sizes.count_table(case.words, &found.outcome);
         let mut faults = differing(&found.line(), line);
+        faults.extend(found.fast_fault(&case.stream));
         faults.extend(against_known(case, &found, line));
         note(report, &case.what, &[&case.stream], &[case.words], &faults);
     }
@@ -219,6 +220,7 @@ fn compare_tidying(
         report.tidied.count(&found.outcome);
         report.sizes.count_output(one.room, &found.outcome);
         let mut faults = differing(&found.line(), line);
+        faults.extend(found.fast_fault(&one.stream));
         faults.extend(copies.fault(one, &found, line, report));
         note(report, &one.what, &[&one.stream], &[one.words, one.room], &faults);
     }

@@ -1,0 +1,139 @@
+/* Calls each job of strelinga.h with null pointers beside counts of 0: each lent part by itself, every choice of several, and all at once. Holds the
+   replies, the numbers handed out and every byte of what is lent against the rules. Prints how many calls there were; ends with 1 at the first
+   that is answered otherwise. */
+#include <stdio.h>
+#include <stdlib.h>
+#include <string.h>
+#include "../strelinga.h"
+
+#define LIMIT 16777216
+#define WORDS 40
+#define ROOM 40
+#define LITTER 0xA5
+
+/* A header, the text 12E5 and an end. It is its own tidy copy. */
+static const uint8_t list[] = {0, 1, 0, 0, 0, 1, 0, 0, 0, 1, 0, 0, 0, 0, 0, 0, 0, 6, 1, 0, 0, 0, 4, '1', '2', 'E', '5', 11};
+static const uint32_t reading[] = {0, 0, 17, 1, 0, 0, 2, 0, 6, 17, 27, 1, 0, 0, 0, 0, 11, 27, 28, 0, 0, 0, 0, 0};
+
+static uint8_t too_large[LIMIT + 1];
+static uint32_t table[WORDS];
+static uint8_t first[ROOM], second[ROOM];
+static uint64_t handed[4];
+static unsigned calls;
+
+static void prepare(void) {
+    memset(table, LITTER, sizeof table);
+    memset(first, LITTER, sizeof first);
+    memset(second, LITTER, sizeof second);
+    memset(handed, LITTER, sizeof handed);
+    calls++;
+}
+
+static void hold(int good, const char *job, unsigned nulls) {
+    if (!good) {
+        printf("%s, null pointers %u: answered or left otherwise\n", job, nulls);
+        exit(1);
+    }
+}
+
+/* The table: a null one is not touched, else it is the reading or all zero. */
+static int table_is(int lent, int read) {
+    for (size_t at = 0; at < WORDS; at++) {
+        uint32_t word = read && at < sizeof reading / sizeof reading[0] ? reading[at] : 0;
+        if (table[at] != (lent ? word : 0xA5A5A5A5u)) {
+            return 0;
+        }
+    }
+    return 1;
+}
+
+/* An output: the copy in front or not, and behind it what was there. */
+static int output_is(const uint8_t *out, int written) {
+    for (size_t at = 0; at < ROOM; at++) {
+        if (out[at] != (written && at < sizeof list ? list[at] : LITTER)) {
+            return 0;
+        }
+    }
+    return 1;
+}
+
+static int handed_are(uint64_t a, uint64_t b, uint64_t c, uint64_t d) {
+    return handed[0] == a && handed[1] == b && handed[2] == c && handed[3] == d;
+}
+
+#define UNTOUCHED 0xA5A5A5A5A5A5A5A5u
+#define IS_NULL(bit) (nulls >> (bit) & 1)
+#define LENT(bit, pointer) (IS_NULL(bit) ? NULL : (pointer))
+#define COUNT(bit, count) (IS_NULL(bit) ? 0 : (count))
+
+static void reads(unsigned nulls) {
+    prepare();
+    uint32_t reply = strelinga_read(LENT(0, list), COUNT(0, sizeof list), LENT(1, table), COUNT(1, WORDS), &handed[0], &handed[1]);
+    uint32_t right = IS_NULL(0) ? STRELINGA_CUT_SHORT : IS_NULL(1) ? STRELINGA_NO_ROOM : STRELINGA_DONE;
+    hold(reply == right && handed_are(0, right ? 0 : 3, UNTOUCHED, UNTOUCHED) && table_is(!IS_NULL(1), !right), "read", nulls);
+}
+
+static void views(unsigned nulls, uint64_t row) {
+    prepare();
+    memset(table, 0, sizeof table);
+    memcpy(table, reading, sizeof reading);
+    uint32_t reply = strelinga_row_question(LENT(0, list), COUNT(0, sizeof list), LENT(1, table), COUNT(1, WORDS), row);
+    uint32_t right = nulls || row != 1 ? STRELINGA_NO_SUCH_ROW : STRELINGA_DONE;
+    hold(reply == right && table_is(1, 1), "row question", nulls);
+    calls++;
+    reply = strelinga_text_view(LENT(0, list), COUNT(0, sizeof list), LENT(1, table), COUNT(1, WORDS), row, &handed[0], &handed[1]);
+    hold(reply == right && handed_are(right ? 0 : 23, right ? 0 : 4, UNTOUCHED, UNTOUCHED) && table_is(1, 1), "text view", nulls);
+}
+
+static void tidies(unsigned nulls) {
+    prepare();
+    uint32_t reply = strelinga_tidy(LENT(0, list), COUNT(0, sizeof list), LENT(1, table), COUNT(1, WORDS), LENT(2, first), COUNT(2, ROOM),
+                                    &handed[0], &handed[1]);
+    uint32_t right = IS_NULL(0) ? STRELINGA_CUT_SHORT : IS_NULL(1) ? STRELINGA_NO_ROOM : IS_NULL(2) ? STRELINGA_OUT_FULL : STRELINGA_DONE;
+    uint64_t length = right == STRELINGA_DONE || right == STRELINGA_OUT_FULL ? sizeof list : 0;
+    hold(reply == right && handed_are(0, length, UNTOUCHED, UNTOUCHED) && table_is(!IS_NULL(1), !right) && output_is(first, !right), "tidy", nulls);
+}
+
+static void compares(unsigned nulls) {
+    prepare();
+    uint32_t reply = strelinga_say_the_same(LENT(0, list), COUNT(0, sizeof list), LENT(1, list), COUNT(1, sizeof list), LENT(2, table),
+                                            COUNT(2, WORDS), LENT(3, first), COUNT(3, ROOM), LENT(4, second), COUNT(4, ROOM), &handed[0],
+                                            &handed[1], &handed[2], &handed[3]);
+    uint32_t of_first = IS_NULL(0) ? STRELINGA_CUT_SHORT : IS_NULL(2) ? STRELINGA_NO_ROOM : IS_NULL(3) ? STRELINGA_OUT_FULL : STRELINGA_DONE;
+    uint32_t of_second = IS_NULL(1) ? STRELINGA_CUT_SHORT : IS_NULL(4) ? STRELINGA_OUT_FULL : STRELINGA_DONE;
+    uint32_t right = of_first ? of_first : of_second;
+    uint64_t which = of_first ? 1 : of_second ? 2 : 0;
+    uint64_t needed = right == STRELINGA_OUT_FULL ? sizeof list : 0;
+    hold(reply == right && handed_are(!right, which, 0, needed) && table_is(!IS_NULL(2), !right) && output_is(first, !of_first) &&
+             output_is(second, !right),
+         "say the same", nulls);
+}
+
+/* A stream over the limit, beside no table and no output. */
+static void refuses_too_large(void) {
+    prepare();
+    uint32_t reply = strelinga_read(too_large, sizeof too_large, NULL, 0, &handed[0], &handed[1]);
+    hold(reply == STRELINGA_TOO_LARGE && handed_are(0, 0, UNTOUCHED, UNTOUCHED), "read, too large", 2);
+    prepare();
+    reply = strelinga_tidy(too_large, sizeof too_large, NULL, 0, NULL, 0, &handed[0], &handed[1]);
+    hold(reply == STRELINGA_TOO_LARGE && handed_are(0, 0, UNTOUCHED, UNTOUCHED), "tidy, too large", 6);
+}
+
+int main(void) {
+    static const uint64_t rows[] = {0, 1, 2, WORDS / 8, UINT64_MAX};
+    for (unsigned nulls = 0; nulls < 4; nulls++) {
+        reads(nulls);
+        for (size_t at = 0; at < sizeof rows / sizeof rows[0]; at++) {
+            views(nulls, rows[at]);
+        }
+    }
+    for (unsigned nulls = 0; nulls < 8; nulls++) {
+        tidies(nulls);
+    }
+    for (unsigned nulls = 0; nulls < 32; nulls++) {
+        compares(nulls);
+    }
+    refuses_too_large();
+    printf("%u calls\n", calls);
+    return 0;
+}

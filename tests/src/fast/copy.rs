@@ -1,0 +1,268 @@
+//! The tidy copy, record by record from the rows of the reading: measured first,
+//! then written.
+
+use super::classes::Firsts;
+use super::found::{Found, Use};
+use crate::reader::*;
+
+/// Bytes of a kind and a number.
+const HEAD: usize = 5;
+
+/// Takes the bytes of the copy in order: those of the stream that are kept, and
+/// others.
+pub trait Sink {
+    fn keep(&mut self, from: usize, to: usize);
+    fn put<const N: usize>(&mut self, bytes: [u8; N]);
+    fn put_all(&mut self, bytes: &[u8]);
+}
+
+#[derive(Default)]
+pub struct Length {
+    pub bytes: usize,
+}
+
+impl Sink for Length {
+    #[inline]
+    fn keep(&mut self, from: usize, to: usize) {
+        self.bytes += to - from;
+    }
+
+    #[inline]
+    fn put<const N: usize>(&mut self, _: [u8; N]) {
+        self.bytes += N;
+    }
+
+    fn put_all(&mut self, bytes: &[u8]) {
+        self.bytes += bytes.len();
+    }
+}
+
+/// Kept bytes that lie side by side are copied at once.
+pub struct Output<'o> {
+    stream: &'o [u8],
+    out: &'o mut [u8],
+    at: usize,
+    kept: (usize, usize),
+}
+
+impl<'o> Output<'o> {
+    pub fn new(stream: &'o [u8], out: &'o mut [u8]) -> Output<'o> {
+        Output { stream, out, at: 0, kept: (0, 0) }
+    }
+
+    #[inline]
+    fn flush(&mut self) {
+        let (from, to) = self.kept;
+        if from < to {
+            self.kept = (to, to);
+            self.write(&self.stream[from..to]);
+        }
+    }
+
+    #[inline]
+    fn write(&mut self, bytes: &[u8]) {
+        self.out[self.at..self.at + bytes.len()].copy_from_slice(bytes);
+        self.at += bytes.len();
+    }
+}
+
+impl Sink for Output<'_> {
+    #[inline]
+    fn keep(&mut self, from: usize, to: usize) {
+        if from != self.kept.1 {
+            self.flush();
+            self.kept.0 = from;
+        }
+        self.kept.1 = to;
+    }
+
+    #[inline]
+    fn put<const N: usize>(&mut self, bytes: [u8; N]) {
+        self.flush();
+        self.write(&bytes);
+    }
+
+    fn put_all(&mut self, bytes: &[u8]) {
+        self.flush();
+        self.write(bytes);
+    }
+}
+
+pub struct Walk<'n, 'a, S> {
+    found: &'n Found<'a>,
+    firsts: &'n Firsts,
+    sink: S,
+    /// Objects so far, objects of classes so far, and uses so far.
+    number: u32,
+    class_objects: usize,
+    uses: usize,
+    /// Nulls that are not yet written, and whose slots they fill.
+    nulls: u32,
+    owner: u32,
+    /// By library: its number once it is written, else 0.
+    library_numbers: Vec<u32>,
+    last_library: u32,
+}
+
+impl<'n, 'a, S: Sink> Walk<'n, 'a, S> {
+    pub fn new(found: &'n Found<'a>, firsts: &'n Firsts, sink: S) -> Walk<'n, 'a, S> {
+        Walk {
+            found,
+            firsts,
+            sink,
+            number: 0,
+            class_objects: 0,
+            uses: 0,
+            nulls: 0,
+            owner: 0,
+            library_numbers: vec![0; found.libraries.len()],
+            last_library: 0,
+        }
+    }
+
+    pub fn over(mut self, rows: &[u32]) -> S {
+        for row in rows.chunks_exact(ROW_WORDS) {
+            let &[kind, offset, end, id, owner, _, _, count] = row else { continue };
+            match kind as u8 {
+                LIBRARY => continue,
+                NULL | SHORT_RUN | LONG_RUN => self.hold_nulls(owner, count),
+                kind => {
+                    self.write_nulls();
+                    self.record(kind, offset as usize, end as usize, id as i32);
+                }
+            }
+        }
+        self.sink
+    }
+
+    /// Runs of one owner with nothing written between them lie side by side.
+    #[inline]
+    fn hold_nulls(&mut self, owner: u32, count: u32) {
+        if owner != self.owner {
+            self.write_nulls();
+            self.owner = owner;
+        }
+        self.nulls += count;
+    }
+
+    #[inline]
+    fn write_nulls(&mut self) {
+        match std::mem::take(&mut self.nulls) {
+            0 => {}
+            1 => self.sink.put([NULL]),
+            count @ 2..=255 => self.sink.put([SHORT_RUN, count as u8]),
+            count => self.head(LONG_RUN, count),
+        }
+    }
+
+    #[inline]
+    fn record(&mut self, kind: u8, offset: usize, end: usize, id: i32) {
+        match kind {
+            TYPED_PRIMITIVE | MEMBER_VALUE => self.sink.keep(offset, end),
+            REFERENCE => self.head(REFERENCE, self.number_of(id)),
+            CLASS_BY_ID => {
+                self.number += 1;
+                let first = self.next_class();
+                self.later_object(first);
+            }
+            SYSTEM_CLASS | CLASS => {
+                self.number += 1;
+                match self.next_class() {
+                    first if first < self.number => self.later_object(first),
+                    _ => self.naming_libraries(kind, offset, end),
+                }
+            }
+            BINARY_ARRAY => {
+                self.number += 1;
+                self.naming_libraries(kind, offset, end);
+            }
+            HEADER => self.header(self.number_of(id)),
+            END => self.sink.put([END]),
+            _ => {
+                self.number += 1;
+                self.head(kind, self.number);
+                self.sink.keep(offset + HEAD, end);
+            }
+        }
+    }
+
+    /// The number of the object that an id names.
+    #[inline]
+    fn number_of(&self, id: i32) -> u32 {
+        self.found.objects.get(id).map_or(0, |object| object.number)
+    }
+
+    /// The number of the first object of the next object's class.
+    #[inline]
+    fn next_class(&mut self) -> u32 {
+        let class = self.found.class_of[self.class_objects];
+        self.class_objects += 1;
+        self.firsts.classes[class as usize]
+    }
+
+    #[inline]
+    fn head(&mut self, kind: u8, number: u32) {
+        let [a, b, c, d] = number.to_le_bytes();
+        self.sink.put([kind, a, b, c, d]);
+    }
+
+    fn header(&mut self, root: u32) {
+        self.head(HEADER, root);
+        for number in [root, 1, 0] {
+            self.sink.put(number.to_le_bytes());
+        }
+    }
+
+    #[inline]
+    fn later_object(&mut self, first: u32) {
+        self.head(CLASS_BY_ID, self.number);
+        self.sink.put(first.to_le_bytes());
+    }
+
+    /// A record whose types or class name libraries, behind those that it is
+    /// the first to need.
+    fn naming_libraries(&mut self, kind: u8, offset: usize, end: usize) {
+        let found = self.found;
+        let rest = &found.uses[self.uses..];
+        let before = rest.iter().take_while(|one| one.place < offset).count();
+        let own = rest[before..].iter().take_while(|one| one.place < end).count();
+        let uses = &rest[before..before + own];
+        self.uses += before + own;
+        uses.iter().for_each(|one| self.need(one));
+        self.head(kind, self.number);
+        let mut from = offset + HEAD;
+        for one in uses {
+            self.sink.keep(from, one.place);
+            self.sink.put(self.library_numbers[self.first(one)].to_le_bytes());
+            from = one.place + 4;
+        }
+        self.sink.keep(from, end);
+    }
+
+    fn first(&self, one: &Use) -> usize {
+        self.firsts.libraries[one.library as usize] as usize
+    }
+
+    /// Writes the library record unless an equal name has one already.
+    fn need(&mut self, one: &Use) {
+        let library = self.first(one);
+        if self.library_numbers[library] > 0 {
+            return;
+        }
+        self.last_library += 1;
+        self.library_numbers[library] = self.last_library;
+        self.head(LIBRARY, self.last_library);
+        let name = self.found.libraries[library];
+        self.prefix(name.len());
+        self.sink.put_all(name);
+    }
+
+    fn prefix(&mut self, length: usize) {
+        let mut rest = length;
+        while rest > 0x7F {
+            self.sink.put([rest as u8 | 0x80]);
+            rest >>= 7;
+        }
+        self.sink.put([rest as u8]);
+    }
+}

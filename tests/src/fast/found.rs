@@ -1,0 +1,63 @@
+//! What a reading finds besides the rows, for the copy.
+
+use super::ids::Ids;
+
+pub struct Found<'a> {
+    pub rows: usize,
+    /// Rows of objects; an object's number is its place in record order.
+    pub objects: Ids,
+    /// Places in `classes`.
+    pub class_ids: Ids,
+    pub classes: Vec<Class>,
+    /// For each object of a class, in record order, the place of its class.
+    pub class_of: Vec<u32>,
+    /// Places in `libraries`.
+    pub library_ids: Ids,
+    /// The names.
+    pub libraries: Vec<&'a [u8]>,
+    /// In the order of the stream.
+    pub uses: Vec<Use>,
+    /// Rows of references whose targets were not yet there.
+    pub forward: Vec<usize>,
+}
+
+/// A record of kind 4 or 5.
+#[derive(Clone, Copy)]
+pub struct Class {
+    pub row: u32,
+    /// Of the object that the record is.
+    pub number: u32,
+    pub count: u32,
+    /// Where the types of its slots stand.
+    pub types: usize,
+    /// The bytes from its name to its last info.
+    pub from: usize,
+    pub to: usize,
+    /// Its uses of libraries, the last its own where it has one.
+    pub first_use: usize,
+    pub last_use: usize,
+    pub is_system: bool,
+}
+
+/// A LibraryId in a class or type.
+#[derive(Clone, Copy)]
+pub struct Use {
+    pub place: usize,
+    pub library: u32,
+}
+
+impl Found<'_> {
+    pub fn new() -> Self {
+        Found {
+            rows: 0,
+            objects: Ids::new(),
+            class_ids: Ids::new(),
+            classes: Vec::new(),
+            class_of: Vec::new(),
+            library_ids: Ids::new(),
+            libraries: Vec::new(),
+            uses: Vec::new(),
+            forward: Vec::new(),
+        }
+    }
+}

@@ -1,0 +1,56 @@
+//! The fast reader and tidier answer and leave what the clear ones do.
+
+use crate::cases::{by_hand, generated, lists, Case};
+use crate::large::large;
+use crate::show::{found, found_tidying};
+use crate::tidying::{of_case, repacked, Tidying};
+use std::path::Path;
+
+fn agrees_on(cases: &[Case]) {
+    for case in cases {
+        let clear = found(&case.stream, case.words);
+        assert_eq!(clear.fast_fault(&case.stream), None, "{}", case.what);
+        agrees_in_tidying(&of_case(case));
+    }
+}
+
+fn agrees_in_tidying(tidyings: &[Tidying]) {
+    for one in tidyings {
+        let clear = found_tidying(&one.stream, one.words, one.room);
+        assert_eq!(clear.fast_fault(&one.stream), None, "{}", one.what);
+    }
+}
+
+fn real_lists() -> Vec<Case> {
+    lists(&Path::new(env!("CARGO_MANIFEST_DIR")).join("lists")).unwrap()
+}
+
+#[test]
+fn on_streams_by_hand() {
+    agrees_on(&by_hand());
+}
+
+#[test]
+fn on_generated_streams() {
+    agrees_on(&generated(11, 4_000, &real_lists()));
+}
+
+#[test]
+fn on_real_lists_and_packings_of_them() {
+    let lists = real_lists();
+    agrees_on(&lists);
+    agrees_in_tidying(&repacked(11, 200, &lists));
+}
+
+#[test]
+fn on_large_streams() {
+    agrees_on(&large(&real_lists()));
+}
+
+/// The longest list with a row for each byte.
+#[test]
+fn on_the_longest_list_whole() {
+    let longest = real_lists().into_iter().max_by_key(|list| list.stream.len()).unwrap();
+    let words = 8 * longest.stream.len();
+    agrees_on(&[Case { words, ..longest }]);
+}
