@@ -1,5 +1,6 @@
 -- What a user can be taught to trust.
 pub mod Readings
+pub mod Records
 pub mod Copies
 pub mod Settled
 pub mod Calls
