@@ -4,4 +4,5 @@ pub mod Records
 pub mod Copies
 pub mod Settled
 pub mod Calls
+pub mod Tidyings
 pub mod Examples
