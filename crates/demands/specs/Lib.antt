@@ -5,4 +5,5 @@ pub mod Copies
 pub mod Settled
 pub mod Calls
 pub mod Tidyings
+pub mod Texts
 pub mod Examples
