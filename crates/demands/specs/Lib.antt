@@ -6,4 +6,6 @@ pub mod Settled
 pub mod Calls
 pub mod Tidyings
 pub mod Texts
+pub mod Jobs
 pub mod Examples
+pub mod Wrong
