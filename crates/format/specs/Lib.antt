@@ -14,10 +14,12 @@ pub mod View
 pub mod Contents
 pub mod Grammar
 pub mod Says
+pub mod Meant
 pub mod Tidy
 pub mod Promises
 pub mod Examples
 pub mod Fields
 pub mod CounterExamples
 pub mod Lists
+pub mod Meanings
 pub mod Allowed

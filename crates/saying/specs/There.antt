@@ -30,7 +30,8 @@ use Rattle.strings.specs.Laws.{string-round}
 use Rattle.codes.specs.Codes.{primitive-number}
 use Rattle.codes.specs.Ends.{code-end, name-end, library-end}
 use Rattle.laws.specs.Fields.{positive-bits, length-numbers-bytes}
-use Rattle.saying.specs.Said.{named, namedAll, classOfAll, saidBy}
+use Rattle.format.specs.Meant.{named, namedAll, classOfAll}
+use Rattle.saying.specs.Said.{saidBy}
 use Rattle.saying.specs.Good.{slotsOf}
 use Rattle.saying.specs.Order.{place-inside, item-there}
 
