@@ -6,6 +6,8 @@ pub mod Settled
 pub mod Calls
 pub mod Tidyings
 pub mod Texts
+pub mod Exactly
 pub mod Jobs
 pub mod Examples
 pub mod Wrong
+pub mod Lost

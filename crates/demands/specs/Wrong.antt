@@ -35,6 +35,7 @@ use Rattle.demands.specs.Calls.{tabled}
 use Rattle.demands.specs.Examples.{bytes, bytes-are, run7, reads-2, reads-sevens, reads-7, none-empty, same-sevens, not-same-7}
 use Rattle.demands.specs.Records.{recFrom, recordsIn, records-are}
 use Rattle.demands.specs.Texts.{shown-rows, shownIn}
+use Rattle.demands.specs.Exactly.{same-meant, meant-small}
 use Rattle.demands.specs.Jobs.{Reader, Demand2, Filler, Demand2Table, TableRule, Copier, Within, Demand3, Tidier, writtenIn, Demand3Job}
 
 -- ---- the witnesses
@@ -107,20 +108,20 @@ lengths : ((length (tidyOf (says case2 rows2)) ≡ 28) × ((length (tidyOf (says
 unfolding rowsOf tidyOf tidyRecords squeeze waiting written runOf pack afterWhat recordsOf encs enc says nodesFrom nodesOf spread whatFrom orderOf objectsIn stringAt textAt wellFormed after stepOf leadOf hiOf loOf needOf groupsOf prefixIn leBytes le hexOnto
 lengths = ((refl, (refl, refl)), (refl, refl))
 
-small-2 : Within case2 rows2
-small-2 = omega (arith, lengths .0 .0)
+small-2 : Within reads-2
+small-2 = meant-small reads-2 (omega (arith, lengths .0 .0))
 
-small-sevens : Within sevens rows27
-small-sevens = omega (arith, lengths .0 .1 .0)
+small-sevens : Within reads-sevens
+small-sevens = meant-small reads-sevens (omega (arith, lengths .0 .1 .0))
 
-small-7 : Within run7 rows7
-small-7 = omega (arith, lengths .0 .1 .1)
+small-7 : Within reads-7
+small-7 = meant-small reads-7 (omega (arith, lengths .0 .1 .1))
 
-small-two : Within (twoStrings 2) (two 2)
-small-two = omega (arith, lengths .1 .0)
+small-two : Within reads-two
+small-two = meant-small reads-two (omega (arith, lengths .1 .0))
 
-small-three : Within (twoStrings 3) (two 3)
-small-three = omega (arith, lengths .1 .1)
+small-three : Within reads-three
+small-three = meant-small reads-three (omega (arith, lengths .1 .1))
 
 -- ---- readers
 
@@ -177,7 +178,8 @@ table-fixed-rows fixed = table-one-row-set _ fixed (λ s t n e. refl)
 -- one copy for all lists that have readings
 pub one-copy : (job : Copier) (copy : List ℕ) → ((s : List ℕ) (rows : List Row) → Reading s rows → job s ≡ copy) → Demand3 job → ⊥
 one-copy job copy one demand =
-    not-same-7 (demand .same case2 bytes-2 rows2 reads-2 small-2 run7 bytes-7 rows7 reads-7 small-7 .1 (one case2 rows2 reads-2 ∙ sym (one run7 rows7 reads-7)))
+    let e = one case2 rows2 reads-2 ∙ sym (one run7 rows7 reads-7) in
+    not-same-7 (same-meant reads-2 reads-7 .1 (demand .same case2 bytes-2 rows2 reads-2 small-2 run7 bytes-7 rows7 reads-7 small-7 .1 e))
 
 pub fixed-copy : (copy : List ℕ) → Demand3 (λ s. copy) → ⊥
 fixed-copy copy = one-copy (λ s. copy) copy (λ s rows w. refl)
@@ -190,7 +192,8 @@ no-copy = fixed-copy []
 pub list-itself : Demand3 (λ s. s) → ⊥
 unfolding leBytes hexOnto
 list-itself demand =
-    let e : case2 ≡ sevens = demand .same case2 bytes-2 rows2 reads-2 small-2 sevens bytes-sevens rows27 reads-sevens small-sevens .0 same-sevens in
+    let means = same-meant reads-2 reads-sevens .0 same-sevens in
+    let e : case2 ≡ sevens = demand .same case2 bytes-2 rows2 reads-2 small-2 sevens bytes-sevens rows27 reads-sevens small-sevens .0 means in
     let z : _≡_ {A = ℕ} 1 7 = ap (λ (l : List ℕ). getD l 1 0) e in
     omega arith
 
@@ -224,13 +227,14 @@ writes-nothing job leaves demand = go 16777216 (omega arith)
         let l : length d ≡ n = length-replicate {A = ℕ} n 255 in
         let x = demand rowEach row-each d (omega arith) .taken case2 bytes-2 rows2 reads-2 small-2 in
         let q = job case2 (rowEach case2) d .0 in
-        none-left q n (x .0) (subst (λ (e : List ℕ). Reading (writtenIn q e) (x .0)) (leaves case2 (rowEach case2) d) (x .1))
+        none-left q n (x .copies) (subst (λ (e : List ℕ). Reading (writtenIn q e) (x .copies)) (leaves case2 (rowEach case2) d) (x .reads))
 
 -- in full, with any answer and any table
 abbrev pub nothingWritten : (List ℕ → List ℕ → List ℕ → TidyAnswer) → (List ℕ → List ℕ → List ℕ → List ℕ) → Tidier
 nothingWritten answer table s t d = (answer s t d, (table s t d, d))
 
-pub nothing-written : (answer : List ℕ → List ℕ → List ℕ → TidyAnswer) (table : List ℕ → List ℕ → List ℕ → List ℕ) → Demand3Job (nothingWritten answer table) → ⊥
+pub nothing-written : (answer : List ℕ → List ℕ → List ℕ → TidyAnswer) (table : List ℕ → List ℕ → List ℕ → List ℕ)
+    → Demand3Job (nothingWritten answer table) → ⊥
 nothing-written answer table = writes-nothing (nothingWritten answer table) (λ s t d. refl)
 
 -- one copy at the front of every output
@@ -258,26 +262,33 @@ later-ids : (drop 1 (idsOf (map (recFrom (twoStrings 2)) (two 2))) ≡ 2 ∷ [])
 unfolding rowsOf recFrom
 later-ids = (refl, refl)
 
+-- a job that meets demand 3 has one copy of both
+one-for-two : (job : Copier) → Demand3 job → job (twoStrings 2) ≡ job (twoStrings 3)
+one-for-two job demand =
+    demand .same (twoStrings 2) bytes-two (two 2) reads-two small-two (twoStrings 3) bytes-three (two 3) reads-three small-three .0
+    (same-meant reads-two reads-three .0 same-two)
+
 pub first-object-only : (job : Copier) → KeepsLater job → Demand3 job → ⊥
 first-object-only job keeps demand =
     let x = demand .taken (twoStrings 2) bytes-two (two 2) reads-two small-two in
-    let e : job (twoStrings 2) ≡ job (twoStrings 3) =
-    demand .same (twoStrings 2) bytes-two (two 2) reads-two small-two (twoStrings 3) bytes-three (two 3) reads-three small-three .0 same-two in
-    let a : drop 1 (idsOf (recordsIn (x .1))) ≡ 2 ∷ [] =
-    keeps (twoStrings 2) (two 2) reads-two (x .0) (x .1) ∙ (ap (λ (l : List Rec). drop 1 (idsOf l)) (records-are reads-two) ∙ later-ids .0) in
-    let f : (c : Reading (job (twoStrings 3)) (x .0)) → drop 1 (idsOf (recordsIn c)) ≡ 3 ∷ [] =
-    λ c. keeps (twoStrings 3) (two 3) reads-three (x .0) c ∙ (ap (λ (l : List Rec). drop 1 (idsOf l)) (records-are reads-three) ∙ later-ids .1) in
-    let g : (c : Reading (job (twoStrings 2)) (x .0)) → drop 1 (idsOf (recordsIn c)) ≡ 3 ∷ [] =
-    subst (λ (l : List ℕ). (c : Reading l (x .0)) → drop 1 (idsOf (recordsIn c)) ≡ 3 ∷ []) (sym e) f in
-    let b : drop 1 (idsOf (recordsIn (x .1))) ≡ 3 ∷ [] = g (x .1) in
-    let z : _≡_ {A = ℕ} 2 3 = ap (λ (l : List ℕ). getD l 0 0) (sym a ∙ b) in
+    let copies = x .copies in
+    let later : List Rec → List ℕ = λ l. drop 1 (idsOf l) in
+    let a : drop 1 (idsOf (recordsIn (x .reads))) ≡ 2 ∷ [] =
+    keeps (twoStrings 2) (two 2) reads-two copies (x .reads) ∙ (ap later (records-are reads-two) ∙ later-ids .0) in
+    let f : (c : Reading (job (twoStrings 3)) copies) → drop 1 (idsOf (recordsIn c)) ≡ 3 ∷ [] =
+    λ c. keeps (twoStrings 3) (two 3) reads-three copies c ∙ (ap later (records-are reads-three) ∙ later-ids .1) in
+    let g : (c : Reading (job (twoStrings 2)) copies) → drop 1 (idsOf (recordsIn c)) ≡ 3 ∷ [] =
+    subst (λ (l : List ℕ). (c : Reading l copies) → drop 1 (idsOf (recordsIn c)) ≡ 3 ∷ []) (sym (one-for-two job demand)) f in
+    let z : _≡_ {A = ℕ} 2 3 = ap (λ (l : List ℕ). getD l 0 0) (sym a ∙ g (x .reads)) in
     omega arith
 
 -- a job that copies the list is one of them
 pub itself-keeps : KeepsLater (λ s. s)
-itself-keeps s rows w copies c = ap (λ (l : List Rec). drop 1 (idsOf l)) (records-are c ∙ (ap (map (recFrom s)) (reading-unique s copies rows c w) ∙ sym (records-are w)))
+itself-keeps s rows w copies c =
+    let e = records-are c ∙ (ap (map (recFrom s)) (reading-unique s copies rows c w) ∙ sym (records-are w)) in
+    ap (λ (l : List Rec). drop 1 (idsOf l)) e
 
--- two such programs in full. Every number of an object by this function: ObjectIds, IdRefs, MetadataIds and the root, which HeaderId repeats
+-- two programs of that kind in full. Every number of an object by this function: ObjectIds, IdRefs, MetadataIds and the root, which HeaderId repeats
 abbrev pub withNumbers : (ℕ → ℕ) → Rec → Rec
 withNumbers f (header r h) = header (f r) (f r)
 withNumbers f (classById i k) = classById (f i) (f k)
@@ -329,9 +340,7 @@ unchanged = ((refl, refl), (refl, refl))
 pub keeps-both : (job : Copier) → job (twoStrings 2) ≡ twoStrings 2 → job (twoStrings 3) ≡ twoStrings 3 → Demand3 job → ⊥
 unfolding leBytes hexOnto
 keeps-both job a b demand =
-    let e : job (twoStrings 2) ≡ job (twoStrings 3) =
-    demand .same (twoStrings 2) bytes-two (two 2) reads-two small-two (twoStrings 3) bytes-three (two 3) reads-three small-three .0 same-two in
-    let z : _≡_ {A = ℕ} 2 3 = ap (λ (l : List ℕ). getD l 28 0) (sym a ∙ (e ∙ b)) in
+    let z : _≡_ {A = ℕ} 2 3 = ap (λ (l : List ℕ). getD l 28 0) (sym a ∙ (one-for-two job demand ∙ b)) in
     omega arith
 
 read-two : readOf (twoStrings 2) (length (twoStrings 2)) ≡ accepted (two 2)
