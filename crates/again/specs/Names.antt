@@ -16,7 +16,7 @@ use Rattle.format.specs.Grammar.{Entry, aClass, another, aLibrary, known, class
 use Rattle.format.specs.Says.{theSystem, theLibrary, From, Class, anArray, anObject, node, textFrom, libraryName, classFrom}
 use Rattle.format.specs.Tidy.{Progress}
 use Rattle.laws.specs.Tests.{apart}
-use Rattle.saying.specs.Said.{named, namedAll, classOfAll}
+use Rattle.format.specs.Meant.{named, namedAll, classOfAll}
 use Rattle.saying.specs.Numbers.{nameIn, classIn}
 use Rattle.saying.specs.Order.{item-there}
 use Rattle.saying.specs.There.{kindOf, RowOf, GoodRec, system-class-from, library-class-from, library-said}

@@ -22,7 +22,8 @@ use Rattle.laws.specs.Tests.{class-refl}
 use Rattle.laws.specs.Numbers.{number-new, entered-new, all-more, afterNodes}
 use Rattle.laws.specs.Runs.{Sort, a-null, plain, sort-of}
 use Rattle.utf8.specs.Widths.{some-bytes}
-use Rattle.saying.specs.Said.{classOfAll, saidBy}
+use Rattle.format.specs.Meant.{classOfAll}
+use Rattle.saying.specs.Said.{saidBy}
 use Rattle.saying.specs.Good.{Place, Allowed, in-value, countOf, openAfter, Fits, a-node}
 use Rattle.saying.specs.Numbers.{within-counted, Listed, listed-counted, number-back, entered-listed, all-have, each-so, Numbered, numbered-what, Later, later-nodes, nameIn, classIn, name-back, class-back}
 use Rattle.saying.specs.Shown.{Shown, shown, allShown, packed, Wait, noWait, runShown, oneMore, squeezed, recsOf, squeezed-null, squeezed-records}

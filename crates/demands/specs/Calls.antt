@@ -6,9 +6,9 @@ use mathlib.Core.Logic.{_↔_}
 use mathlib.Core.Bool.{true}
 use mathlib.Core.List.{List, _++_}
 use native.Mathlib.Omega.{arith}
-use lib.ListN.{length, take, drop, replicate}
+use lib.ListN.{length, take, drop, replicate, length-append, length-drop}
 use lib.Dec.{leb}
-use lib.Seq.{take-append-seam}
+use lib.Seq.{take-append-seam, drop-at}
 use borrow.Author.Tests.{leb-true, le-leb}
 use Rattle.format.specs.declared.Refusal.{Refusal}
 use Rattle.format.specs.declared.ReadAnswer.{ReadAnswer}
@@ -28,7 +28,7 @@ use Rattle.laws.specs.Tests.{both-of}
 use Rattle.laws.specs.Answers.{accepted-of, refused-of}
 use Rattle.readings.specs.Accept.{accepts}
 use Rattle.demands.specs.Readings.{accepted-exactly, reading-unique, not-both}
-use Rattle.demands.specs.Copies.{tidy-accepted, tidy-again, same-exactly}
+use Rattle.demands.specs.Copies.{tidy-accepted, tidy-says, tidy-again, same-exactly}
 use Rattle.format.specs.Promises.{ReadPromise, TidyPromise}
 
 -- the rows of a reading in a table of n words
@@ -37,7 +37,7 @@ tabled n rows = words rows ++ replicate (n - 8 * length rows) 0
 
 -- ---- reading
 
--- s has a reading of n rows, which fit the table that held t and now holds u: the rows, then zeros
+-- s has a reading of n rows, which fit the table that held t and then holds u: the rows, then zeros
 pub record HasRows (s t : List ℕ) (n : ℕ) (u : List ℕ) : Type 0 where
   pub rows : List Row
   pub reads : Reading s rows
@@ -76,7 +76,7 @@ read-refuses s t r place u p =
 
 -- ---- tidying
 
--- the reading of s fits the table that held t and now holds u, and its tidy copy is the first n bytes of the output that now holds e
+-- the reading of s fits the table that held t and then holds u; its tidy copy is the first n bytes of the output that held d and then holds e
 pub record Tidied (s t d : List ℕ) (n : ℕ) (u e : List ℕ) : Type 0 where
   pub rows : List Row
   pub reads : Reading s rows
@@ -86,10 +86,21 @@ pub record Tidied (s t d : List ℕ) (n : ℕ) (u e : List ℕ) : Type 0 where
   pub within : n ≤ length d
   pub small : length (tidyOf (says s rows)) ≤ 16777216
   pub copy-is : take n e ≡ tidyOf (says s rows)
+  -- the rest of the output is as it was
+  pub length-is : length e ≡ length d
+  pub rest-is : drop n e ≡ drop n d
 
 take-laid : (b d : List ℕ) → take (length b) (laid b d) ≡ b
 unfolding laid
 take-laid b d = take-append-seam b (drop (length b) d)
+
+-- beyond the bytes that are laid
+rest-laid : (b d : List ℕ) (n : ℕ) → length b ≡ n → n ≤ length d → (length (laid b d) ≡ length d) × (drop n (laid b d) ≡ drop n d)
+unfolding laid
+rest-laid b d n z w =
+    let a = length-append b (drop (length b) d) in
+    let c = length-drop (length b) d in
+    (omega arith, drop-at b (drop (length b) d) n z ∙ ap (λ (k : ℕ). drop k d) z)
 
 -- a Written answer: an accepted reading whose copy fits
 record CopyFits (s d : List ℕ) (o : Outcome) (n : ℕ) : Type 0 where
@@ -117,15 +128,19 @@ tidy-writes s t d byte n u e p =
     let b = both-of (leb (length c) (length d)) (leb (length c) 16777216) (x .room) in
     let l : length c ≤ length d = leb-true (length c) (length d) (b .0) in
     let z : e ≡ laid c d = p .output ∙ (ap (tidyOutput s d) (x .taken) ∙ rw (x .room)) in
+    let k : n ≤ length d = subst (λ (k : ℕ). k ≤ length d) (x .size) l in
+    let r = rest-laid c d n (x .size) k in
     record {
       rows = rows;
       reads = w .0;
       fit = w .1;
       table-is = p .table ∙ (ap (tidyTable (length t) s d) (x .taken) ∙ rw (x .room));
       size = x .size;
-      within = subst (λ (k : ℕ). k ≤ length d) (x .size) l;
+      within = k;
       small = leb-true (length c) 16777216 (b .1);
       copy-is = ap (take n) z ∙ (ap (λ (k : ℕ). take k (laid c d)) (sym (x .size)) ∙ take-laid c d);
+      length-is = ap length z ∙ r .0;
+      rest-is = ap (drop n) z ∙ r .1;
     }
 
 -- a reading whose rows fit the table, and whose copy fits the output and the stream limit, is written
@@ -159,6 +174,16 @@ two-tidied s t d byte n u e p s′ t′ d′ byte′ m u′ e′ p′ rows other
     let x = same-exactly s rows w (a .1) s′ others w′ (b .1) in
     (λ h. a .0 ∙ (x .0 h ∙ sym (b .0)), λ h. x .1 (sym (a .0) ∙ (h ∙ b .0)))
 
+-- the copy c of the list s, read with a table that held l: a is the answer, and v is then in the table
+pub record CopyShown (s c l : List ℕ) (a : ReadAnswer) (v : List ℕ) : Type 0 where
+  pub copies : List Row
+  pub reads : Reading c copies
+  pub answer-is : a ≡ A.Accepted (length copies)
+  pub table-is : v ≡ tabled (length l) copies
+  -- no more rows than the list has, and the same said
+  pub no-more : (list : List Row) → Reading s list → length copies ≤ length list
+  pub says-same : (list : List Row) → Reading s list → SayTheSame c copies s list
+
 -- after a call that answers Written n, with a table as long as the one that was lent
 module _ (s t d : List ℕ) (byte : Bytes s) (n : ℕ) (u e : List ℕ) (p : TidyPromise s t d (Q.Written n) u e) (l : List ℕ) (as-long : length l ≡ length t) where
   abbrev rows : List Row
@@ -169,6 +194,7 @@ module _ (s t d : List ℕ) (byte : Bytes s) (n : ℕ) (u e : List ℕ) (p : Tid
     copies : List Row
     reads : Reading (take n e) copies
     no-more : length copies ≤ length rows
+    same : SayTheSame (take n e) copies s rows
     fit : length copies ≤ roomOf l
 
   again : CopyReads
@@ -177,23 +203,29 @@ module _ (s t d : List ℕ) (byte : Bytes s) (n : ℕ) (u e : List ℕ) (p : Tid
       let y = tidy-accepted s byte rows (x .reads) (x .small) in
       let k : length (y .copies) ≤ length rows = y .no-more in
       let f : length rows ≤ roomOf t = x .fit in
+      let z = tidy-says s rows (x .reads) (x .small) (y .copies) (y .reads) in
       record {
         copies = y .copies;
         reads = subst (λ (c : List ℕ). Reading c (y .copies)) (sym (x .copy-is)) (y .reads);
         no-more = k;
+        same = subst (λ (c : List ℕ). SayTheSame c (y .copies) s rows) (sym (x .copy-is)) z;
         fit = subst (λ (j : ℕ). length (y .copies) ≤ j / 8) (sym as-long) (omega arith);
       }
 
-  -- reading the copy answers Accepted, with no more rows than the list has
-  pub tidied-read : (a : ReadAnswer) (v : List ℕ) → ReadPromise (take n e) l a v
-      → (k : ℕ) × (a ≡ A.Accepted k) × ((list : List Row) → Reading s list → k ≤ length list)
+  -- reading the copy answers Accepted, with no more rows than the list has, and the copy says what the list said
+  pub tidied-read : (a : ReadAnswer) (v : List ℕ) → ReadPromise (take n e) l a v → CopyShown s (take n e) l a v
   tidied-read a v q =
       let x = again in
-      let r = tidy-writes s t d byte n u e p .reads in (
-        length (x .copies),
-        read-accepted (take n e) l (x .copies) (x .reads) (x .fit) a v q .0,
-        λ list w. subst (λ (z : List Row). length (x .copies) ≤ length z) (reading-unique s rows list r w) (x .no-more),
-      )
+      let r = tidy-writes s t d byte n u e p .reads in
+      let o = read-accepted (take n e) l (x .copies) (x .reads) (x .fit) a v q in
+      record {
+        copies = x .copies;
+        reads = x .reads;
+        answer-is = o .0;
+        table-is = o .1;
+        no-more = λ list w. subst (λ (z : List Row). length (x .copies) ≤ length z) (reading-unique s rows list r w) (x .no-more);
+        says-same = λ list w. subst (λ (z : List Row). SayTheSame (take n e) (x .copies) s z) (reading-unique s rows list r w) (x .same);
+      }
 
   -- tidying the copy writes the copy, into any output that holds it
   pub tidied-again : (f : List ℕ) → n ≤ length f → (q : TidyAnswer) (v g : List ℕ) → TidyPromise (take n e) l f q v g

@@ -30,11 +30,11 @@ pub counter-examples : None (failing 0 table)
 counter-examples = starred
 
 -- whether every entry is a byte
-unfoldable bytes : List ℕ → Bool
+unfoldable pub bytes : List ℕ → Bool
 bytes [] = true
 bytes (b ∷ s) = ltb b 256 && bytes s
 
-bytes-are : (s : List ℕ) → bytes s ≡ true → Bytes s
+pub bytes-are : (s : List ℕ) → bytes s ≡ true → Bytes s
 unfolding bytes
 bytes-are [] e i = omega arith
 bytes-are (b ∷ s) e zero = ltb-true b 256 (both-of (ltb b 256) (bytes s) e .0)

@@ -1,6 +1,13 @@
 -- What a user can be taught to trust.
 pub mod Readings
+pub mod Records
 pub mod Copies
 pub mod Settled
 pub mod Calls
+pub mod Tidyings
+pub mod Texts
+pub mod Exactly
+pub mod Jobs
 pub mod Examples
+pub mod Wrong
+pub mod Lost

@@ -23,7 +23,7 @@ accepted-exactly s byte room rows = (accepted-reading s byte room rows, λ w. ac
 same-rows : {a b : List Row} → accepted a ≡ accepted b → a ≡ b
 same-rows e = cc
 
--- two readings of one stream are equal
+-- two readings of one stream have equal rows; all else that they hold is equal, too (`reading-unique-whole`, Records)
 pub reading-unique : (s : List ℕ) (rows others : List Row) → Reading s rows → Reading s others → rows ≡ others
 reading-unique s rows others a b =
     let room : ℕ = length rows + length others in

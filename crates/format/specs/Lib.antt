@@ -16,12 +16,14 @@ pub mod Unicode
 pub mod Decimals
 pub mod Grammar
 pub mod Says
+pub mod Meant
 pub mod Tidy
 pub mod Promises
 pub mod Examples
 pub mod Fields
 pub mod CounterExamples
 pub mod Lists
+pub mod Meanings
 pub mod Allowed
 pub mod Own
 pub mod Words

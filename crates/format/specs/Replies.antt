@@ -1,7 +1,8 @@
--- Replies by number: the refusals, and the values of each answer of the public jobs.
+-- Replies by number: the refusals, and the values of each answer of the public jobs and of the comparing one.
 use Prim.Native.Nat.{ℕ}
 use mathlib.Core.List.{List}
 use lib.ListN.{length}
+use lib.Dec.{eqb}
 use Rattle.format.specs.declared.Refusal.{Refusal}
 use Rattle.format.specs.declared.Refusal.the-variants as R
 use Rattle.format.specs.declared.ReadAnswer.{ReadAnswer}
@@ -10,6 +11,8 @@ use Rattle.format.specs.declared.RowAnswer.{RowAnswer}
 use Rattle.format.specs.declared.RowAnswer.the-variants as Row
 use Rattle.format.specs.declared.TidyAnswer.{TidyAnswer}
 use Rattle.format.specs.declared.TidyAnswer.the-variants as Tidy
+use Rattle.format.specs.declared.Sameness.{Sameness}
+use Rattle.format.specs.declared.Sameness.the-variants as Same
 use Rattle.format.specs.declared.Text.{Text}
 use Rattle.format.specs.declared.Text.the-variants as Text
 use Rattle.format.specs.Bytes.{pick}
@@ -63,6 +66,36 @@ tidyReply (Tidy.Written length) = reply 0 0 length
 tidyReply (Tidy.Refused r place) = reply (numberOf r) place 0
 tidyReply (Tidy.OutFull needed) = reply (numberOf R.OutFull) 0 needed
 
+-- the tidying that ends a comparing: 0 and no length where both copies are written
+abbrev pub endingOf : Sameness → TidyAnswer
+endingOf Same.Same = Tidy.Written 0
+endingOf Same.Different = Tidy.Written 0
+endingOf (Same.FirstRefused r place) = Tidy.Refused r place
+endingOf (Same.SecondRefused r place) = Tidy.Refused r place
+endingOf (Same.FirstFull needed) = Tidy.OutFull needed
+endingOf (Same.SecondFull needed) = Tidy.OutFull needed
+
+-- the list that is refused or has no room for its copy; 0 where neither is
+abbrev pub listOf : Sameness → ℕ
+listOf Same.Same = 0
+listOf Same.Different = 0
+listOf (Same.FirstRefused r place) = 1
+listOf (Same.SecondRefused r place) = 2
+listOf (Same.FirstFull needed) = 1
+listOf (Same.SecondFull needed) = 2
+
+-- 1 where the lists say the same
+abbrev pub sameOf : Sameness → ℕ
+sameOf Same.Same = 1
+sameOf Same.Different = 0
+sameOf (Same.FirstRefused r place) = 0
+sameOf (Same.SecondRefused r place) = 0
+sameOf (Same.FirstFull needed) = 0
+sameOf (Same.SecondFull needed) = 0
+
+abbrev pub sameReply : Sameness → Reply
+sameReply q = tidyReply (endingOf q)
+
 -- ---- what a job comes to, in these numbers
 
 -- a reading: how many rows there are, or the refusal and its place
@@ -80,3 +113,7 @@ abbrev pub ofTidying : List ℕ → List ℕ → Outcome → Reply
 ofTidying s d (accepted rows) =
     pick (fits (tidyOf (says s rows)) d) (reply 0 0 (length (tidyOf (says s rows)))) (reply 20 0 (length (tidyOf (says s rows))))
 ofTidying s d (refused r place) = reply (numberOf r) place 0
+
+-- a comparing, by the replies of both tidyings: the first that is not 0, else 0 without a value
+abbrev pub ofComparing : Reply → Reply → Reply
+ofComparing x y = pick (eqb (x .number) 0) (pick (eqb (y .number) 0) (reply 0 0 0) y) x

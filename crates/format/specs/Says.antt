@@ -1,5 +1,6 @@
--- What a list says (01, The tidy copy, "Two lists say the same when"): its records and member values in order, library records left out, null
--- runs spread, classes and libraries by content, owners and targets by object order. No id and no packing is left.
+-- What a list says (01, The tidy copy, "Two lists say the same when"), from its stream and the rows of its reading: its records and member values in
+-- order, library records left out, null runs spread, classes and libraries by content, owners and targets by object order. No id and no packing is
+-- left. Meant has it from the records alone; that the two agree is `says-meant` of the crate `meant`.
 use Prim.Native.Nat.{ℕ, zero, suc, _+_, _-_, _*_}
 use mathlib.Core.Path.{_≡_}
 use mathlib.Core.Bool.{Bool, true, false}

@@ -1,4 +1,4 @@
--- What the public jobs and the comparing one reply: the number, the place and the value of a reply, and the replies that `format` does not have.
+-- What the public jobs and the comparing one reply: the number, the place and the value of a reply, and the reply of the text view.
 use Prim.Native.Nat.{ℕ, _-_}
 use mathlib.Core.Path.{_≡_, sym, ap, subst, _∙_}
 use Rattle.format.specs.declared.Refusal.{Refusal}
@@ -10,8 +10,6 @@ use Rattle.format.specs.declared.TidyAnswer.the-variants as C
 use Rattle.format.specs.declared.Text.{Text}
 use Rattle.format.specs.declared.Text.the-variants as T
 use Rattle.format.specs.Replies.{numberOf, Reply, reply, readReply, tidyReply}
-use Rattle.format.specs.declared.Sameness.{Sameness}
-use Rattle.format.specs.declared.Sameness.the-variants as S
 
 pub record Answered (r : Reply) (number place value : ℕ) : Type 0 where
   pub number-is : number ≡ r .number
@@ -45,31 +43,3 @@ pub text-part : (t : Text) (from to k n p v : ℕ) → t ≡ T.Part from to → 
     → Answered (reply 0 from k) n p v
     → Answered (textReply t) n p v
 text-part t from to k n p v e w h = answered _ _ n p v (ap (λ (x : ℕ). reply 0 from x) w ∙ ap textReply (sym e)) h
-
--- ---- comparing
-
--- the answer of the tidying that ends a comparing: 0 and no length where both copies are written
-abbrev pub endingOf : Sameness → TidyAnswer
-endingOf S.Same = C.Written 0
-endingOf S.Different = C.Written 0
-endingOf (S.FirstRefused r p) = C.Refused r p
-endingOf (S.SecondRefused r p) = C.Refused r p
-endingOf (S.FirstFull n) = C.OutFull n
-endingOf (S.SecondFull n) = C.OutFull n
-
--- the list that is refused or has no room for its copy
-abbrev pub listOf : Sameness → ℕ
-listOf S.Same = 0
-listOf S.Different = 0
-listOf (S.FirstRefused r p) = 1
-listOf (S.SecondRefused r p) = 2
-listOf (S.FirstFull n) = 1
-listOf (S.SecondFull n) = 2
-
-abbrev pub sameOf : Sameness → ℕ
-sameOf S.Same = 1
-sameOf S.Different = 0
-sameOf (S.FirstRefused r p) = 0
-sameOf (S.SecondRefused r p) = 0
-sameOf (S.FirstFull n) = 0
-sameOf (S.SecondFull n) = 0

@@ -8,8 +8,8 @@ use format::Text;
 use format::TidyAnswer;
 ghost use Prim.Native.Nat.{_-_};
 ghost use mathlib.Core.Path.{_≡_};
-ghost use Rattle.format.specs.Replies.{reply, readReply, rowReply, tidyReply};
-ghost use Rattle.replies.specs.Replies.{Answered, textReply, endingOf, listOf, sameOf};
+ghost use Rattle.format.specs.Replies.{reply, readReply, rowReply, tidyReply, endingOf, listOf, sameOf, sameReply};
+ghost use Rattle.replies.specs.Replies.{Answered, textReply};
 
 // 0 or the refusal's number, the place, and the value: how many rows, how many bytes the text has, or how long the copy is or would be.
 pub struct Reply {
@@ -95,7 +95,7 @@ fn ending_of(q: Sameness) -> TidyAnswer
 
 // What a comparing replies: the reply of the tidying that ends it.
 pub fn same_reply(q: Sameness) -> Reply
-    ensures { λ r. ⌜ Answered (tidyReply (endingOf q)) (r .number) (r .place) (r .value) ⌝ }
+    ensures { λ r. ⌜ Answered (sameReply q) (r .number) (r .place) (r .value) ⌝ }
 {
     tidy_reply(ending_of(q))
 }

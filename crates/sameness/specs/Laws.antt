@@ -6,9 +6,10 @@ use mathlib.Core.List.{List}
 use native.Mathlib.Omega.{arith}
 use lib.ListN.{length, take, drop}
 use lib.Seq.{take-append-seam}
-use lib.Dec.{leb}
+use lib.Dec.{leb, eqb}
 use borrow.Author.Tests.{leb-true}
 use Rattle.format.specs.declared.Refusal.{Refusal}
+use Rattle.format.specs.declared.Refusal.the-variants as R
 use Rattle.format.specs.declared.TidyAnswer.{TidyAnswer}
 use Rattle.format.specs.declared.TidyAnswer.the-variants as Q
 use Rattle.format.specs.declared.Row.{Row}
@@ -19,13 +20,15 @@ use Rattle.format.specs.Rows.{roomOf}
 use Rattle.format.specs.Machine.{Outcome, accepted, refused, readOf}
 use Rattle.format.specs.Says.{says}
 use Rattle.format.specs.Tidy.{tidyOf, fits, tidyAnswer, tidyOutput, tidyTable}
-use Rattle.format.specs.Promises.{TidyPromise}
+use Rattle.format.specs.Replies.{numberOf, reply, tidyReply, sameReply, ofTidying, ofComparing}
+use Rattle.format.specs.Promises.{TidyPromise, tidy-promised}
 use Rattle.num.specs.Le.{Bytes}
 use Rattle.same.specs.Laws.{same-eq}
 use Rattle.laws.specs.Tests.{bool-ext, both-of, apart, true-same}
 use Rattle.demands.specs.Readings.{accepted-exactly}
 use Rattle.demands.specs.Copies.{same-exactly}
-use Rattle.sameness.specs.Sameness.{copied, answerOf, isWritten, isCompared, Exact, Answered}
+use Rattle.demands.specs.Exactly.{same-meant}
+use Rattle.sameness.specs.Sameness.{copied, answerOf, isWritten, isCompared, Exact, ComparePromise}
 
 -- ---- two copies
 
@@ -115,6 +118,42 @@ module _ (copy b t d u f : List ℕ) (p : TidyAnswer) (w : TidyPromise b t d p u
   pub second-full : (n : ℕ) → p ≡ Q.OutFull n → Against copy b t d u f (S.SecondFull n)
   second-full n h = ends (Q.OutFull n) h (S.SecondFull n) refl
 
+-- ---- in numbers
+
+-- no refusal has the number 0
+number-not-0 : (r : Refusal) → eqb (numberOf r) 0 ≡ false
+number-not-0 R.TooLarge = refl
+number-not-0 R.CutShort = refl
+number-not-0 R.UnknownKind = refl
+number-not-0 R.NotTaken = refl
+number-not-0 R.WrongPlace = refl
+number-not-0 R.BadVersion = refl
+number-not-0 R.BadLength = refl
+number-not-0 R.BadText = refl
+number-not-0 R.BadCount = refl
+number-not-0 R.BadType = refl
+number-not-0 R.BadValue = refl
+number-not-0 R.BadId = refl
+number-not-0 R.NoLibrary = refl
+number-not-0 R.NoClass = refl
+number-not-0 R.TooDeep = refl
+number-not-0 R.NoRoom = refl
+number-not-0 R.Trailing = refl
+number-not-0 R.NoRoot = refl
+number-not-0 R.NoObject = refl
+number-not-0 R.OutFull = refl
+number-not-0 R.NoSuchRow = refl
+
+-- the reply of an answer is that of the tidying that ends it
+ended-by : (p q : TidyAnswer) (z : Bool) → sameReply (answerOf p q z) ≡ ofComparing (tidyReply p) (tidyReply q)
+ended-by (Q.Written m) (Q.Written n) true = refl
+ended-by (Q.Written m) (Q.Written n) false = refl
+ended-by (Q.Written m) (Q.Refused r x) z = sym (ap (λ (b : Bool). pick b (reply 0 0 0) (reply (numberOf r) x 0)) (number-not-0 r))
+ended-by (Q.Written m) (Q.OutFull n) z = refl
+ended-by (Q.Refused r x) q z =
+    sym (ap (λ (b : Bool). pick b (pick (eqb (tidyReply q .number) 0) (reply 0 0 0) (tidyReply q)) (reply (numberOf r) x 0)) (number-not-0 r))
+ended-by (Q.OutFull m) q z = refl
+
 -- ---- both lists
 
 both-written : (p q : TidyAnswer) (z : Bool) → isCompared (answerOf p q z) ≡ true → (isWritten p ≡ true) × (isWritten q ≡ true)
@@ -132,7 +171,13 @@ module _ (a b t c d : List ℕ) where
   abbrev Answer : Sameness → Type 0
   Answer q = q ≡ answerBy (length t) (tidyAnswer a c (readOf a (roomOf t)))
 
-  -- an answer that compares is right about what the lists say
+  -- and its reply
+  numbered : sameReply (answerBy (length t) (tidyAnswer a c (readOf a (roomOf t)))) ≡ ofComparing (ofTidying a c (readOf a (roomOf t))) (ofTidying b d (readOf b (roomOf t)))
+  numbered =
+      ended-by (tidyAnswer a c (readOf a (roomOf t))) (tidyAnswer b d (readOf b (roomOf t))) _
+      ∙ ap₂ ofComparing (tidy-promised a t c _ _ _ refl refl refl .numbers) (tidy-promised b t d _ _ _ refl refl refl .numbers)
+
+  -- an answer that compares is right about what the lists mean
   right : Bytes a → Bytes b → (q : Sameness) → Answer q → isCompared q ≡ true → Exact a b (roomOf t) q
   right byte octet q e h =
       let o = readOf a (roomOf t) in
@@ -141,20 +186,23 @@ module _ (a b t c d : List ℕ) where
       let w = both-written (tidyAnswer a c o) (tidyAnswer b d r) equal (sym (ap isCompared e) ∙ h) in
       let x = copy-of a c o (w .0) in
       let y = copy-of b d r (w .1) in
-      let one = accepted-exactly a byte (roomOf t) (x .rows) .0 (x .reads) .0 in
-      let two = accepted-exactly b octet (roomOf t) (y .rows) .0 (y .reads) .0 in
-      let say = same-exactly a (x .rows) one (x .small) b (y .rows) two (y .small) in
+      let one = accepted-exactly a byte (roomOf t) (x .rows) .0 (x .reads) in
+      let two = accepted-exactly b octet (roomOf t) (y .rows) .0 (y .reads) in
+      let say = same-exactly a (x .rows) (one .0) (x .small) b (y .rows) (two .0) (y .small) in
+      let mean = same-meant (one .0) (two .0) in
       let k = ap (copied a) (x .reads) in
       let l = ap (copied b) (y .reads) in
       let z : q ≡ pick equal S.Same S.Different = e ∙ ap₂ (λ (i j : TidyAnswer). answerOf i j equal) (x .answer) (y .answer) in
       record {
         rows = x .rows;
         others = y .rows;
-        first = x .reads;
-        second = y .reads;
+        first = one .0;
+        second = two .0;
+        first-fits = one .1;
+        second-fits = two .1;
         exactly = (
-          λ i. say .1 (sym k ∙ (same-eq (copied a o) (copied b r) (is-same equal (sym z ∙ i)) ∙ l)),
-          λ i. z ∙ ap (λ (j : Bool). pick j S.Same S.Different) (true-same (copied a o) (copied b r) (k ∙ (say .0 i ∙ sym l))),
+          λ i. mean .0 (say .1 (sym k ∙ (same-eq (copied a o) (copied b r) (is-same equal (sym z ∙ i)) ∙ l))),
+          λ i. z ∙ ap (λ (j : Bool). pick j S.Same S.Different) (true-same (copied a o) (copied b r) (k ∙ (say .0 (mean .1 i) ∙ sym l))),
         );
       }
 
@@ -166,12 +214,13 @@ module _ (a b t c d : List ℕ) where
     secondBy k x = pick (isWritten x) (tidyOutput b d (readOf b (k / 8))) d
 
     answered : (x : TidyAnswer) → p ≡ x → (v f : List ℕ) (q : Sameness) → q ≡ answerBy (length t) x
-        → (Answer q → isCompared q ≡ true → Exact a b (roomOf t) q) → v ≡ tableBy (length t) x → f ≡ secondBy (length t) x → Answered a b t c d v e f q
+        → (Answer q → isCompared q ≡ true → Exact a b (roomOf t) q) → v ≡ tableBy (length t) x → f ≡ secondBy (length t) x → ComparePromise a b t c d q v e f
     answered x h v f q y g i j =
         let k : x ≡ tidyAnswer a c (readOf a (roomOf t)) = sym h ∙ w .answer in
         let z : Answer q = y ∙ ap (answerBy (length t)) k in
         record {
           answer = z;
+          numbers = ap sameReply z ∙ numbered;
           exact = g z;
           table = i ∙ ap (tableBy (length t)) k;
           first = w .output;
@@ -180,7 +229,7 @@ module _ (a b t c d : List ℕ) where
 
     -- the table is as long as it was, so the second reading has the same room
     pub first-written : Bytes a → Bytes b → length u ≡ length t → (m : ℕ) → p ≡ Q.Written m → (v f : List ℕ) (q : Sameness)
-        → Against (take (m - 0) (drop 0 e)) b u d v f q → Answered a b t c d v e f q
+        → Against (take (m - 0) (drop 0 e)) b u d v f q → ComparePromise a b t c d q v e f
     first-written byte octet l m h v f q g =
         let r = readOf b (roomOf u) in
         let i = front a t c u e p w m h in
@@ -192,8 +241,8 @@ module _ (a b t c d : List ℕ) where
         (right byte octet q) (g .table ∙ ap (λ (k : ℕ). tableBy k (Q.Written m)) l) (g .second ∙ ap (λ (k : ℕ). secondBy k (Q.Written m)) l)
 
     -- where the first list has no copy, the second is not tidied
-    pub first-refused : (r : Refusal) (x : ℕ) → p ≡ Q.Refused r x → Answered a b t c d u e d (S.FirstRefused r x)
+    pub first-refused : (r : Refusal) (x : ℕ) → p ≡ Q.Refused r x → ComparePromise a b t c d (S.FirstRefused r x) u e d
     first-refused r x h = answered (Q.Refused r x) h u d (S.FirstRefused r x) refl (λ z i. apart i) (w .table) refl
 
-    pub first-full : (m : ℕ) → p ≡ Q.OutFull m → Answered a b t c d u e d (S.FirstFull m)
+    pub first-full : (m : ℕ) → p ≡ Q.OutFull m → ComparePromise a b t c d (S.FirstFull m) u e d
     first-full m h = answered (Q.OutFull m) h u d (S.FirstFull m) refl (λ z i. apart i) (w .table) refl

@@ -1,4 +1,4 @@
--- The comparing job: its answer, that its promise allows one outcome, and the laws that its proof cites.
+-- The comparing job: its promise, that it allows one outcome, and the laws that its proof cites.
 pub mod Sameness
 pub mod Settled
 pub mod Laws

@@ -1,5 +1,6 @@
--- Do two lists say the same: the answer and what is left, from the two readings; and that the answer is right about what the lists say.
-use Prim.Native.Nat.{ℕ}
+-- Do two lists say the same: the promise of the comparing job, a relation between what is lent and what comes of it, as those of the four public jobs
+-- are. The answer and what is left come from the two readings; and an answer that compares is right about what the lists mean.
+use Prim.Native.Nat.{ℕ, _≤_}
 use mathlib.Core.Path.{_≡_}
 use mathlib.Core.Logic.{_↔_}
 use mathlib.Core.Bool.{Bool, true, false}
@@ -11,8 +12,11 @@ use Rattle.format.specs.declared.Row.{Row}
 use Rattle.format.specs.Bytes.{pick, sameBytes}
 use Rattle.format.specs.Rows.{roomOf}
 use Rattle.format.specs.Machine.{Outcome, accepted, refused, readOf}
-use Rattle.format.specs.Says.{says, SayTheSame}
+use Rattle.format.specs.Grammar.{Reading}
+use Rattle.format.specs.Says.{says}
+use Rattle.format.specs.Meant.{meantBy}
 use Rattle.format.specs.Tidy.{tidyOf, tidyAnswer, tidyOutput, tidyTable}
+use Rattle.format.specs.Replies.{sameReply, ofTidying, ofComparing}
 use Rattle.format.specs.declared.Sameness.{Sameness}
 use Rattle.format.specs.declared.Sameness.the-variants as S
 
@@ -43,20 +47,23 @@ isCompared (S.SecondRefused r p) = false
 isCompared (S.FirstFull n) = false
 isCompared (S.SecondFull n) = false
 
--- both lists are read with this room, and the answer is Same exactly when they say the same
+-- both lists have readings of so many rows at most, and the answer is Same exactly when their records mean the same
 pub record Exact (a b : List ℕ) (room : ℕ) (q : Sameness) : Type 0 where
   pub rows : List Row
   pub others : List Row
-  pub first : readOf a room ≡ accepted rows
-  pub second : readOf b room ≡ accepted others
-  pub exactly : (q ≡ S.Same) ↔ SayTheSame a rows b others
+  pub first : Reading a rows
+  pub second : Reading b others
+  pub first-fits : length rows ≤ room
+  pub second-fits : length others ≤ room
+  pub exactly : (q ≡ S.Same) ↔ (meantBy first ≡ meantBy second)
 
--- the lists a and b, compared with a table that held t and outputs that held c and d, which hold u, e and f afterwards: the second list is tidied
--- where the first has its copy
-pub record Answered (a b t c d u e f : List ℕ) (q : Sameness) : Type 0 where
+-- comparing the lists a and b with a table that held t and outputs that held c and d answers q and leaves u, e and f in them: the second list is
+-- tidied where the first has its copy
+pub record ComparePromise (a b t c d : List ℕ) (q : Sameness) (u e f : List ℕ) : Type 0 where
   pub answer : q
       ≡ answerOf (tidyAnswer a c (readOf a (roomOf t))) (tidyAnswer b d (readOf b (roomOf t)))
       (sameBytes (copied a (readOf a (roomOf t))) (copied b (readOf b (roomOf t))))
+  pub numbers : sameReply q ≡ ofComparing (ofTidying a c (readOf a (roomOf t))) (ofTidying b d (readOf b (roomOf t)))
   pub exact : isCompared q ≡ true → Exact a b (roomOf t) q
   pub table : u
       ≡ pick (isWritten (tidyAnswer a c (readOf a (roomOf t)))) (tidyTable (length t) b d (readOf b (roomOf t)))

@@ -2,7 +2,7 @@
 use format::Sameness;
 use format::TidyAnswer;
 ghost use mathlib.Core.Path.{_≡_};
-ghost use Rattle.sameness.specs.Sameness.{Answered};
+ghost use Rattle.sameness.specs.Sameness.{ComparePromise};
 ghost use Rattle.sameness.specs.Laws.{Against, comparedAs};
 
 // Whether two copies are equal, as an answer.
@@ -35,7 +35,7 @@ pub fn say_the_same(
     first: &mut [u8],
     second: &mut [u8],
 ) -> Sameness
-    ensures { λ q. ⌜ Answered (now (a .entry)) (now (b .entry)) (now (table .entry)) (now (first .entry)) (now (second .entry)) (now (table .exit)) (now (first .exit)) (now (second .exit)) q ⌝ }
+    ensures { λ q. ⌜ ComparePromise (now (a .entry)) (now (b .entry)) (now (table .entry)) (now (first .entry)) (now (second .entry)) q (now (table .exit)) (now (first .exit)) (now (second .exit)) ⌝ }
 {
     let p = tidy::tidy(a, table, first);
     match p {

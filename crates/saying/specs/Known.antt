@@ -15,7 +15,7 @@ use Rattle.format.specs.Rows.{blank, findFrom, libraryRow}
 use Rattle.format.specs.Contents.{Detail, primitive, text, object, system, class, objects, texts, primitives, Member}
 use Rattle.format.specs.Says.{From, Class, textFrom, libraryName, classFrom}
 use Rattle.format.specs.Grammar.{Name, Entry, aClass, another, aLibrary, known, classed, classOf, GoodDetail, Members, no-more, member, ClassInfo}
-use Rattle.saying.specs.Said.{named, namedAll, classOfAll}
+use Rattle.format.specs.Meant.{named, namedAll, classOfAll}
 use Rattle.saying.specs.Good.{GoodType, GoodMembers, GoodFrom, GoodClass, slotsOf}
 use Rattle.saying.specs.Good as G
 use Rattle.saying.specs.Order.{place-inside, item-there, taken-more}

@@ -17,7 +17,8 @@ use Rattle.fields.specs.Judged.{picked}
 use Rattle.laws.specs.Tests.{class-of}
 use Rattle.laws.specs.Numbers.{afterNodes}
 use Rattle.laws.specs.Runs.{Plain, Sort, a-null, plain, sort-of}
-use Rattle.saying.specs.Said.{named, namedAll, classOfAll, saidBy}
+use Rattle.format.specs.Meant.{named, namedAll, classOfAll}
+use Rattle.saying.specs.Said.{saidBy}
 use Rattle.saying.specs.Good.{Place, place, shutBy, shut, ownerOf, slotOf, filledOne, openedIn, Allowed, in-null, countOf, openAfter, Fits, a-node}
 use Rattle.saying.specs.Numbers.{Each, no-name, a-name, each-left, each-right, each-so, all-have, Numbered, numbered-none, numbered-what, numbered-nodes, Later, later-nodes, nameIn, classIn, name-back, class-back}
 use Rattle.saying.specs.Shown.{Shown, shown, allShown, packed, Wait, wait, noWait, runShown, oneMore, squeezed, saidNodes, saidAll, squeezed-null, squeezed-records}
@@ -114,7 +115,7 @@ module _ (v : Progress) (good : Numbered v) where
   object-said (suc k) w c o n e h l = ap (λ (d : Class). node (anObject d) o n ∷ []) (class-back v good (afterObject (suc k) w c) l c k e)
 
   pub node-said : (w : Progress) (x : What) (o n : ℕ) → Numbered w → Later (afterWhat w x) v → saidOnce v (allShown o n (recordsOf w x)) ≡ node x o n ∷ []
-  unfolding recordsOf afterWhat
+  unfolding recordsOf afterWhat spread
   node-said w (anObject c) o n h l = object-said (numberIn (sameClass c) (w .classes)) w c o n refl h l
   node-said w (aString t) o n h l = refl
   node-said w (anArray type ns d vs) o n h l =

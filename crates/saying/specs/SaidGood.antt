@@ -19,7 +19,8 @@ use Rattle.format.specs.Says.{theSystem, theLibrary, Class, What, anObject, aSt
 use Rattle.laws.specs.Fields.{size-header, positive-bits}
 use Rattle.laws.specs.Ids.{among-right, shown-more, objects-shown, id-there}
 use Rattle.laws.specs.Links.{rows-are}
-use Rattle.saying.specs.Said.{named, classOfAll, saidBy}
+use Rattle.format.specs.Meant.{named, classOfAll}
+use Rattle.saying.specs.Said.{saidBy}
 use Rattle.saying.specs.Good.{length-filled, GoodClass, slotsOf, Place, place, shut, ownerOf, slotOf, filledOne, openedIn, Deep, never-open, one-more, Allowed, in-null, countOf, itemSlots, openAfter, Fits, a-node, Good}
 use Rattle.saying.specs.Good as G
 use Rattle.saying.specs.There.{rest-there, own-detail, system-class-from, library-class-from, kindOf, CountIs, row-of, row-linked, GoodRec, LinkIs, inSlot, run, library-said, nodes-there, slot-same, slots-same, own-members}

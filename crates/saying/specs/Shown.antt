@@ -6,8 +6,9 @@ use mathlib.Core.Bool.{Bool, true, false}
 use mathlib.Core.List.{List, [], _∷_, _++_, map, append-assoc}
 use lib.Dec.{eqb}
 use Rattle.format.specs.Bytes.{pick}
-use Rattle.format.specs.Contents.{Rec, header, classById, systemClass, libraryClass, string, array, typedPrimitive, reference, null, nulls, manyNulls, end, library, primitiveArray, objectArray, stringArray, value}
-use Rattle.format.specs.Says.{Class, What, Node, node, spread}
+use Rattle.format.specs.Contents.{Rec, null}
+use Rattle.format.specs.Says.{Class, What, Node, node}
+use Rattle.format.specs.Meant.{senseOf, nodesBy}
 use Rattle.format.specs.Tidy.{Progress, recordsOf, afterWhat, Standing, ownedBy, pack, runOf, isNull, Run, noRun, written, waiting, squeeze}
 use Rattle.laws.specs.Runs.{Plain, just, more, Sort, a-null, plain, sort-of, squeeze-records}
 use Rattle.saying.specs.Said.{saidBy}
@@ -75,25 +76,9 @@ module _ (name : ℕ → List ℕ) (of : ℕ → Class) (order : ℕ → ℕ) wh
   abbrev pub saidIn : ℕ → ℕ → Rec → List Node
   saidIn o n r = map (λ (x : What). node x o n) (saidBy name of order r)
 
-  -- a run says a null for each of its slots
+  -- nulls say one for each of their slots
   abbrev pub saidAt : ℕ → ℕ → Rec → List Node
-  saidAt o n (header r h) = saidIn o n (header r h)
-  saidAt o n (classById i k) = saidIn o n (classById i k)
-  saidAt o n (systemClass i x ms) = saidIn o n (systemClass i x ms)
-  saidAt o n (libraryClass i x ms l) = saidIn o n (libraryClass i x ms l)
-  saidAt o n (string i x) = saidIn o n (string i x)
-  saidAt o n (array i t ns d vs) = saidIn o n (array i t ns d vs)
-  saidAt o n (typedPrimitive c v) = saidIn o n (typedPrimitive c v)
-  saidAt o n (reference i) = saidIn o n (reference i)
-  saidAt o n null = saidIn o n null
-  saidAt o n (nulls k) = spread k o n
-  saidAt o n (manyNulls k) = spread k o n
-  saidAt o n end = saidIn o n end
-  saidAt o n (library i x) = saidIn o n (library i x)
-  saidAt o n (primitiveArray i k c vs) = saidIn o n (primitiveArray i k c vs)
-  saidAt o n (objectArray i k) = saidIn o n (objectArray i k)
-  saidAt o n (stringArray i k) = saidIn o n (stringArray i k)
-  saidAt o n (value v) = saidIn o n (value v)
+  saidAt o n r = nodesBy (senseOf name of order r) o n
 
   abbrev pub saidNodes : Shown → List Node
   saidNodes x = saidAt (x .owner) (x .slot) (x .rec)

@@ -31,7 +31,8 @@ use Rattle.codes.specs.Ends.{code-end, name-end, library-end}
 use Rattle.format.specs.Own.{positive-exactly}
 use Rattle.laws.specs.Fields.{positive-bits, length-numbers-bytes}
 use Rattle.utf8.specs.Exactly.{utf8-exactly}
-use Rattle.saying.specs.Said.{named, namedAll, classOfAll, saidBy}
+use Rattle.format.specs.Meant.{named, namedAll, classOfAll}
+use Rattle.saying.specs.Said.{saidBy}
 use Rattle.saying.specs.Good.{slotsOf}
 use Rattle.saying.specs.Order.{place-inside, item-there}
 

@@ -12,14 +12,14 @@ use Rattle.format.specs.declared.TidyAnswer.{TidyAnswer}
 use Rattle.format.specs.declared.Text.{Text}
 use Rattle.format.specs.declared.Text.the-variants as T
 use Rattle.format.specs.Bytes.{part, sameBytes}
-use Rattle.format.specs.Replies.{numberOf, reply, readReply, rowReply, tidyReply}
+use Rattle.format.specs.Replies.{numberOf, reply, readReply, rowReply, tidyReply, listOf, sameOf, sameReply}
 use Rattle.format.specs.Rows.{roomOf}
 use Rattle.format.specs.Machine.{readOf}
 use Rattle.format.specs.Tidy.{tidyAnswer, tidyTable, tidyOutput}
 use Rattle.format.specs.View.{rowText, rowQuestion, textView}
 use Rattle.format.specs.declared.Sameness.{Sameness}
 use Rattle.sameness.specs.Sameness as W
-use Rattle.replies.specs.Replies.{Answered, answered, textReply, endingOf, listOf, sameOf}
+use Rattle.replies.specs.Replies.{Answered, answered, textReply}
 use Rattle.view.specs.Laws.{question-part, question-fault, view-part, view-fault, row-inside}
 
 -- ---- reading, and the row question: a job's answer has the reply of what the job promises
@@ -57,21 +57,21 @@ saidOf a b t c d =
 
 -- what a comparing leaves in the table and the outputs (`said`), beside its reply
 pub record Compared (a b t c d u e f : List ℕ) (number same list place needed : ℕ) : Type 0 where
-  pub said : W.Answered a b t c d u e f (saidOf a b t c d)
-  pub answer-is : Answered (tidyReply (endingOf (saidOf a b t c d))) number place needed
+  pub said : W.ComparePromise a b t c d (saidOf a b t c d) u e f
+  pub answer-is : Answered (sameReply (saidOf a b t c d)) number place needed
   pub same-is : same ≡ sameOf (saidOf a b t c d)
   pub list-is : list ≡ listOf (saidOf a b t c d)
 
 pub compared : (a b t c d u e f : List ℕ) (number same list place needed : ℕ) (q : Sameness)
-    → W.Answered a b t c d u e f q
-    → Answered (tidyReply (endingOf q)) number place needed
+    → W.ComparePromise a b t c d q u e f
+    → Answered (sameReply q) number place needed
     → same ≡ sameOf q
     → list ≡ listOf q
     → Compared a b t c d u e f number same list place needed
 compared a b t c d u e f number same list place needed q w h k l =
     record {
-      said = subst (λ (y : Sameness). W.Answered a b t c d u e f y) (w .answer) w;
-      answer-is = answered _ _ number place needed (ap (λ (y : Sameness). tidyReply (endingOf y)) (w .answer)) h;
+      said = subst (λ (y : Sameness). W.ComparePromise a b t c d y u e f) (w .answer) w;
+      answer-is = answered _ _ number place needed (ap sameReply (w .answer)) h;
       same-is = k ∙ ap sameOf (w .answer);
       list-is = l ∙ ap listOf (w .answer);
     }

@@ -1,0 +1,69 @@
+-- Demand 3 over the records: two lists mean the same exactly when their tidy copies are equal, byte for byte; the records of a copy mean what those of
+-- its list mean; and what is written is the tidy form of what the records mean.
+use Prim.Native.Nat.{ℕ, _≤_}
+use mathlib.Core.Path.{_≡_, sym, ap, subst, _∙_}
+use mathlib.Core.Logic.{_↔_}
+use mathlib.Core.List.{List}
+use lib.ListN.{length, take}
+use Rattle.format.specs.declared.TidyAnswer.the-variants as Q
+use Rattle.format.specs.declared.Row.{Row}
+use Rattle.format.specs.Grammar.{Reading}
+use Rattle.format.specs.Says.{Model, says, SayTheSame}
+use Rattle.format.specs.Meant.{meantBy}
+use Rattle.format.specs.Tidy.{tidyOf}
+use Rattle.format.specs.Promises.{TidyPromise}
+use Rattle.num.specs.Le.{Bytes}
+use Rattle.meant.specs.Laws.{says-meant}
+use Rattle.demands.specs.Readings.{reading-unique}
+use Rattle.demands.specs.Copies.{tidy-says, same-exactly}
+use Rattle.demands.specs.Calls.{tidy-writes, two-tidied}
+
+-- two lists say the same exactly when their records mean the same
+pub same-meant : {s : List ℕ} {rows : List Row} (a : Reading s rows) {t : List ℕ} {others : List Row} (b : Reading t others)
+    → SayTheSame s rows t others ↔ (meantBy a ≡ meantBy b)
+same-meant a b = (λ e. sym (says-meant a) ∙ (e ∙ says-meant b), λ e. says-meant a ∙ (e ∙ sym (says-meant b)))
+
+-- the stream limit, of what is said and of what is meant
+pub said-small : {s : List ℕ} {rows : List Row} (a : Reading s rows) → length (tidyOf (meantBy a)) ≤ 16777216 → length (tidyOf (says s rows)) ≤ 16777216
+said-small a small = subst (λ (m : Model). length (tidyOf m) ≤ 16777216) (sym (says-meant a)) small
+
+pub meant-small : {s : List ℕ} {rows : List Row} (a : Reading s rows) → length (tidyOf (says s rows)) ≤ 16777216 → length (tidyOf (meantBy a)) ≤ 16777216
+meant-small a small = subst (λ (m : Model). length (tidyOf m) ≤ 16777216) (says-meant a) small
+
+-- exactly when their tidy copies are equal
+pub meant-exactly : {s : List ℕ} {rows : List Row} (a : Reading s rows) → length (tidyOf (meantBy a)) ≤ 16777216
+    → {t : List ℕ} {others : List Row} (b : Reading t others) → length (tidyOf (meantBy b)) ≤ 16777216
+    → (meantBy a ≡ meantBy b) ↔ (tidyOf (meantBy a) ≡ tidyOf (meantBy b))
+meant-exactly {s} {rows} a small {t} {others} b little =
+    let p = says-meant a in
+    let q = says-meant b in
+    let f = said-small a small in
+    let x = same-exactly s rows a f t others b (said-small b little) in
+    (ap tidyOf, λ e. sym p ∙ (x .1 (ap tidyOf p ∙ (e ∙ sym (ap tidyOf q))) ∙ q))
+
+-- the records of the tidy copy mean what those of the list mean
+pub copy-means : {s : List ℕ} {rows : List Row} (a : Reading s rows) → length (tidyOf (meantBy a)) ≤ 16777216
+    → {copies : List Row} (c : Reading (tidyOf (meantBy a)) copies) → meantBy c ≡ meantBy a
+copy-means {s} {rows} a small {copies} c =
+    let p = says-meant a in
+    let P : Model → Type 0 = λ m. length (tidyOf m) ≤ 16777216 → Reading (tidyOf m) copies → says (tidyOf m) copies ≡ m in
+    let f : P (meantBy a) = subst P p (λ l r. tidy-says s rows a l copies r) in
+    sym (says-meant c) ∙ f small c
+
+-- ---- from the promise of tidying alone
+
+-- the copy that a call leaves is the tidy form of what the records mean
+pub written-meant : (s t d : List ℕ) → Bytes s → (n : ℕ) (u e : List ℕ) → TidyPromise s t d (Q.Written n) u e → {rows : List Row} (w : Reading s rows)
+    → take n e ≡ tidyOf (meantBy w)
+written-meant s t d byte n u e p {rows} w =
+    let x = tidy-writes s t d byte n u e p in
+    x .copy-is ∙ ap tidyOf (ap (says s) (reading-unique s (x .rows) rows (x .reads) w) ∙ says-meant w)
+
+-- two calls leave equal copies exactly when the records mean the same
+pub two-meant : (s t d : List ℕ) → Bytes s → (n : ℕ) (u e : List ℕ) → TidyPromise s t d (Q.Written n) u e
+    → (s′ t′ d′ : List ℕ) → Bytes s′ → (m : ℕ) (u′ e′ : List ℕ) → TidyPromise s′ t′ d′ (Q.Written m) u′ e′
+    → {rows others : List Row} (w : Reading s rows) (w′ : Reading s′ others) → (meantBy w ≡ meantBy w′) ↔ (take n e ≡ take m e′)
+two-meant s t d byte n u e p s′ t′ d′ byte′ m u′ e′ p′ {rows} {others} w w′ =
+    let x = two-tidied s t d byte n u e p s′ t′ d′ byte′ m u′ e′ p′ rows others w w′ in
+    let y = same-meant w w′ in
+    (λ h. x .0 (y .1 h), λ h. y .0 (x .1 h))

@@ -1,0 +1,405 @@
+-- Wrong programs against the demands (01, What the wording must hold): each kind of them, whatever else it computes, fails the demand that is to stop it;
+-- the counter examples are the witnesses.
+use Prim.Native.Nat.{ℕ, zero, suc, _-_, _*_, _≤_}
+use mathlib.Core.Path.{_≡_, refl, sym, ap, subst, _∙_}
+use mathlib.Core.Bool.{true}
+use mathlib.Core.List.{List, [], _∷_, _++_, map}
+use native.Mathlib.Omega.{arith}
+use lib.ListN.{length, getD, take, drop, replicate, length-replicate}
+use lib.Dec.{leb, eqb}
+use lib.Seq.{take-append-seam}
+use Rattle.format.specs.declared.Refusal.{Refusal}
+use Rattle.format.specs.declared.ReadAnswer.{ReadAnswer}
+use Rattle.format.specs.declared.ReadAnswer.the-variants as A
+use Rattle.format.specs.declared.TidyAnswer.{TidyAnswer}
+use Rattle.format.specs.declared.TidyAnswer.the-variants as Q
+use Rattle.format.specs.declared.Row.{Row}
+use Rattle.format.specs.Bytes.{pick, laid}
+use Rattle.format.specs.Numbers.{le, u32At, leBytes}
+use Rattle.format.specs.Prefix.{prefixIn, groupsOf}
+use Rattle.format.specs.Text.{needOf, loOf, hiOf, leadOf, stepOf, after, wellFormed, textAt, stringAt}
+use Rattle.format.specs.Types.{nameAt, moved, passed, passedOf}
+use Rattle.format.specs.Rows.{roomOf, rowsOf, findFrom, objectRow, linkOf, linked}
+use Rattle.format.specs.Records.{allowed, kindOf, kindAt, headerAt, stringRecordAt, headingAt}
+use Rattle.format.specs.Contents.{Rec, header, classById, systemClass, libraryClass, string, array, typedPrimitive, reference, null, nulls, manyNulls, end, library, primitiveArray, objectArray, stringArray, value, enc, encs}
+use Rattle.format.specs.Grammar.{idsOf, Reading}
+use Rattle.format.specs.Machine.{Outcome, accepted, refused, close, filled, opened, add, object, nullRun, ending, act, recordStep, step, finish, run, readOf, tableWords}
+use Rattle.format.specs.Says.{objectsIn, orderOf, whatFrom, spread, nodesOf, nodesFrom, Model, says, SayTheSame}
+use Rattle.format.specs.Tidy.{recordsOf, afterWhat, pack, runOf, written, waiting, squeeze, tidyRecords, tidyOf}
+use Rattle.format.specs.Examples.{hexOnto}
+use Rattle.format.specs.CounterExamples.{headerOf, stringOf, case2, sevens, stringRows, case7}
+use Rattle.num.specs.Le.{Bytes}
+use Rattle.readings.specs.Accept.{accepts}
+use Rattle.demands.specs.Readings.{accepted-exactly, reading-unique, reading-short}
+use Rattle.demands.specs.Calls.{tabled}
+use Rattle.demands.specs.Examples.{bytes, bytes-are, run7, reads-2, reads-sevens, reads-7, none-empty, same-sevens, not-same-7}
+use Rattle.demands.specs.Records.{recFrom, recordsIn, records-are}
+use Rattle.demands.specs.Texts.{shown-rows, shownIn}
+use Rattle.demands.specs.Exactly.{same-meant, meant-small}
+use Rattle.demands.specs.Jobs.{Reader, Demand2, Filler, Demand2Table, TableRule, Copier, Within, Demand3, Tidier, writtenIn, Demand3Job}
+
+-- ---- the witnesses
+
+-- the rows of counter examples 2, of it with sevens, and 7
+abbrev rows2 : List Row
+rows2 = rowsOf 3 (stringRows 1)
+
+abbrev rows27 : List Row
+rows27 = rowsOf 3 (stringRows 7)
+
+abbrev rows7 : List Row
+rows7 = rowsOf 4 case7
+
+-- two strings 12E5 after the header, the second with this ObjectId
+abbrev pub twoStrings : ℕ → List ℕ
+twoStrings id = headerOf 1 1 ++ (stringOf 1 ++ (stringOf id ++ (11 ∷ [])))
+
+abbrev pub twoRows : ℕ → List ℕ
+twoRows id =
+    0 ∷ 0 ∷ 17 ∷ 1 ∷ 0 ∷ 0 ∷ 2 ∷ 0
+    ∷ 6 ∷ 17 ∷ 27 ∷ 1 ∷ 0 ∷ 0 ∷ 0 ∷ 0
+    ∷ 6 ∷ 27 ∷ 37 ∷ id ∷ 0 ∷ 0 ∷ 0 ∷ 0
+    ∷ 11 ∷ 37 ∷ 38 ∷ 0 ∷ 0 ∷ 0 ∷ 0 ∷ 0 ∷ []
+
+abbrev two : ℕ → List Row
+two id = rowsOf 4 (twoRows id)
+
+all-bytes : ((bytes case2 ≡ true) × ((bytes sevens ≡ true) × (bytes run7 ≡ true))) × ((bytes (twoStrings 2) ≡ true) × (bytes (twoStrings 3) ≡ true))
+unfolding bytes leBytes hexOnto
+all-bytes = ((refl, (refl, refl)), (refl, refl))
+
+bytes-2 : Bytes case2
+bytes-2 = bytes-are case2 (all-bytes .0 .0)
+
+bytes-sevens : Bytes sevens
+bytes-sevens = bytes-are sevens (all-bytes .0 .1 .0)
+
+bytes-7 : Bytes run7
+bytes-7 = bytes-are run7 (all-bytes .0 .1 .1)
+
+bytes-two : Bytes (twoStrings 2)
+bytes-two = bytes-are (twoStrings 2) (all-bytes .1 .0)
+
+bytes-three : Bytes (twoStrings 3)
+bytes-three = bytes-are (twoStrings 3) (all-bytes .1 .1)
+
+counts : (length rows2 ≡ 3) × (length rows7 ≡ 4)
+unfolding rowsOf
+counts = (refl, refl)
+
+two-taken : (readOf (twoStrings 2) 38 ≡ accepted (two 2)) × (readOf (twoStrings 3) 38 ≡ accepted (two 3))
+unfolding rowsOf readOf run finish step recordStep act ending nullRun object add opened filled close headingAt stringRecordAt headerAt kindAt kindOf allowed linked linkOf objectRow findFrom passedOf passed moved nameAt stringAt textAt wellFormed after stepOf leadOf hiOf loOf needOf groupsOf prefixIn leBytes u32At le hexOnto
+two-taken = (refl, refl)
+
+pub reads-two : Reading (twoStrings 2) (two 2)
+reads-two = accepted-exactly (twoStrings 2) bytes-two 38 (two 2) .0 (two-taken .0) .0
+
+pub reads-three : Reading (twoStrings 3) (two 3)
+reads-three = accepted-exactly (twoStrings 3) bytes-three 38 (two 3) .0 (two-taken .1) .0
+
+-- they say the same
+pub same-two : SayTheSame (twoStrings 2) (two 2) (twoStrings 3) (two 3)
+unfolding rowsOf says nodesFrom nodesOf spread whatFrom orderOf objectsIn stringAt textAt wellFormed after stepOf leadOf hiOf loOf needOf groupsOf prefixIn leBytes le hexOnto
+same-two = refl
+
+-- the copies are as long as 01 says, and far within the stream limit
+lengths : ((length (tidyOf (says case2 rows2)) ≡ 28) × ((length (tidyOf (says sevens rows27)) ≡ 28) × (length (tidyOf (says run7 rows7)) ≡ 29)))
+    × ((length (tidyOf (says (twoStrings 2) (two 2))) ≡ 38) × (length (tidyOf (says (twoStrings 3) (two 3))) ≡ 38))
+unfolding rowsOf tidyOf tidyRecords squeeze waiting written runOf pack afterWhat recordsOf encs enc says nodesFrom nodesOf spread whatFrom orderOf objectsIn stringAt textAt wellFormed after stepOf leadOf hiOf loOf needOf groupsOf prefixIn leBytes le hexOnto
+lengths = ((refl, (refl, refl)), (refl, refl))
+
+small-2 : Within reads-2
+small-2 = meant-small reads-2 (omega (arith, lengths .0 .0))
+
+small-sevens : Within reads-sevens
+small-sevens = meant-small reads-sevens (omega (arith, lengths .0 .1 .0))
+
+small-7 : Within reads-7
+small-7 = meant-small reads-7 (omega (arith, lengths .0 .1 .1))
+
+small-two : Within reads-two
+small-two = meant-small reads-two (omega (arith, lengths .1 .0))
+
+small-three : Within reads-three
+small-three = meant-small reads-three (omega (arith, lengths .1 .1))
+
+-- ---- readers
+
+-- a reader that accepts nothing
+pub refuses-all : (job : Reader) → ((s : List ℕ) (room : ℕ) (rows : List Row) → job s room ≡ accepted rows → ⊥) → Demand2 job → ⊥
+refuses-all job none demand = none case2 3 rows2 (demand case2 bytes-2 3 rows2 .1 (reads-2, omega (arith, counts .0)))
+
+pub all-refused : (refusal : List ℕ → ℕ → Refusal) (place : List ℕ → ℕ → ℕ) → Demand2 (λ s room. refused (refusal s room) (place s room)) → ⊥
+all-refused refusal place = refuses-all _ (λ s room rows e. let z : _≡_ {A = ℕ} 0 1 = cc in omega arith)
+
+-- a reader with one row set for all lists that it accepts
+pub one-row-set : (job : Reader) (fixed : List Row) → ((s : List ℕ) (room : ℕ) (rows : List Row) → job s room ≡ accepted rows → rows ≡ fixed) → Demand2 job → ⊥
+one-row-set job fixed one demand =
+    let a = one case2 4 rows2 (demand case2 bytes-2 4 rows2 .1 (reads-2, omega (arith, counts .0))) in
+    let b = one run7 4 rows7 (demand run7 bytes-7 4 rows7 .1 (reads-7, omega (arith, counts .1))) in
+    let e : length rows2 ≡ length rows7 = ap length (a ∙ sym b) in
+    let c = counts .0 in
+    let d = counts .1 in
+    omega arith
+
+same-rows : {a b : List Row} → accepted a ≡ accepted b → b ≡ a
+same-rows e = cc
+
+pub fixed-rows : (fixed : List Row) → Demand2 (λ s room. accepted fixed) → ⊥
+fixed-rows fixed = one-row-set _ fixed (λ s room rows e. same-rows e)
+
+-- the same of jobs with a table: nothing accepted
+pub table-refuses-all : (job : Filler) → ((s t : List ℕ) (n : ℕ) → job s t .0 ≡ A.Accepted n → ⊥) → Demand2Table job → ⊥
+table-refuses-all job none demand =
+    let t : List ℕ = replicate 32 0 in
+    none case2 t (length rows2) (demand .taken case2 t bytes-2 rows2 reads-2 (omega (arith, counts .0)) .0)
+
+-- and one row set in the table of every list that is accepted
+pub table-one-row-set : (job : Filler) (fixed : List Row) → ((s t : List ℕ) (n : ℕ) → job s t .0 ≡ A.Accepted n → job s t .1 ≡ tabled (length t) fixed)
+    → Demand2Table job → ⊥
+table-one-row-set job fixed one demand =
+    let t : List ℕ = replicate 32 0 in
+    let f = counts .0 in
+    let g = counts .1 in
+    let x = demand .taken case2 t bytes-2 rows2 reads-2 (omega arith) in
+    let y = demand .taken run7 t bytes-7 rows7 reads-7 (omega arith) in
+    let a = one case2 t (length rows2) (x .0) in
+    let b = one run7 t (length rows7) (y .0) in
+    let c = shown-rows reads-2 t (omega arith) in
+    let d = shown-rows reads-7 t (omega arith) in
+    let e : length rows2 ≡ length rows7 = sym c ∙ (ap shownIn (sym (x .1) ∙ (a ∙ (sym b ∙ y .1))) ∙ d) in
+    omega arith
+
+pub table-fixed-rows : (fixed : List Row) → Demand2Table (λ s t. (A.Accepted (length fixed), tabled (length t) fixed)) → ⊥
+table-fixed-rows fixed = table-one-row-set _ fixed (λ s t n e. refl)
+
+-- ---- tidy jobs
+
+-- one copy for all lists that have readings
+pub one-copy : (job : Copier) (copy : List ℕ) → ((s : List ℕ) (rows : List Row) → Reading s rows → job s ≡ copy) → Demand3 job → ⊥
+one-copy job copy one demand =
+    let e = one case2 rows2 reads-2 ∙ sym (one run7 rows7 reads-7) in
+    not-same-7 (same-meant reads-2 reads-7 .1 (demand .same case2 bytes-2 rows2 reads-2 small-2 run7 bytes-7 rows7 reads-7 small-7 .1 e))
+
+pub fixed-copy : (copy : List ℕ) → Demand3 (λ s. copy) → ⊥
+fixed-copy copy = one-copy (λ s. copy) copy (λ s rows w. refl)
+
+-- no bytes
+pub no-copy : Demand3 (λ s. []) → ⊥
+no-copy = fixed-copy []
+
+-- the list itself: nothing renumbered
+pub list-itself : Demand3 (λ s. s) → ⊥
+unfolding leBytes hexOnto
+list-itself demand =
+    let means = same-meant reads-2 reads-sevens .0 same-sevens in
+    let e : case2 ≡ sevens = demand .same case2 bytes-2 rows2 reads-2 small-2 sevens bytes-sevens rows27 reads-sevens small-sevens .0 means in
+    let z : _≡_ {A = ℕ} 1 7 = ap (λ (l : List ℕ). getD l 1 0) e in
+    omega arith
+
+-- no list begins with the byte 255
+no-255 : (k n : ℕ) (rows : List Row) → Reading (take k (replicate n 255)) rows → ⊥
+unfolding enc
+no-255 zero n rows w = none-empty rows w
+no-255 (suc k) zero rows w = none-empty rows w
+no-255 (suc k) (suc n) rows w = let z : _≡_ {A = ℕ} 255 0 = ap (λ (l : List ℕ). getD l 0 0) (w .bytes-are) in omega arith
+
+-- what is left of an output of these bytes has no reading, whatever was answered
+none-left : (q : TidyAnswer) (n : ℕ) (rows : List Row) → Reading (writtenIn q (replicate n 255)) rows → ⊥
+none-left (Q.Written k) n rows w = no-255 k n rows w
+none-left (Q.Refused r place) n rows w = none-empty rows w
+none-left (Q.OutFull k) n rows w = none-empty rows w
+
+-- a table with a row for each byte
+abbrev rowEach : List ℕ → List ℕ
+rowEach s = replicate (8 * length s) 0
+
+row-each : (s : List ℕ) → length s ≤ roomOf (rowEach s)
+row-each s = let z = length-replicate {A = ℕ} (8 * length s) 0 in omega arith
+
+-- a job that leaves the output as it was, whatever it answers
+pub writes-nothing : (job : Tidier) → ((s t d : List ℕ) → job s t d .1 .1 ≡ d) → Demand3Job job → ⊥
+writes-nothing job leaves demand = go 16777216 (omega arith)
+  where
+    go : (n : ℕ) → 16777216 ≤ n → ⊥
+    go n h =
+        let d : List ℕ = replicate n 255 in
+        let l : length d ≡ n = length-replicate {A = ℕ} n 255 in
+        let x = demand rowEach row-each d (omega arith) .taken case2 bytes-2 rows2 reads-2 small-2 in
+        let q = job case2 (rowEach case2) d .0 in
+        none-left q n (x .copies) (subst (λ (e : List ℕ). Reading (writtenIn q e) (x .copies)) (leaves case2 (rowEach case2) d) (x .reads))
+
+-- in full, with any answer and any table
+abbrev pub nothingWritten : (List ℕ → List ℕ → List ℕ → TidyAnswer) → (List ℕ → List ℕ → List ℕ → List ℕ) → Tidier
+nothingWritten answer table s t d = (answer s t d, (table s t d, d))
+
+pub nothing-written : (answer : List ℕ → List ℕ → List ℕ → TidyAnswer) (table : List ℕ → List ℕ → List ℕ → List ℕ)
+    → Demand3Job (nothingWritten answer table) → ⊥
+nothing-written answer table = writes-nothing (nothingWritten answer table) (λ s t d. refl)
+
+-- one copy at the front of every output
+abbrev pub oneWritten : List ℕ → (List ℕ → List ℕ → List ℕ → List ℕ) → Tidier
+oneWritten copy table s t d = (Q.Written (length copy), (table s t d, laid copy d))
+
+pub one-written : (copy : List ℕ) (table : List ℕ → List ℕ → List ℕ → List ℕ) → Demand3Job (oneWritten copy table) → ⊥
+unfolding laid
+one-written copy table demand = go 16777216 (omega arith)
+  where
+    go : (n : ℕ) → 16777216 ≤ n → ⊥
+    go n h =
+        let d : List ℕ = replicate n 0 in
+        let l : length d ≡ n = length-replicate {A = ℕ} n 0 in
+        one-copy _ copy (λ s rows w. take-append-seam copy (drop (length copy) d)) (demand rowEach row-each d (omega arith))
+
+-- ---- tidy jobs that renumber only the first object
+
+-- the objects of the copy after the first have the numbers that they have in the list
+abbrev pub KeepsLater : Copier → Type 0
+KeepsLater job = (s : List ℕ) (rows : List Row) (w : Reading s rows) (copies : List Row) (c : Reading (job s) copies)
+    → drop 1 (idsOf (recordsIn c)) ≡ drop 1 (idsOf (recordsIn w))
+
+later-ids : (drop 1 (idsOf (map (recFrom (twoStrings 2)) (two 2))) ≡ 2 ∷ []) × (drop 1 (idsOf (map (recFrom (twoStrings 3)) (two 3))) ≡ 3 ∷ [])
+unfolding rowsOf recFrom
+later-ids = (refl, refl)
+
+-- a job that meets demand 3 has one copy of both
+one-for-two : (job : Copier) → Demand3 job → job (twoStrings 2) ≡ job (twoStrings 3)
+one-for-two job demand =
+    demand .same (twoStrings 2) bytes-two (two 2) reads-two small-two (twoStrings 3) bytes-three (two 3) reads-three small-three .0
+    (same-meant reads-two reads-three .0 same-two)
+
+pub first-object-only : (job : Copier) → KeepsLater job → Demand3 job → ⊥
+first-object-only job keeps demand =
+    let x = demand .taken (twoStrings 2) bytes-two (two 2) reads-two small-two in
+    let copies = x .copies in
+    let later : List Rec → List ℕ = λ l. drop 1 (idsOf l) in
+    let a : drop 1 (idsOf (recordsIn (x .reads))) ≡ 2 ∷ [] =
+    keeps (twoStrings 2) (two 2) reads-two copies (x .reads) ∙ (ap later (records-are reads-two) ∙ later-ids .0) in
+    let f : (c : Reading (job (twoStrings 3)) copies) → drop 1 (idsOf (recordsIn c)) ≡ 3 ∷ [] =
+    λ c. keeps (twoStrings 3) (two 3) reads-three copies c ∙ (ap later (records-are reads-three) ∙ later-ids .1) in
+    let g : (c : Reading (job (twoStrings 2)) copies) → drop 1 (idsOf (recordsIn c)) ≡ 3 ∷ [] =
+    subst (λ (l : List ℕ). (c : Reading l copies) → drop 1 (idsOf (recordsIn c)) ≡ 3 ∷ []) (sym (one-for-two job demand)) f in
+    let z : _≡_ {A = ℕ} 2 3 = ap (λ (l : List ℕ). getD l 0 0) (sym a ∙ g (x .reads)) in
+    omega arith
+
+-- a job that copies the list is one of them
+pub itself-keeps : KeepsLater (λ s. s)
+itself-keeps s rows w copies c =
+    let e = records-are c ∙ (ap (map (recFrom s)) (reading-unique s copies rows c w) ∙ sym (records-are w)) in
+    ap (λ (l : List Rec). drop 1 (idsOf l)) e
+
+-- two programs of that kind in full. Every number of an object by this function: ObjectIds, IdRefs, MetadataIds and the root, which HeaderId repeats
+abbrev pub withNumbers : (ℕ → ℕ) → Rec → Rec
+withNumbers f (header r h) = header (f r) (f r)
+withNumbers f (classById i k) = classById (f i) (f k)
+withNumbers f (systemClass i n ms) = systemClass (f i) n ms
+withNumbers f (libraryClass i n ms l) = libraryClass (f i) n ms l
+withNumbers f (string i x) = string (f i) x
+withNumbers f (array i t ns d vs) = array (f i) t ns d vs
+withNumbers f (typedPrimitive c v) = typedPrimitive c v
+withNumbers f (reference i) = reference (f i)
+withNumbers f null = null
+withNumbers f (nulls k) = nulls k
+withNumbers f (manyNulls k) = manyNulls k
+withNumbers f end = end
+withNumbers f (library i n) = library i n
+withNumbers f (primitiveArray i n c vs) = primitiveArray (f i) n c vs
+withNumbers f (objectArray i n) = objectArray (f i) n
+withNumbers f (stringArray i n) = stringArray (f i) n
+withNumbers f (value v) = value v
+
+-- the first object of the list becomes 1, and the rest is copied
+abbrev pub firstBy : List Rec → List ℕ
+firstBy rs = let first = getD (idsOf rs) 0 0 in encs (map (withNumbers (λ i. pick (eqb i first) 1 i)) rs)
+
+abbrev firstFrom : List ℕ → Outcome → List ℕ
+firstFrom s (accepted rows) = firstBy (map (recFrom s) rows)
+firstFrom s (refused r place) = []
+
+unfoldable pub firstOnly : Copier
+firstOnly s = firstFrom s (readOf s (length s))
+
+-- the copy of 01, with packed nulls, shared classes and needed libraries, but every object after the first has its number in the list
+abbrev pub tidyBy : List ℕ → Model → List ℕ
+tidyBy ids m = encs (map (withNumbers (λ k. pick (leb k 1) k (getD ids (k - 1) 0))) (tidyRecords m))
+
+abbrev tidyFrom : List ℕ → Outcome → List ℕ
+tidyFrom s (accepted rows) = tidyBy (idsOf (map (recFrom s) rows)) (says s rows)
+tidyFrom s (refused r place) = []
+
+unfoldable pub tidyFirstOnly : Copier
+tidyFirstOnly s = tidyFrom s (readOf s (length s))
+
+unchanged : ((firstBy (map (recFrom (twoStrings 2)) (two 2)) ≡ twoStrings 2) × (firstBy (map (recFrom (twoStrings 3)) (two 3)) ≡ twoStrings 3))
+    × ((tidyBy (idsOf (map (recFrom (twoStrings 2)) (two 2))) (says (twoStrings 2) (two 2)) ≡ twoStrings 2)
+    × (tidyBy (idsOf (map (recFrom (twoStrings 3)) (two 3))) (says (twoStrings 3) (two 3)) ≡ twoStrings 3))
+unfolding rowsOf recFrom tidyRecords squeeze waiting written runOf pack afterWhat recordsOf encs enc says nodesFrom nodesOf spread whatFrom orderOf objectsIn stringAt textAt wellFormed after stepOf leadOf hiOf loOf needOf groupsOf prefixIn leBytes le hexOnto
+unchanged = ((refl, refl), (refl, refl))
+
+-- a job that leaves the two lists as they are
+pub keeps-both : (job : Copier) → job (twoStrings 2) ≡ twoStrings 2 → job (twoStrings 3) ≡ twoStrings 3 → Demand3 job → ⊥
+unfolding leBytes hexOnto
+keeps-both job a b demand =
+    let z : _≡_ {A = ℕ} 2 3 = ap (λ (l : List ℕ). getD l 28 0) (sym a ∙ (one-for-two job demand ∙ b)) in
+    omega arith
+
+read-two : readOf (twoStrings 2) (length (twoStrings 2)) ≡ accepted (two 2)
+read-two = accepts reads-two (length (twoStrings 2)) (reading-short (twoStrings 2) (two 2) reads-two)
+
+read-three : readOf (twoStrings 3) (length (twoStrings 3)) ≡ accepted (two 3)
+read-three = accepts reads-three (length (twoStrings 3)) (reading-short (twoStrings 3) (two 3) reads-three)
+
+pub first-only : Demand3 firstOnly → ⊥
+unfolding firstOnly
+first-only =
+    keeps-both firstOnly (ap (firstFrom (twoStrings 2)) read-two ∙ unchanged .0 .0) (ap (firstFrom (twoStrings 3)) read-three ∙ unchanged .0 .1)
+
+pub tidy-first-only : Demand3 tidyFirstOnly → ⊥
+unfolding tidyFirstOnly
+tidy-first-only =
+    keeps-both tidyFirstOnly (ap (tidyFrom (twoStrings 2)) read-two ∙ unchanged .1 .0) (ap (tidyFrom (twoStrings 3)) read-three ∙ unchanged .1 .1)
+
+-- ---- an invented row count
+
+-- the table that reading promises, with a count of its own
+abbrev countBy : ℕ → ℕ → Outcome → ReadAnswer × List ℕ
+countBy k n (accepted rows) = (A.Accepted k, tableWords n (accepted rows))
+countBy k n (refused r place) = (A.Refused r place, tableWords n (refused r place))
+
+unfoldable pub invented : (List ℕ → List ℕ → ℕ) → Filler
+invented count s t = countBy (count s t) (length t) (readOf s (roomOf t))
+
+-- a job that shows the reading and keeps the table rule answers the number of rows
+pub count-settled : (job : Filler) → TableRule job → (s t : List ℕ) → Bytes s → (n : ℕ) → job s t .0 ≡ A.Accepted n → (rows : List Row) → Reading s rows
+    → length rows ≤ roomOf t → job s t .1 ≡ tabled (length t) rows → n ≡ length rows
+count-settled job rule s t byte n e rows w fit q = sym (rule s t byte n e) ∙ (ap shownIn q ∙ shown-rows w t fit)
+
+-- so an invented count keeps the rule only where it is that number
+pub invented-count : (count : List ℕ → List ℕ → ℕ) → TableRule (invented count) → (s t : List ℕ) → Bytes s → (rows : List Row) → Reading s rows
+    → length rows ≤ roomOf t → count s t ≡ length rows
+unfolding invented tableWords
+invented-count count rule s t byte rows w fit =
+    let e : invented count s t ≡ (A.Accepted (count s t), tabled (length t) rows) = ap (countBy (count s t) (length t)) (accepts w (roomOf t) fit) in
+    count-settled (invented count) rule s t byte (count s t) (ap (λ (x : ReadAnswer × List ℕ). x .0) e) rows w fit (ap (λ (x : ReadAnswer × List ℕ). x .1) e)
+
+-- one count for all lists
+pub fixed-count : (k : ℕ) → TableRule (invented (λ s t. k)) → ⊥
+fixed-count k rule =
+    let t : List ℕ = replicate 32 0 in
+    let a = invented-count (λ s t. k) rule case2 t bytes-2 rows2 reads-2 (omega (arith, counts .0)) in
+    let b = invented-count (λ s t. k) rule run7 t bytes-7 rows7 reads-7 (omega (arith, counts .1)) in
+    let c = counts .0 in
+    let d = counts .1 in
+    omega arith
+
+-- a count that goes wrong for lists of three rows, as one that is always one too large
+pub wrong-count : (wrong : ℕ → ℕ) → (wrong 3 ≡ 3 → ⊥) → TableRule (invented (λ s t. wrong (shownIn (tableWords (length t) (readOf s (roomOf t)))))) → ⊥
+unfolding tableWords
+wrong-count wrong differs rule =
+    let t : List ℕ = replicate 32 0 in
+    let c = counts .0 in
+    let fit : length rows2 ≤ roomOf t = omega arith in
+    let a = invented-count _ rule case2 t bytes-2 rows2 reads-2 fit in
+    let e : shownIn (tableWords (length t) (readOf case2 (roomOf t))) ≡ 3 =
+    ap (λ (o : Outcome). shownIn (tableWords (length t) o)) (accepts reads-2 (roomOf t) fit) ∙ (shown-rows reads-2 t fit ∙ c) in
+    differs (sym (ap wrong e) ∙ (a ∙ c))

@@ -1,0 +1,215 @@
+-- Worked meanings: what records mean, kind by kind; lists that mean the same; and lists that do not, one pair for each word of 01 that tells them apart.
+use Prim.Native.Nat.{ℕ}
+use mathlib.Core.Path.{_≡_, refl, ap}
+use mathlib.Core.List.{List, [], _∷_}
+use native.Mathlib.Omega.{arith}
+use Rattle.format.specs.declared.PrimitiveCode.the-variants as C
+use Rattle.format.specs.Contents.{Detail, primitive, text, object, class, Member, Rec, classById, systemClass, libraryClass, string, array, typedPrimitive, reference, null, nulls, manyNulls, end, library, primitiveArray, objectArray, stringArray, value}
+use Rattle.format.specs.Says.{theLibrary, Class, What, anObject, aString, anArray, aPrimitive, aReference, aNull, aPrimitiveArray, anObjectArray, aStringArray, aValue, Node, node, Model, spread}
+use Rattle.format.specs.Meant.{found, librariesOf, classesOf, noClass, orderAfter, nameBy, classBy, orderBy, walk, meant}
+
+abbrev model : ℕ → List Node → Model
+model root nodes = record { root = root; nodes = nodes }
+
+-- ---- one kind after the other
+
+-- 7: a jagged array of two strings
+pub kind-7 : meant 8 (array 8 1 (2 ∷ []) text [] ∷ string 9 (49 ∷ []) ∷ null ∷ end ∷ [])
+    ≡ model 1 (node (anArray 1 (2 ∷ []) text []) 0 0 ∷ node (aString (49 ∷ [])) 1 0 ∷ node aNull 1 1 ∷ [])
+unfolding meant walk nameBy classBy orderBy found librariesOf classesOf orderAfter spread
+kind-7 = refl
+
+-- 7: a rectangular array of bytes holds its items itself, so what follows is at top level
+pub kind-7-values : meant 8 (array 8 2 (2 ∷ 2 ∷ []) (primitive C.Byte) (1 ∷ 2 ∷ 3 ∷ 4 ∷ []) ∷ string 9 (49 ∷ []) ∷ end ∷ [])
+    ≡ model 1 (node (anArray 2 (2 ∷ 2 ∷ []) (primitive C.Byte) (1 ∷ 2 ∷ 3 ∷ 4 ∷ [])) 0 0 ∷ node (aString (49 ∷ [])) 0 0 ∷ [])
+unfolding meant walk nameBy classBy orderBy found librariesOf classesOf orderAfter spread
+kind-7-values = refl
+
+-- 8, 13 and 16: a typed primitive and a run of two nulls fill an object array
+pub kind-8 : meant 9 (objectArray 9 3 ∷ typedPrimitive C.Int16 (5 ∷ 0 ∷ []) ∷ nulls 2 ∷ end ∷ [])
+    ≡ model 1 (node (anObjectArray 3) 0 0 ∷ node (aPrimitive C.Int16 (5 ∷ 0 ∷ [])) 1 0 ∷ node aNull 1 1 ∷ node aNull 1 2 ∷ [])
+unfolding meant walk nameBy classBy orderBy found librariesOf classesOf orderAfter spread
+kind-8 = refl
+
+-- 15: items lie inside the array; the root is the second object
+pub kind-15 : meant 6 (primitiveArray 5 3 C.Byte (1 ∷ 2 ∷ 3 ∷ []) ∷ string 6 [] ∷ end ∷ [])
+    ≡ model 2 (node (aPrimitiveArray 3 C.Byte (1 ∷ 2 ∷ 3 ∷ [])) 0 0 ∷ node (aString []) 0 0 ∷ [])
+unfolding meant walk nameBy classBy orderBy found librariesOf classesOf orderAfter spread
+kind-15 = refl
+
+-- 17: a string, a reference to it and one to an object that comes later
+pub kind-17 : meant 4 (stringArray 4 3 ∷ string 7 (65 ∷ []) ∷ reference 7 ∷ reference 2 ∷ string 2 [] ∷ end ∷ [])
+    ≡ model 1 (node (aStringArray 3) 0 0 ∷ node (aString (65 ∷ [])) 1 0 ∷ node (aReference 2) 1 1 ∷ node (aReference 3) 1 2 ∷ node (aString []) 0 0 ∷ [])
+unfolding meant walk nameBy classBy orderBy found librariesOf classesOf orderAfter spread
+kind-17 = refl
+
+-- ---- 32, 1, 5 and 12: an object in a slot of an object of its own class
+
+abbrev two : {L : Type 0} → L → List (Member L)
+two l = record { name = 97 ∷ []; type = primitive C.Byte } ∷ record { name = 98 ∷ []; type = class (80 ∷ []) l } ∷ []
+
+abbrev pair : Class
+pair = record { name = 80 ∷ []; from = theLibrary (76 ∷ []); members = two (76 ∷ []) }
+
+abbrev nested : List Rec
+nested = library 3 (76 ∷ []) ∷ libraryClass 10 (80 ∷ []) (two 3) 3 ∷ value (1 ∷ []) ∷ classById 20 10 ∷ value (2 ∷ []) ∷ reference 10 ∷ string 30 [] ∷ end ∷ []
+
+-- with a library that nothing needs, other numbers, the class written again, and a second number for the library's name
+abbrev nestedAgain : List Rec
+nestedAgain =
+    library 1 (77 ∷ []) ∷ library 2 (76 ∷ []) ∷ libraryClass 1 (80 ∷ []) (two 2) 2 ∷ value (1 ∷ []) ∷ library 5 (76 ∷ []) ∷ libraryClass 2 (80 ∷ []) (two 5) 2
+    ∷ value (2 ∷ []) ∷ reference 1 ∷ string 3 [] ∷ end ∷ []
+
+pub kind-32 : meant 20 nested
+    ≡ model 2
+    (node (anObject pair) 0 0 ∷ node (aValue (1 ∷ [])) 1 0 ∷ node (anObject pair) 1 1 ∷ node (aValue (2 ∷ [])) 2 0 ∷ node (aReference 1) 2 1
+    ∷ node (aString []) 0 0 ∷ [])
+unfolding meant walk nameBy classBy orderBy found librariesOf classesOf orderAfter spread
+kind-32 = refl
+
+-- ---- lists that mean the same
+
+pub numbers-and-libraries : meant 20 nested ≡ meant 2 nestedAgain
+unfolding meant walk nameBy classBy orderBy found librariesOf classesOf orderAfter spread
+numbers-and-libraries = refl
+
+pub nulls-spread : meant 1 (objectArray 1 3 ∷ null ∷ nulls 0 ∷ nulls 2 ∷ end ∷ []) ≡ meant 7 (objectArray 7 3 ∷ manyNulls 3 ∷ end ∷ [])
+unfolding meant walk nameBy classBy orderBy found librariesOf classesOf orderAfter spread
+nulls-spread = refl
+
+-- ---- and lists that do not: for each word of 01 two lists that differ in nothing else
+
+-- a list of one object, and one of two records
+abbrev alone : Rec → Model
+alone r = meant 8 (r ∷ end ∷ [])
+
+abbrev both : Rec → Rec → Model
+both r q = meant 8 (r ∷ q ∷ end ∷ [])
+
+abbrev whats : Model → List What
+whats m = each (m .nodes)
+  where
+    each : List Node → List What
+    each [] = []
+    each (n ∷ ns) = n .what ∷ each ns
+
+-- kind
+pub kind-told : alone (objectArray 8 0) ≡ alone (stringArray 8 0) → ⊥
+unfolding meant walk nameBy classBy orderBy found librariesOf classesOf orderAfter spread
+kind-told e = let w = ap whats e in let z : _≡_ {A = ℕ} 0 1 = cc in omega arith
+
+-- array type
+pub array-type-told : alone (array 8 0 (0 ∷ []) text []) ≡ alone (array 8 1 (0 ∷ []) text []) → ⊥
+unfolding meant walk nameBy classBy orderBy found librariesOf classesOf orderAfter spread
+array-type-told e = let w = ap whats e in let z : _≡_ {A = ℕ} 0 1 = cc in omega arith
+
+-- lengths
+pub lengths-told : alone (array 8 2 (0 ∷ 1 ∷ []) text []) ≡ alone (array 8 2 (0 ∷ 2 ∷ []) text []) → ⊥
+unfolding meant walk nameBy classBy orderBy found librariesOf classesOf orderAfter spread
+lengths-told e = let w = ap whats e in let z : _≡_ {A = ℕ} 1 2 = cc in omega arith
+
+-- item types
+pub item-type-told : alone (array 8 0 (0 ∷ []) text []) ≡ alone (array 8 0 (0 ∷ []) object []) → ⊥
+unfolding meant walk nameBy classBy orderBy found librariesOf classesOf orderAfter spread
+item-type-told e = let w = ap whats e in let z : _≡_ {A = ℕ} 0 1 = cc in omega arith
+
+abbrev ofClass : Rec
+ofClass = array 8 0 (0 ∷ []) (class [] 1) []
+
+-- a library in an item type, by its name
+pub item-library-told : both (library 1 (65 ∷ [])) ofClass ≡ both (library 1 (66 ∷ [])) ofClass → ⊥
+unfolding meant walk nameBy classBy orderBy found librariesOf classesOf orderAfter spread
+item-library-told e = let w = ap whats e in let z : _≡_ {A = ℕ} 65 66 = cc in omega arith
+
+abbrev typed : Rec → Model
+typed r = both (objectArray 8 1) r
+
+-- primitive code
+pub code-told : typed (typedPrimitive C.Int16 (5 ∷ 0 ∷ [])) ≡ typed (typedPrimitive C.UInt16 (5 ∷ 0 ∷ [])) → ⊥
+unfolding meant walk nameBy classBy orderBy found librariesOf classesOf orderAfter spread
+code-told e = let w = ap whats e in let z : _≡_ {A = ℕ} 0 1 = cc in omega arith
+
+-- primitive code of an array
+pub array-code-told : alone (primitiveArray 8 0 C.Byte []) ≡ alone (primitiveArray 8 0 C.SByte []) → ⊥
+unfolding meant walk nameBy classBy orderBy found librariesOf classesOf orderAfter spread
+array-code-told e = let w = ap whats e in let z : _≡_ {A = ℕ} 0 1 = cc in omega arith
+
+-- text
+pub text-told : alone (string 8 (65 ∷ [])) ≡ alone (string 8 (66 ∷ [])) → ⊥
+unfolding meant walk nameBy classBy orderBy found librariesOf classesOf orderAfter spread
+text-told e = let w = ap whats e in let z : _≡_ {A = ℕ} 65 66 = cc in omega arith
+
+abbrev targeted : ℕ → Model
+targeted i = meant 8 (objectArray 8 1 ∷ reference i ∷ string 9 [] ∷ end ∷ [])
+
+-- target
+pub target-told : targeted 8 ≡ targeted 9 → ⊥
+unfolding meant walk nameBy classBy orderBy found librariesOf classesOf orderAfter spread
+target-told e = let w = ap whats e in let z : _≡_ {A = ℕ} 1 2 = cc in omega arith
+
+abbrev rooted : ℕ → Model
+rooted i = meant i (string 8 [] ∷ string 9 [] ∷ end ∷ [])
+
+-- root
+pub root-told : rooted 8 ≡ rooted 9 → ⊥
+unfolding meant walk nameBy classBy orderBy found librariesOf classesOf orderAfter spread
+root-told e = let z : _≡_ {A = ℕ} 1 2 = ap (λ (m : Model). m .root) e in omega arith
+
+-- a class of one member
+abbrev one : List ℕ → Detail ℕ → Rec
+one n d = systemClass 8 [] (record { name = n; type = d } ∷ [])
+
+-- value bytes of a member
+pub value-told : both (one [] (primitive C.Byte)) (value (1 ∷ [])) ≡ both (one [] (primitive C.Byte)) (value (2 ∷ [])) → ⊥
+unfolding meant walk nameBy classBy orderBy found librariesOf classesOf orderAfter spread
+value-told e = let w = ap whats e in let z : _≡_ {A = ℕ} 1 2 = cc in omega arith
+
+-- classes: the first thing said, if it is an object
+abbrev classOf : List What → Class
+classOf [] = noClass
+classOf (anObject c ∷ ws) = c
+classOf (aString x ∷ ws) = noClass
+classOf (anArray t ns d vs ∷ ws) = noClass
+classOf (aPrimitive c v ∷ ws) = noClass
+classOf (aReference k ∷ ws) = noClass
+classOf (aNull ∷ ws) = noClass
+classOf (aPrimitiveArray n c vs ∷ ws) = noClass
+classOf (anObjectArray n ∷ ws) = noClass
+classOf (aStringArray n ∷ ws) = noClass
+classOf (aValue v ∷ ws) = noClass
+
+abbrev names : List (Member (List ℕ)) → List (List ℕ)
+names [] = []
+names (m ∷ ms) = m .name ∷ names ms
+
+abbrev types : List (Member (List ℕ)) → List (Detail (List ℕ))
+types [] = []
+types (m ∷ ms) = m .type ∷ types ms
+
+-- class name
+pub class-name-told : alone (systemClass 8 (65 ∷ []) []) ≡ alone (systemClass 8 (66 ∷ []) []) → ⊥
+unfolding meant walk nameBy classBy orderBy found librariesOf classesOf orderAfter spread
+class-name-told e = let w = ap (λ (m : Model). classOf (whats m) .name) e in let z : _≡_ {A = ℕ} 65 66 = cc in omega arith
+
+-- system or library
+pub system-told : both (library 1 []) (systemClass 8 [] []) ≡ both (library 1 []) (libraryClass 8 [] [] 1) → ⊥
+unfolding meant walk nameBy classBy orderBy found librariesOf classesOf orderAfter spread
+system-told e = let w = ap (λ (m : Model). classOf (whats m) .from) e in let z : _≡_ {A = ℕ} 0 1 = cc in omega arith
+
+abbrev from : List ℕ → Model
+from n = both (library 1 n) (libraryClass 8 [] [] 1)
+
+-- library name
+pub library-told : from (65 ∷ []) ≡ from (66 ∷ []) → ⊥
+unfolding meant walk nameBy classBy orderBy found librariesOf classesOf orderAfter spread
+library-told e = let w = ap (λ (m : Model). classOf (whats m) .from) e in let z : _≡_ {A = ℕ} 65 66 = cc in omega arith
+
+-- member names
+pub member-name-told : both (one (65 ∷ []) text) null ≡ both (one (66 ∷ []) text) null → ⊥
+unfolding meant walk nameBy classBy orderBy found librariesOf classesOf orderAfter spread
+member-name-told e = let w = ap (λ (m : Model). names (classOf (whats m) .members)) e in let z : _≡_ {A = ℕ} 65 66 = cc in omega arith
+
+-- member types
+pub member-type-told : both (one [] text) null ≡ both (one [] object) null → ⊥
+unfolding meant walk nameBy classBy orderBy found librariesOf classesOf orderAfter spread
+member-type-told e = let w = ap (λ (m : Model). types (classOf (whats m) .members)) e in let z : _≡_ {A = ℕ} 0 1 = cc in omega arith
