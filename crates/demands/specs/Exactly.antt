@@ -23,12 +23,19 @@ pub same-meant : {s : List ℕ} {rows : List Row} (a : Reading s rows) {t : List
     → SayTheSame s rows t others ↔ (meantBy a ≡ meantBy b)
 same-meant a b = (λ e. sym (says-meant a) ∙ (e ∙ says-meant b), λ e. says-meant a ∙ (e ∙ sym (says-meant b)))
 
--- the stream limit, of what is said and of what is meant
+-- two readings of one stream mean the same
+pub one-meaning : {s : List ℕ} {rows others : List Row} (a : Reading s rows) (b : Reading s others) → meantBy a ≡ meantBy b
+one-meaning {s} {rows} {others} a b = sym (says-meant a) ∙ (ap (says s) (reading-unique s rows others a b) ∙ says-meant b)
+
+-- the copy of what is said is as long as that of what is meant; so one is within the stream limit where the other is
+pub as-long : {s : List ℕ} {rows : List Row} (a : Reading s rows) → length (tidyOf (says s rows)) ≡ length (tidyOf (meantBy a))
+as-long a = ap (λ (m : Model). length (tidyOf m)) (says-meant a)
+
 pub said-small : {s : List ℕ} {rows : List Row} (a : Reading s rows) → length (tidyOf (meantBy a)) ≤ 16777216 → length (tidyOf (says s rows)) ≤ 16777216
-said-small a small = subst (λ (m : Model). length (tidyOf m) ≤ 16777216) (sym (says-meant a)) small
+said-small a small = subst (λ (n : ℕ). n ≤ 16777216) (sym (as-long a)) small
 
 pub meant-small : {s : List ℕ} {rows : List Row} (a : Reading s rows) → length (tidyOf (says s rows)) ≤ 16777216 → length (tidyOf (meantBy a)) ≤ 16777216
-meant-small a small = subst (λ (m : Model). length (tidyOf m) ≤ 16777216) (says-meant a) small
+meant-small a small = subst (λ (n : ℕ). n ≤ 16777216) (as-long a) small
 
 -- exactly when their tidy copies are equal
 pub meant-exactly : {s : List ℕ} {rows : List Row} (a : Reading s rows) → length (tidyOf (meantBy a)) ≤ 16777216
@@ -57,7 +64,7 @@ pub written-meant : (s t d : List ℕ) → Bytes s → (n : ℕ) (u e : List ℕ
     → take n e ≡ tidyOf (meantBy w)
 written-meant s t d byte n u e p {rows} w =
     let x = tidy-writes s t d byte n u e p in
-    x .copy-is ∙ ap tidyOf (ap (says s) (reading-unique s (x .rows) rows (x .reads) w) ∙ says-meant w)
+    x .copy-is ∙ ap tidyOf (says-meant (x .reads) ∙ one-meaning (x .reads) w)
 
 -- two calls leave equal copies exactly when the records mean the same
 pub two-meant : (s t d : List ℕ) → Bytes s → (n : ℕ) (u e : List ℕ) → TidyPromise s t d (Q.Written n) u e

@@ -1,4 +1,5 @@
--- The comparing job: its promise, that it allows one outcome, and the laws that its proof cites.
+-- The comparing job: its promise, that it allows one outcome, what a caller learns from it, and the laws that its proof cites.
 pub mod Sameness
 pub mod Settled
+pub mod Calls
 pub mod Laws
