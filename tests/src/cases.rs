@@ -15,6 +15,8 @@ pub struct Case {
     pub stream: Vec<u8>,
     /// Words of the table.
     pub words: usize,
+    /// An output that it is tidied into besides the usual ones.
+    pub room: Option<usize>,
     pub known: Option<Known>,
     /// Not made here.
     pub is_list: bool,
@@ -43,7 +45,8 @@ fn hand_written(case: by_hand::Case) -> Case {
     let what = format!("by hand: {}", case.what);
     let copy = case.copy.and_then(Result::ok).map(|copy| corpus::copy_note(&copy));
     let known = Some(Known { answer: Some(answer), rows: None, copy });
-    Case { what, stream: case.stream, words: case.words, known, is_list: false }
+    let (words, room) = (case.words, Some(case.out));
+    Case { what, stream: case.stream, words, room, known, is_list: false }
 }
 
 /// Every list of a folder, with what its expected.tsv says.
@@ -56,13 +59,15 @@ fn list(folder: &Path, name: &str, outcome: &str) -> Result<Case, String> {
     let stream = std::fs::read(folder.join(name)).map_err(|error| format!("{name}: {error}"))?;
     let known = Some(known(outcome).ok_or(format!("{name}: what is {outcome:?}?"))?);
     let words = corpus::ROWS * ROW_WORDS;
-    Ok(Case { what: format!("list {name}"), stream, words, known, is_list: true })
+    Ok(Case { what: format!("list {name}"), stream, words, room: None, known, is_list: true })
 }
 
-/// What an outcome of expected.tsv says of the reading and the copy.
-fn known(outcome: &str) -> Option<Known> {
+/// What an outcome of expected.tsv says of the reading and the copy, whose note
+/// begins with its length.
+pub fn known(outcome: &str) -> Option<Known> {
     let (reading, tidying) = outcome.split_once(" tidy ")?;
-    let copy = (!tidying.starts_with("refused")).then(|| tidying.to_string());
+    let is_copy = tidying.starts_with(|first: char| first.is_ascii_digit());
+    let copy = is_copy.then(|| tidying.to_string());
     let words: Vec<&str> = reading.split(' ').collect();
     match words[..] {
         ["accepted", rows, hash] => {
@@ -114,6 +119,7 @@ impl Maker<'_> {
             what: what.to_string(),
             stream,
             words,
+            room: None,
             known: None,
             is_list: false,
         });

@@ -45,7 +45,8 @@ fn case(what: &str, stream: Stream, words: usize, outcome: Outcome) -> Case {
         Refused(number, place) => format!("refused {number} at {place}"),
     });
     let known = Some(Known { answer, rows: None, copy: None });
-    Case { what: format!("large: {what}"), stream: stream.0, words, known, is_list: false }
+    let (what, stream) = (format!("large: {what}"), stream.0);
+    Case { what, stream, words, room: None, known, is_list: false }
 }
 
 fn items(count: usize) -> Stream {
@@ -104,6 +105,7 @@ fn whole(list: &Case) -> Case {
         what: format!("large: whole {}", list.what),
         stream: list.stream.clone(),
         words: list.stream.len() * ROW_WORDS,
+        room: None,
         known: Some(Known { answer: None, rows: None, copy }),
         is_list: true,
     }

@@ -9,6 +9,7 @@ pub mod corpus;
 pub mod fast;
 pub mod generate;
 pub mod large;
+pub mod outside;
 pub mod pairs;
 pub mod reader;
 pub mod report;

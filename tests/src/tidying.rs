@@ -38,10 +38,22 @@ pub fn copy_in(stream: &[u8], words: usize) -> Option<Vec<u8>> {
     read_records(stream, words / ROW_WORDS).ok().map(|reading| copy_of(&reading))
 }
 
+/// A case with its own output, where it has one, and with the usual ones.
+pub fn of_case(case: &Case) -> Vec<Tidying> {
+    let own = case.room.map(|room| Tidying {
+        what: format!("{}, its own output", case.what),
+        stream: case.stream.clone(),
+        words: case.words,
+        room,
+        demand: Demand::None,
+    });
+    own.into_iter().chain(with_usual_outputs(case)).collect()
+}
+
 /// An accepted stream with outputs that are larger than the copy, as large, one
 /// byte too small and empty, and its copy as a stream, for the same table; a
 /// refused one with one output.
-pub fn of_case(case: &Case) -> Vec<Tidying> {
+fn with_usual_outputs(case: &Case) -> Vec<Tidying> {
     let tidying = |what: &str, stream: &[u8], room, demand| Tidying {
         what: format!("{}, {what}", case.what),
         stream: stream.to_vec(),

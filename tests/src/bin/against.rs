@@ -10,6 +10,7 @@ use independent_reader::cases::{self, Case};
 use independent_reader::corpus::{copy_note, rows_hash};
 use independent_reader::generate::Random;
 use independent_reader::large::large;
+use independent_reader::outside;
 use independent_reader::pairs::{found_pair, pairs, Pair, NOT_THE_SAME};
 use independent_reader::report::Report;
 use independent_reader::show::{
@@ -60,18 +61,18 @@ fn main() -> ExitCode {
 fn compare_all() -> Result<usize, String> {
     let wishes = Wishes::from(std::env::args().skip(1))?;
     let lists = wishes.lists()?;
-    let by_hand = cases::by_hand();
-    let (hand, real) = (by_hand.len(), lists.len());
+    let (by_hand, outside) = (cases::by_hand(), outside::cases()?);
+    let (hand, noted, real) = (by_hand.len(), outside.len(), lists.len());
     let large = if wishes.linked.is_some() { large(&lists) } else { Vec::new() };
     println!(
-        "seed {}: {} generated streams, {hand} by hand, {real} lists, {} large ones",
+        "seed {}: {} generated streams, {hand} by hand, {noted} with outcomes noted, {real} lists, {} large ones",
         wishes.seed,
         wishes.count,
         large.len()
     );
     let mut report = Report::default();
-    let not_made = by_hand.into_iter().chain(lists.clone());
-    wishes.compare_batch(wishes.seed, [0, hand + real], not_made, &mut report)?;
+    let not_made = by_hand.into_iter().chain(outside).chain(lists.clone());
+    wishes.compare_batch(wishes.seed, [0, hand + noted + real], not_made, &mut report)?;
     let mut seeds = Random::new(wishes.seed);
     let mut seed = wishes.seed;
     for first in (0..wishes.count).step_by(BATCH) {
