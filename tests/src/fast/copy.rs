@@ -96,9 +96,6 @@ pub struct Walk<'n, 'a, S> {
     number: u32,
     class_objects: usize,
     uses: usize,
-    /// Nulls that are not yet written, and whose slots they fill.
-    nulls: u32,
-    owner: u32,
     /// By library: its number once it is written, else 0.
     library_numbers: Vec<u32>,
     last_library: u32,
@@ -113,21 +110,27 @@ impl<'n, 'a, S: Sink> Walk<'n, 'a, S> {
             number: 0,
             class_objects: 0,
             uses: 0,
-            nulls: 0,
-            owner: 0,
             library_numbers: vec![0; found.libraries.len()],
             last_library: 0,
         }
     }
 
+    /// Null runs of one owner with nothing written between them lie side by
+    /// side, so they are written where something else follows.
     pub fn over(mut self, rows: &[u32]) -> S {
+        let (mut nulls, mut nulls_of) = (0, 0);
         for row in rows.chunks_exact(ROW_WORDS) {
             let &[kind, offset, end, id, owner, _, _, count] = row else { continue };
             match kind as u8 {
-                LIBRARY => continue,
-                NULL | SHORT_RUN | LONG_RUN => self.hold_nulls(owner, count),
+                LIBRARY => {}
+                NULL | SHORT_RUN | LONG_RUN if owner == nulls_of => nulls += count,
+                NULL | SHORT_RUN | LONG_RUN => {
+                    self.write_nulls(nulls);
+                    (nulls, nulls_of) = (count, owner);
+                }
                 kind => {
-                    self.write_nulls();
+                    self.write_nulls(nulls);
+                    nulls = 0;
                     self.record(kind, offset as usize, end as usize, id as i32);
                 }
             }
@@ -135,23 +138,13 @@ impl<'n, 'a, S: Sink> Walk<'n, 'a, S> {
         self.sink
     }
 
-    /// Runs of one owner with nothing written between them lie side by side.
     #[inline]
-    fn hold_nulls(&mut self, owner: u32, count: u32) {
-        if owner != self.owner {
-            self.write_nulls();
-            self.owner = owner;
-        }
-        self.nulls += count;
-    }
-
-    #[inline]
-    fn write_nulls(&mut self) {
-        match std::mem::take(&mut self.nulls) {
+    fn write_nulls(&mut self, count: u32) {
+        match count {
             0 => {}
             1 => self.sink.put([NULL]),
-            count @ 2..=255 => self.sink.put([SHORT_RUN, count as u8]),
-            count => self.head(LONG_RUN, count),
+            2..=255 => self.sink.put([SHORT_RUN, count as u8]),
+            _ => self.head(LONG_RUN, count),
         }
     }
 

@@ -97,6 +97,10 @@ impl<'a> Cursor<'a> {
         }
     }
 
+    pub fn texts(&mut self, count: u32) -> Field<()> {
+        (0..count).try_for_each(|_| self.text().map(drop))
+    }
+
     pub fn primitive_code(&mut self) -> Field<u8> {
         match self.byte()? {
             code @ (1..=3 | 5..=16) => Ok(code),

@@ -254,28 +254,31 @@ impl<'a> Reader<'a, '_> {
         let id = self.class_object_id()?;
         let (from, first_use) = (self.cursor.place(), self.found.uses.len());
         self.cursor.text()?;
-        let count = self.cursor.count()?;
-        for _ in 0..count {
-            self.cursor.text()?;
-        }
-        let types = self.types.len();
-        for &type_byte in self.cursor.type_bytes(count as usize)? {
-            let slot = self.type_info(type_byte)?;
-            self.types.push(slot);
-        }
+        let (types, count) = (self.types.len(), self.members()?);
         let (to, is_system) = (self.cursor.place(), kind == SYSTEM_CLASS);
         if !is_system {
             self.library_use()?;
         }
-        let number = self.found.objects.len() as u32;
-        let (row, last_use) = (self.found.rows as u32, self.found.uses.len());
+        let Found { rows, objects, uses, classes, .. } = &self.found;
+        let (row, number, last_use) = (*rows as u32, objects.len() as u32, uses.len());
+        let at = classes.len() as u32;
         let class = Class { row, number, count, types, from, to, first_use, last_use, is_system };
-        let at = self.found.classes.len() as u32;
         self.found.class_ids.insert(id, at);
         self.found.class_of.push(at);
         self.found.classes.push(class);
         let opened = (count > 0).then(|| Opened::members(types));
         Ok(Heading { opened, ..Heading::new(id, count) })
+    }
+
+    /// All names, then all type bytes, then the infos; the types are kept.
+    fn members(&mut self) -> Field<u32> {
+        let count = self.cursor.count()?;
+        self.cursor.texts(count)?;
+        for &type_byte in self.cursor.type_bytes(count as usize)? {
+            let slot = self.type_info(type_byte)?;
+            self.types.push(slot);
+        }
+        Ok(count)
     }
 
     fn type_info(&mut self, type_byte: u8) -> Field<Slot> {
