@@ -19,12 +19,12 @@ ghost use Rattle.arrays.specs.Stages.{slotLengthAt, primitiveLengthAt, c
 // ---- ids and what is made of them
 
 // Whether an array or a string may have this id: it is positive, and no object has it yet.
-pub fn is_free_id(table: &[u32], n: usize, id: u32) -> bool
+pub fn is_free_id(table: &[u32], n: usize, id: ObjectNo) -> bool
     requires { ⌜ n ≤ roomOf (now table) ⌝ }
-    ensures { λ r. ⌜ r ≡ goodId (rowsOf n (now (table .entry))) id ⌝ }
+    ensures { λ r. ⌜ r ≡ goodId (rowsOf n (now (table .entry))) (id .0) ⌝ }
 {
-    if types::is_positive(id) {
-        return lookups::find_object(table, n, ObjectNo(id)) == 0;
+    if types::is_positive(id.0) {
+        return lookups::find_object(table, n, id) == 0;
     }
     false
 }
@@ -87,7 +87,7 @@ pub fn slot_array_at(s: &[u8], table: &[u32], n: usize, slot: SlotType, at: usiz
     let Number32::Value(id, p) = num::u32_at(s, at + 1) else {
         return Heading::Bad(Refusal::CutShort);
     };
-    if is_free_id(table, n, id) {
+    if is_free_id(table, n, ObjectNo(id)) {
         return slot_length_at(s, slot, id, p);
     }
     Heading::Bad(Refusal::BadId)
@@ -136,7 +136,7 @@ pub fn primitive_array_at(s: &[u8], table: &[u32], n: usize, at: usize) -> Headi
     let Number32::Value(id, p) = num::u32_at(s, at + 1) else {
         return Heading::Bad(Refusal::CutShort);
     };
-    if is_free_id(table, n, id) {
+    if is_free_id(table, n, ObjectNo(id)) {
         return primitive_length_at(s, id, p);
     }
     Heading::Bad(Refusal::BadId)

@@ -1,4 +1,5 @@
 // The record of an array as the tidy copy has it: the libraries that it needs first, then its fields, then the items of a primitive one.
+use format::ObjectNo;
 use format::Row;
 ghost use mathlib.Core.List.{_++_};
 ghost use Prim.Native.Nat.{_+_, _-_, _≤_, _<_};
@@ -46,7 +47,7 @@ fn put_body(out: &mut [u8], s: &[u8], table: &[u32], n: usize, p: usize, e: usiz
     requires { ⌜ (n ≤ roomOf (now table)) × (n < 4294967296) × (p < 18446744073709551615) ⌝ }
     ensures { λ q. ⌜ Filled (bodyOut (now (s .entry)) (rowsOf n (now (table .entry))) p e r) (now (out .entry)) (now (out .exit)) q ⌝ }
 {
-    let a = heads::put_head(out, 7, r.id);
+    let a = heads::put_object_head(out, 7, ObjectNo(r.id));
     let from = put::least(a, out.len());
     let b = put_array_fields(&mut out[from..], s, table, n, p, e, r);
     put::add_up(a, b)

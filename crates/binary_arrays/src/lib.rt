@@ -2,6 +2,7 @@
 use format::Field;
 use format::Heading;
 use format::Number32;
+use format::ObjectNo;
 use format::Refusal;
 use format::SlotType;
 use format::Slots;
@@ -118,7 +119,7 @@ pub fn binary_array_at(s: &[u8], table: &[u32], n: usize, at: usize) -> Heading
     let Number32::Value(id, p) = num::u32_at(s, at + 1) else {
         return Heading::Bad(Refusal::CutShort);
     };
-    if arrays::is_free_id(table, n, id) {
+    if arrays::is_free_id(table, n, ObjectNo(id)) {
         return array_type_at(s, table, n, id, p);
     }
     Heading::Bad(Refusal::BadId)

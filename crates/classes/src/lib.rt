@@ -14,14 +14,14 @@ ghost use Rattle.class_info.specs.Stages.{namedClassAt};
 // ---- ids
 
 // Whether a class may have this ObjectId: not 0, and used once.
-pub fn is_free_class_id(table: &[u32], n: usize, id: u32) -> bool
+pub fn is_free_class_id(table: &[u32], n: usize, id: ObjectNo) -> bool
     requires { ⌜ n ≤ roomOf (now table) ⌝ }
-    ensures { λ r. ⌜ r ≡ goodClassId (rowsOf n (now (table .entry))) id ⌝ }
+    ensures { λ r. ⌜ r ≡ goodClassId (rowsOf n (now (table .entry))) (id .0) ⌝ }
 {
-    if id == 0 {
+    if id.0 == 0 {
         return false;
     }
-    let row = lookups::find_object(table, n, ObjectNo(id));
+    let row = lookups::find_object(table, n, id);
     row == 0
 }
 
@@ -55,7 +55,7 @@ pub fn class_at(s: &[u8], table: &[u32], n: usize, own: bool, at: usize) -> Head
     let Number32::Value(id, p) = num::u32_at(s, at + 1) else {
         return Heading::Bad(Refusal::CutShort);
     };
-    if is_free_class_id(table, n, id) {
+    if is_free_class_id(table, n, ObjectNo(id)) {
         return named_class_at(s, table, n, own, id, p);
     }
     Heading::Bad(Refusal::BadId)

@@ -12,7 +12,7 @@ ghost use Rattle.pieces.specs.Copy.{keptOut, stringOut, recordOut};
 fn put_kept(out: &mut [u8], s: &[u8], r: Row) -> usize
     ensures { λ q. ⌜ Filled (keptOut (now (s .entry)) r) (now (out .entry)) (now (out .exit)) q ⌝ }
 {
-    let a = heads::put_head(out, (r.kind % 256) as u8, r.id);
+    let a = heads::put_object_head(out, (r.kind % 256) as u8, ObjectNo(r.id));
     let from = put::least(a, out.len());
     let b = put::put_part(&mut out[from..], s, (r.offset as usize) + 5, r.end as usize);
     put::add_up(a, b)
@@ -21,7 +21,7 @@ fn put_kept(out: &mut [u8], s: &[u8], r: Row) -> usize
 fn put_string(out: &mut [u8], s: &[u8], r: Row) -> usize
     ensures { λ q. ⌜ Filled (stringOut (now (s .entry)) r) (now (out .entry)) (now (out .exit)) q ⌝ }
 {
-    let a = heads::put_head(out, 6, r.id);
+    let a = heads::put_object_head(out, 6, ObjectNo(r.id));
     let from = put::least(a, out.len());
     let b = put::put_text(&mut out[from..], s, (r.offset as usize) + 5, r.end as usize);
     put::add_up(a, b)
@@ -49,7 +49,7 @@ pub fn put_record(out: &mut [u8], s: &[u8], table: &[u32], n: usize, i: usize, r
         7 => arrays_out::put_array(out, s, table, n, r),
         9 => {
             let t = marks::row_named(table, n, r.link);
-            heads::put_head(out, 9, t.id)
+            heads::put_reference(out, ObjectNo(t.id))
         }
         10 => 0,
         12 => 0,

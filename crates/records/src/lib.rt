@@ -4,6 +4,7 @@ use format::Field;
 use format::Heading;
 use format::LibraryNo;
 use format::Number32;
+use format::ObjectNo;
 use format::Refusal;
 ghost use Prim.Native.Nat.{_≤_, _<_};
 ghost use mathlib.Core.Path.{_≡_};
@@ -15,12 +16,12 @@ ghost use Rattle.records.specs.Stages.{versionAt, namedAt, freeLibrary};
 // ---- parts of records
 
 // The LibraryId of a library: positive, and used once.
-fn is_free_library(table: &[u32], n: usize, id: u32) -> bool
+fn is_free_library(table: &[u32], n: usize, id: LibraryNo) -> bool
     requires { ⌜ n ≤ roomOf (now table) ⌝ }
-    ensures { λ r. ⌜ r ≡ freeLibrary (rowsOf n (now (table .entry))) id ⌝ }
+    ensures { λ r. ⌜ r ≡ freeLibrary (rowsOf n (now (table .entry))) (id .0) ⌝ }
 {
-    if types::is_positive(id) {
-        return lookups::find_library(table, n, LibraryNo(id)) == 0;
+    if types::is_positive(id.0) {
+        return lookups::find_library(table, n, id) == 0;
     }
     false
 }
@@ -78,7 +79,7 @@ pub fn string_record_at(s: &[u8], table: &[u32], n: usize, at: usize) -> Heading
     let Number32::Value(id, p) = num::u32_at(s, at + 1) else {
         return Heading::Bad(Refusal::CutShort);
     };
-    if arrays::is_free_id(table, n, id) {
+    if arrays::is_free_id(table, n, ObjectNo(id)) {
         return named_at(s, id, p);
     }
     Heading::Bad(Refusal::BadId)
@@ -148,7 +149,7 @@ pub fn library_at(s: &[u8], table: &[u32], n: usize, at: usize) -> Heading
     let Number32::Value(id, p) = num::u32_at(s, at + 1) else {
         return Heading::Bad(Refusal::CutShort);
     };
-    if is_free_library(table, n, id) {
+    if is_free_library(table, n, LibraryNo(id)) {
         return named_at(s, id, p);
     }
     Heading::Bad(Refusal::BadId)

@@ -31,7 +31,7 @@ fn put_class(out: &mut [u8], s: &[u8], table: &[u32], n: usize, r: Row) -> usize
     requires { ⌜ (n ≤ roomOf (now table)) × (n < 4294967296) ⌝ }
     ensures { λ q. ⌜ Filled (classOut (now (s .entry)) (rowsOf n (now (table .entry))) r) (now (out .entry)) (now (out .exit)) q ⌝ }
 {
-    let a = heads::put_head(out, (r.kind % 256) as u8, r.id);
+    let a = heads::put_object_head(out, (r.kind % 256) as u8, ObjectNo(r.id));
     let from = put::least(a, out.len());
     let b = put_class_fields(&mut out[from..], s, table, n, r);
     put::add_up(a, b)
