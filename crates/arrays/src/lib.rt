@@ -1,4 +1,5 @@
-// The fields of the array records with one length: kinds 15, 16 and 17. Every field is judged where it stands.
+// The fields of the array records with one length: kinds 15, 16 and 17. Every field is judged where it stands. Numbers like 2.4.3.3 are sections
+// of MS-NRBF.
 use format::Field;
 use format::Head;
 use format::Heading;
@@ -80,6 +81,7 @@ fn slot_length_at(s: &[u8], slot: SlotType, id: u32, at: usize) -> Heading
     slotted_head(id, end, count, slot, 0)
 }
 
+// 16, ArraySingleObject (2.4.3.2), or 17, ArraySingleString (2.4.3.4), by the type of the slots: ObjectId, length.
 pub fn slot_array_at(s: &[u8], table: &[u32], n: usize, slot: SlotType, at: usize) -> Heading
     requires { ⌜ (n ≤ roomOf (now table)) × (at < length (now s)) ⌝ }
     ensures { λ r. ⌜ r ≡ slotArrayAt (now (s .entry)) (rowsOf n (now (table .entry))) slot at ⌝ }
@@ -95,7 +97,7 @@ pub fn slot_array_at(s: &[u8], table: &[u32], n: usize, slot: SlotType, at: usiz
 
 // ---- kind 15
 
-// The items lie in the record itself, so it has no slots.
+// The items (MemberPrimitiveUnTyped, 2.5.2) lie in the record itself, so it has no slots.
 pub fn with_items(s: &[u8], code: PrimitiveCode, id: u32, count: u32, at: usize) -> Heading
     ensures { λ r. ⌜ r ≡ withItems (now (s .entry)) code id count at ⌝ }
 {
@@ -129,6 +131,7 @@ fn primitive_length_at(s: &[u8], id: u32, at: usize) -> Heading
     coded_items_at(s, id, count, p)
 }
 
+// 15, ArraySinglePrimitive (2.4.3.3): ObjectId, length, primitive code, items.
 pub fn primitive_array_at(s: &[u8], table: &[u32], n: usize, at: usize) -> Heading
     requires { ⌜ (n ≤ roomOf (now table)) × (at < length (now s)) ⌝ }
     ensures { λ r. ⌜ r ≡ primitiveArrayAt (now (s .entry)) (rowsOf n (now (table .entry))) at ⌝ }

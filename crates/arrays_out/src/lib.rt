@@ -41,6 +41,7 @@ fn put_array_fields(
     put::add_up(a, b)
 }
 
+// BinaryArray (2.4.3.1 in MS-NRBF).
 fn put_body(out: &mut [u8], s: &[u8], table: &[u32], n: usize, p: usize, e: usize, r: Row) -> usize
     requires { ⌜ (n ≤ roomOf (now table)) × (n < 4294967296) × (p < 18446744073709551615) ⌝ }
     ensures { λ q. ⌜ Filled (bodyOut (now (s .entry)) (rowsOf n (now (table .entry))) p e r) (now (out .entry)) (now (out .exit)) q ⌝ }

@@ -1,4 +1,4 @@
-// An object of a class that an earlier record describes (kind 1).
+// An object of a class that an earlier record describes: kind 1, ClassWithId in MS-NRBF (2.3.2.5).
 use format::Head;
 use format::Heading;
 use format::Number32;
@@ -67,7 +67,7 @@ fn by_metadata_at(s: &[u8], table: &[u32], n: usize, id: u32, at: usize) -> Head
     of_class(s, table, n, id, end, row)
 }
 
-// A class by id: ObjectId, MetadataId.
+// 1, ClassWithId (2.3.2.5): ObjectId, MetadataId.
 pub fn class_by_id_at(s: &[u8], table: &[u32], n: usize, at: usize) -> Heading
     requires { ⌜ (n ≤ roomOf (now table)) × (length (now s) ≤ 16777216) × (n ≤ 16777216) × (at < length (now s)) ⌝ }
     ensures { λ r. ⌜ r ≡ classByIdAt (now (s .entry)) (rowsOf n (now (table .entry))) at ⌝ }

@@ -1,4 +1,5 @@
-// The pieces of records that are numbers alone: heads, the header, an object of a known class, a run of nulls.
+// The pieces of records that are numbers alone: heads, the header, an object of a known class, a reference, a run of nulls. Numbers like 2.6.1 are
+// sections of MS-NRBF.
 use format::LibraryNo;
 use format::ObjectNo;
 ghost use mathlib.Core.List.{_++_};
@@ -45,7 +46,7 @@ pub fn put_object_head(out: &mut [u8], kind: u8, id: ObjectNo) -> usize
     put_head(out, kind, id.0)
 }
 
-// A library, up to its name.
+// BinaryLibrary (2.6.2), up to its name.
 pub fn put_library_head(out: &mut [u8], id: LibraryNo) -> usize
     ensures { λ r. ⌜ Filled (headOut 12 (id .0)) (now (out .entry)) (now (out .exit)) r ⌝ }
 {
@@ -54,14 +55,14 @@ pub fn put_library_head(out: &mut [u8], id: LibraryNo) -> usize
 
 // ---- records
 
-// An object by the first of its class.
+// An object by the first of its class: ClassWithId (2.3.2.5).
 pub fn put_by_id(out: &mut [u8], id: ObjectNo, first: ObjectNo) -> usize
     ensures { λ r. ⌜ Filled (byIdOut (id .0) (first .0)) (now (out .entry)) (now (out .exit)) r ⌝ }
 {
     put_heads(out, 1, id, first)
 }
 
-// RootId and HeaderId alike, then the version.
+// SerializationHeaderRecord (2.6.1): RootId and HeaderId alike, then the version.
 pub fn put_header(out: &mut [u8], root: ObjectNo) -> usize
     ensures { λ r. ⌜ Filled (headerOut (root .0)) (now (out .entry)) (now (out .exit)) r ⌝ }
 {
@@ -71,21 +72,21 @@ pub fn put_header(out: &mut [u8], root: ObjectNo) -> usize
     put::add_up(a, b)
 }
 
-// A reference to an object.
+// A reference to an object: MemberReference (2.5.3).
 pub fn put_reference(out: &mut [u8], to: ObjectNo) -> usize
     ensures { λ r. ⌜ Filled (headOut 9 (to .0)) (now (out .entry)) (now (out .exit)) r ⌝ }
 {
     put_head(out, 9, to.0)
 }
 
-// A null run with its count in four bytes.
+// A null run with its count in four bytes: ObjectNullMultiple (2.5.5).
 fn put_long_run(out: &mut [u8], count: u32) -> usize
     ensures { λ r. ⌜ Filled (headOut 14 count) (now (out .entry)) (now (out .exit)) r ⌝ }
 {
     put_head(out, 14, count)
 }
 
-// A null run: kind 10 for one, 13 for 2 to 255, 14 from 256.
+// A null run: ObjectNull (kind 10, 2.5.4) for one, ObjectNullMultiple256 (13, 2.5.6) for 2 to 255, ObjectNullMultiple (14, 2.5.5) from 256.
 pub fn put_run(out: &mut [u8], n: usize) -> usize
     ensures { λ r. ⌜ Filled (runOut n) (now (out .entry)) (now (out .exit)) r ⌝ }
 {

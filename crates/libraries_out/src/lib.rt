@@ -20,6 +20,7 @@ pub fn library_number(s: &[u8], table: &[u32], n: usize, p: usize) -> LibraryNo
     LibraryNo(g.link)
 }
 
+// BinaryLibrary (2.6.2 in MS-NRBF): the new number, then the name.
 fn put_library(out: &mut [u8], s: &[u8], g: Row) -> usize
     ensures { λ q. ⌜ Filled (libraryOut (now (s .entry)) g) (now (out .entry)) (now (out .exit)) q ⌝ }
 {

@@ -8,7 +8,8 @@ ghost use Rattle.pieces.specs.Copy.{keptOut, stringOut, recordOut};
 
 // ---- a row
 
-// An object whose bytes after the ObjectId are kept.
+// An object whose bytes after the ObjectId are kept: ArraySinglePrimitive (2.4.3.3 in MS-NRBF), ArraySingleObject (2.4.3.2) and ArraySingleString
+// (2.4.3.4).
 fn put_kept(out: &mut [u8], s: &[u8], r: Row) -> usize
     ensures { λ q. ⌜ Filled (keptOut (now (s .entry)) r) (now (out .entry)) (now (out .exit)) q ⌝ }
 {
@@ -18,6 +19,7 @@ fn put_kept(out: &mut [u8], s: &[u8], r: Row) -> usize
     put::add_up(a, b)
 }
 
+// BinaryObjectString (2.5.7).
 fn put_string(out: &mut [u8], s: &[u8], r: Row) -> usize
     ensures { λ q. ⌜ Filled (stringOut (now (s .entry)) r) (now (out .entry)) (now (out .exit)) q ⌝ }
 {
@@ -27,7 +29,8 @@ fn put_string(out: &mut [u8], s: &[u8], r: Row) -> usize
     put::add_up(a, b)
 }
 
-// Row i, which is r. Libraries and nulls are written with other rows.
+// Row i, which is r. Libraries and nulls are written with other rows. What is written by no function of its own keeps all its bytes:
+// MemberPrimitiveTyped (2.5.1), a member value (MemberPrimitiveUnTyped, 2.5.2) and MessageEnd (2.6.3).
 pub fn put_record(out: &mut [u8], s: &[u8], table: &[u32], n: usize, i: usize, r: Row) -> usize
     requires { ⌜ (n ≤ roomOf (now table)) × (n < 4294967296) × (i < 4294967296) ⌝ }
     ensures { λ q. ⌜ Filled (recordOut (now (s .entry)) (rowsOf n (now (table .entry))) i r) (now (out .entry)) (now (out .exit)) q ⌝ }

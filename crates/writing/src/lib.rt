@@ -26,6 +26,7 @@ fn put_class_fields(out: &mut [u8], s: &[u8], table: &[u32], n: usize, r: Row) -
     put::add_up(a, b)
 }
 
+// SystemClassWithMembersAndTypes (kind 4, 2.3.2.3 in MS-NRBF) or ClassWithMembersAndTypes (kind 5, 2.3.2.1).
 fn put_class(out: &mut [u8], s: &[u8], table: &[u32], n: usize, r: Row) -> usize
     requires { ⌜ (n ≤ roomOf (now table)) × (n < 4294967296) ⌝ }
     ensures { λ q. ⌜ Filled (classOut (now (s .entry)) (rowsOf n (now (table .entry))) r) (now (out .entry)) (now (out .exit)) q ⌝ }
@@ -47,7 +48,7 @@ fn put_first(out: &mut [u8], s: &[u8], table: &[u32], n: usize, r: Row) -> usize
     put::add_up(a, b)
 }
 
-// The first object of a class in full, later ones by it.
+// The first object of a class in full, later ones by it: ClassWithId (2.3.2.5).
 pub fn put_object(out: &mut [u8], s: &[u8], table: &[u32], n: usize, i: usize, r: Row) -> usize
     requires { ⌜ (n ≤ roomOf (now table)) × (n < 4294967296) × (i < 4294967296) ⌝ }
     ensures { λ q. ⌜ Filled (objectOut (now (s .entry)) (rowsOf n (now (table .entry))) i r) (now (out .entry)) (now (out .exit)) q ⌝ }
