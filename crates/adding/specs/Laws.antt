@@ -1,11 +1,10 @@
 -- The laws of a step: each way that the code ends, in its own terms.
 use Prim.Native.Nat.{ℕ, _+_, _-_, _≤_, _<_}
 use mathlib.Core.Path.{_≡_, refl, sym, ap, subst, _∙_}
-use mathlib.Core.Bool.{Bool, true, false}
+use mathlib.Core.Bool.{true, false}
 use mathlib.Core.List.{List, [], _∷_, _++_}
 use native.Mathlib.Omega.{arith}
 use lib.ListN.{length}
-use lib.Dec.{ltb}
 use borrow.Author.Tests.{lt-ltb, le-ltb, eq-eqb, ne-eqb}
 use Rattle.format.specs.declared.Refusal.{Refusal}
 use Rattle.format.specs.declared.Refusal.the-variants as R
@@ -20,7 +19,6 @@ use Rattle.format.specs.declared.Passed.{Passed}
 use Rattle.format.specs.declared.Passed.the-variants as O
 use Rattle.format.specs.declared.Row.{Row}
 use Rattle.format.specs.declared.Reader.{Reader}
-use Rattle.format.specs.Bytes.{pick}
 use Rattle.format.specs.Values.{valueAt}
 use Rattle.format.specs.Types.{moved, passedOf}
 use Rattle.format.specs.Rows.{rowsOf, isObject}
@@ -31,8 +29,6 @@ use Rattle.frames.specs.Laws.{length-saved}
 use Rattle.items.specs.Keeps.{value-moves}
 use Rattle.adding.specs.declared.Step.{Step}
 use Rattle.adding.specs.declared.Step.the-variants as Q
-use Rattle.adding.specs.declared.Opening.{Opening}
-use Rattle.adding.specs.declared.Opening.the-variants as P
 use Rattle.adding.specs.Held.{stateOf, after, Short}
 
 -- ---- two parts of the definition by their own names
@@ -81,36 +77,6 @@ module _ (room : ℕ) (t u f : List ℕ) (m : Reader) (h : Head) where
 
 -- ---- an object
 
--- two tests in turn: the first that fails refuses
-unfoldable pub inTurn : Bool → Refusal → Bool → Refusal → Opening
-inTurn a x b y = pick a (pick b P.Good (P.Bad y)) (P.Bad x)
-
-module _ (a b : Bool) (x y : Refusal) where
-  pub turn-good : a ≡ true → b ≡ true → P.Good ≡ inTurn a x b y
-  unfolding inTurn
-  turn-good e q = rw (e, q)
-
-  pub turn-second : a ≡ true → b ≡ false → P.Bad y ≡ inTurn a x b y
-  unfolding inTurn
-  turn-second e q = rw (e, q)
-
-  pub turn-first : a ≡ false → P.Bad x ≡ inTurn a x b y
-  unfolding inTurn
-  turn-first e = rw e
-
-pub both-hold : (a b : Bool) (x y : Refusal) (o : Opening) → o ≡ inTurn a x b y → o ≡ P.Good → (a ≡ true) × (b ≡ true)
-unfolding inTurn
-both-hold true true x y o e q = (refl, refl)
-both-hold true false x y o e q = absurd (let z : _≡_ {A = ℕ} 0 1 = cc in omega arith)
-both-hold false b x y o e q = absurd (let z : _≡_ {A = ℕ} 0 1 = cc in omega arith)
-
-turned : (a b : Bool) (x y z : Refusal) (place : ℕ) (n : Next) → inTurn a x b y ≡ P.Bad z
-    → refuse z place ≡ pick a (pick b n (refuse y place)) (refuse x place)
-unfolding inTurn
-turned true true x y z place n e = absurd (let w : _≡_ {A = ℕ} 0 1 = cc in omega arith)
-turned true false x y z place n e = cc
-turned false b x y z place n e = cc
-
 module _ (room : ℕ) (t u f g : List ℕ) (m next : Reader) (q : Step) (r : Row) (kind : ℕ) (h : Head) (ty : Typed) where
   pub took-slots : (k : ℕ) → r ≡ rowIn (stateOf t f m) kind h → openOf f next ≡ filled (openOf f m) k ty
       → after u f q ≡ add room (stateOf t f m) r (openOf f next) → after u f q ≡ slotsTaken room (stateOf t f m) kind h k ty
@@ -133,14 +99,11 @@ module _ (room : ℕ) (t u f g : List ℕ) (m next : Reader) (q : Step) (r : Row
       (a ∙ ap (λ (x : Row). add room (stateOf t f m) x (openOf g next)) e ∙ ap (λ (x : Open). add room (stateOf t f m) (rowIn (stateOf t f m) kind h) x) o)
 
 module _ (room : ℕ) (t f : List ℕ) (m : Reader) (kind : ℕ) (h : Head) where
-  pub not-opened : (ty : Typed) (k : ℕ) (o : Opening) (x : Refusal) → (h .slots ≡ 0 → ⊥) → k ≡ room
-      → o ≡ inTurn (ltb (m .depth) 64) R.TooDeep (ltb (m .rows) k) R.NoRoom → o ≡ P.Bad x
-      → refuse x (m .at) ≡ object room (stateOf t f m) kind h ty
-  unfolding object add
-  not-opened ty k o x z w e q =
-      let l : length (rowsOf (m .rows) t) ≡ m .rows = length-rowsOf (m .rows) t in
+  pub too-deep : (ty : Typed) → (h .slots ≡ 0 → ⊥) → 64 ≤ m .depth → refuse R.TooDeep (m .at) ≡ object room (stateOf t f m) kind h ty
+  unfolding object
+  too-deep ty z d =
       let b : length (saved f (m .depth)) ≡ m .depth = length-saved f (m .depth) in
-      rw (ne-eqb (h .slots) 0 z, b, l, ← w) (turned (ltb (m .depth) 64) (ltb (m .rows) k) R.TooDeep R.NoRoom x (m .at) _ (sym e ∙ q))
+      rw (ne-eqb (h .slots) 0 z, b, le-ltb (m .depth) 64 d)
 
   pub took-library : (u : List ℕ) (q : Step) (r : Row) → r ≡ rowApart (stateOf t f m) kind h
       → after u f q ≡ add room (stateOf t f m) r (openOf f m) → after u f q ≡ libraryTaken room (stateOf t f m) kind h

@@ -1,4 +1,4 @@
-// What every step is made of: the row of a record, one row more, two tests in turn.
+// What every step is made of: the row of a record, and one row more.
 use format::Head;
 use format::Reader;
 use format::Refusal;
@@ -10,19 +10,12 @@ ghost use Rattle.format.specs.Rows.{roomOf};
 ghost use Rattle.format.specs.Machine.{rowIn, rowApart, add};
 ghost use Rattle.frames.specs.Frames.{openOf};
 ghost use Rattle.adding.specs.Held.{stateOf, after};
-ghost use Rattle.adding.specs.Laws.{inTurn};
 
 // After a step: on, at the end record with the number of rows and the place after it, or refused.
 pub enum Step {
     Go(Reader),
     Ended(usize, usize),
     Refuse(Refusal, usize),
-}
-
-// Whether an object may be opened.
-pub enum Opening {
-    Good,
-    Bad(Refusal),
 }
 
 // ---- rows
@@ -81,19 +74,4 @@ pub fn add_row(table: &mut [u32], m: Reader, r: Row, next: Reader) -> Step
         });
     }
     Step::Refuse(Refusal::NoRoom, m.at)
-}
-
-// ---- steps
-
-// Two tests in turn: the first that fails refuses, whatever the other says.
-pub fn in_turn(a: bool, x: Refusal, b: bool, y: Refusal) -> Opening
-    ensures { λ o. ⌜ o ≡ inTurn a x b y ⌝ }
-{
-    if a {
-        if b {
-            return Opening::Good;
-        }
-        return Opening::Bad(y);
-    }
-    Opening::Bad(x)
 }

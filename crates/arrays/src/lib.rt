@@ -1,4 +1,5 @@
-// The fields of the array records with one length: kinds 15, 16 and 17. Every field is judged where it stands.
+// The fields of the array records with one length: kinds 15, 16 and 17. Every field is judged where it stands. Numbers like 2.4.3.3 are sections
+// of MS-NRBF.
 use format::Field;
 use format::Head;
 use format::Heading;
@@ -19,12 +20,12 @@ ghost use Rattle.arrays.specs.Stages.{slotLengthAt, primitiveLengthAt, c
 // ---- ids and what is made of them
 
 // Whether an array or a string may have this id: it is positive, and no object has it yet.
-pub fn is_free_id(table: &[u32], n: usize, id: u32) -> bool
+pub fn is_free_id(table: &[u32], n: usize, id: ObjectNo) -> bool
     requires { ⌜ n ≤ roomOf (now table) ⌝ }
-    ensures { λ r. ⌜ r ≡ goodId (rowsOf n (now (table .entry))) id ⌝ }
+    ensures { λ r. ⌜ r ≡ goodId (rowsOf n (now (table .entry))) (id .0) ⌝ }
 {
-    if types::is_positive(id) {
-        return lookups::find_object(table, n, ObjectNo(id)) == 0;
+    if types::is_positive(id.0) {
+        return lookups::find_object(table, n, id) == 0;
     }
     false
 }
@@ -80,6 +81,7 @@ fn slot_length_at(s: &[u8], slot: SlotType, id: u32, at: usize) -> Heading
     slotted_head(id, end, count, slot, 0)
 }
 
+// 16, ArraySingleObject (2.4.3.2), or 17, ArraySingleString (2.4.3.4), by the type of the slots: ObjectId, length.
 pub fn slot_array_at(s: &[u8], table: &[u32], n: usize, slot: SlotType, at: usize) -> Heading
     requires { ⌜ (n ≤ roomOf (now table)) × (at < length (now s)) ⌝ }
     ensures { λ r. ⌜ r ≡ slotArrayAt (now (s .entry)) (rowsOf n (now (table .entry))) slot at ⌝ }
@@ -87,7 +89,7 @@ pub fn slot_array_at(s: &[u8], table: &[u32], n: usize, slot: SlotType, at: usiz
     let Number32::Value(id, p) = num::u32_at(s, at + 1) else {
         return Heading::Bad(Refusal::CutShort);
     };
-    if is_free_id(table, n, id) {
+    if is_free_id(table, n, ObjectNo(id)) {
         return slot_length_at(s, slot, id, p);
     }
     Heading::Bad(Refusal::BadId)
@@ -95,7 +97,7 @@ pub fn slot_array_at(s: &[u8], table: &[u32], n: usize, slot: SlotType, at: usiz
 
 // ---- kind 15
 
-// The items lie in the record itself, so it has no slots.
+// The items (MemberPrimitiveUnTyped, 2.5.2) lie in the record itself, so it has no slots.
 pub fn with_items(s: &[u8], code: PrimitiveCode, id: u32, count: u32, at: usize) -> Heading
     ensures { λ r. ⌜ r ≡ withItems (now (s .entry)) code id count at ⌝ }
 {
@@ -129,6 +131,7 @@ fn primitive_length_at(s: &[u8], id: u32, at: usize) -> Heading
     coded_items_at(s, id, count, p)
 }
 
+// 15, ArraySinglePrimitive (2.4.3.3): ObjectId, length, primitive code, items.
 pub fn primitive_array_at(s: &[u8], table: &[u32], n: usize, at: usize) -> Heading
     requires { ⌜ (n ≤ roomOf (now table)) × (at < length (now s)) ⌝ }
     ensures { λ r. ⌜ r ≡ primitiveArrayAt (now (s .entry)) (rowsOf n (now (table .entry))) at ⌝ }
@@ -136,7 +139,7 @@ pub fn primitive_array_at(s: &[u8], table: &[u32], n: usize, at: usize) -> Headi
     let Number32::Value(id, p) = num::u32_at(s, at + 1) else {
         return Heading::Bad(Refusal::CutShort);
     };
-    if is_free_id(table, n, id) {
+    if is_free_id(table, n, ObjectNo(id)) {
         return primitive_length_at(s, id, p);
     }
     Heading::Bad(Refusal::BadId)

@@ -20,9 +20,6 @@ pub string-is : (s : List ℕ) (r : Row) → stringOut s r ≡ headOut 6 (r .id)
 unfolding stringOut
 string-is s r = refl
 
-pub need-item-is : (s : List ℕ) (rs : List Row) (p e kind : ℕ) → kind ≡ getD s p 0 → needInfoOut s rs (getD s p 0) e ≡ needInfoOut s rs kind e
-need-item-is s rs p e kind x = rw x
-
 module _ (s : List ℕ) (rs : List Row) (r : Row) where
   -- kind is the byte of the item type at p
   module _ (p e kind : ℕ) (x : kind ≡ getD s p 0) where
@@ -30,11 +27,11 @@ module _ (s : List ℕ) (rs : List Row) (r : Row) where
     unfolding itemsOut
     items-is = ap (λ (k : ℕ). infoOut s rs k (p + 1) e ++ between s e (r .end)) (sym x)
 
-    pub array-is : p ≡ itemType s r → e ≡ afterInfo s kind (p + 1) → arrayOut s rs r ≡ needInfoOut s rs (getD s p 0) e ++ bodyOut s rs p e r
+    pub array-is : p ≡ itemType s r → e ≡ afterInfo s kind (p + 1) → arrayOut s rs r ≡ needInfoOut s rs kind e ++ bodyOut s rs p e r
     unfolding arrayOut
     array-is y z =
         let t : e ≡ afterInfo s (getD s p 0) (p + 1) = z ∙ ap (λ (k : ℕ). afterInfo s k (p + 1)) x in
-        rw (← y, ← t)
+        rw (← y, ← t, ← x)
 
   pub body-is : (p e : ℕ) → bodyOut s rs p e r ≡ headOut 7 (r .id) ++ (between s (r .offset + 5) (p + 1) ++ itemsOut s rs p e r)
   unfolding bodyOut

@@ -1,13 +1,12 @@
 // The record of an array as the tidy copy has it: the libraries that it needs first, then its fields, then the items of a primitive one.
+use format::ObjectNo;
 use format::Row;
 ghost use mathlib.Core.List.{_++_};
 ghost use Prim.Native.Nat.{_+_, _-_, _≤_, _<_};
-ghost use Rattle.format.specs.Bytes.{pick};
 ghost use Rattle.format.specs.Rows.{rowsOf, roomOf};
 ghost use Rattle.put.specs.Out.{between};
 ghost use Rattle.put.specs.Put.{Filled};
-ghost use lib.ListN.{getD};
-ghost use Rattle.pieces.specs.Copy.{needInfoOut, itemsOut, bodyOut, arrayOut};
+ghost use Rattle.pieces.specs.Copy.{itemsOut, bodyOut, arrayOut};
 
 // ---- arrays
 
@@ -42,35 +41,15 @@ fn put_array_fields(
     put::add_up(a, b)
 }
 
+// BinaryArray (2.4.3.1 in MS-NRBF).
 fn put_body(out: &mut [u8], s: &[u8], table: &[u32], n: usize, p: usize, e: usize, r: Row) -> usize
     requires { ⌜ (n ≤ roomOf (now table)) × (n < 4294967296) × (p < 18446744073709551615) ⌝ }
     ensures { λ q. ⌜ Filled (bodyOut (now (s .entry)) (rowsOf n (now (table .entry))) p e r) (now (out .entry)) (now (out .exit)) q ⌝ }
 {
-    let a = heads::put_head(out, 7, r.id);
+    let a = heads::put_object_head(out, 7, ObjectNo(r.id));
     let from = put::least(a, out.len());
     let b = put_array_fields(&mut out[from..], s, table, n, p, e, r);
     put::add_up(a, b)
-}
-
-// The record of the library that the item type at p needs, or else the array's own record.
-fn put_array_piece(
-    out: &mut [u8],
-    s: &[u8],
-    table: &[u32],
-    n: usize,
-    p: usize,
-    e: usize,
-    r: Row,
-    libraries: bool,
-) -> usize
-    requires { ⌜ (n ≤ roomOf (now table)) × (n < 4294967296) × (p < 18446744073709551615) ⌝ }
-    ensures { λ q. ⌜ Filled (pick libraries (needInfoOut (now (s .entry)) (rowsOf n (now (table .entry))) (getD (now (s .entry)) p 0) e) (bodyOut (now (s .entry)) (rowsOf n (now (table .entry))) p e r)) (now (out .entry)) (now (out .exit)) q ⌝ }
-{
-    if libraries {
-        let kind = codes::byte_at(s, p);
-        return libraries_out::put_need_info(out, s, table, n, kind, e);
-    }
-    put_body(out, s, table, n, p, e, r)
 }
 
 // An array, after the library that its item type needs.
@@ -81,8 +60,8 @@ pub fn put_array(out: &mut [u8], s: &[u8], table: &[u32], n: usize, r: Row) -> u
     let p = marks::item_type(s, r);
     let kind = codes::byte_at(s, p);
     let e = marks::after_info(s, kind, p + 1);
-    let a = put_array_piece(out, s, table, n, p, e, r, true);
+    let a = libraries_out::put_need_info(out, s, table, n, kind, e);
     let from = put::least(a, out.len());
-    let b = put_array_piece(&mut out[from..], s, table, n, p, e, r, false);
+    let b = put_body(&mut out[from..], s, table, n, p, e, r);
     put::add_up(a, b)
 }

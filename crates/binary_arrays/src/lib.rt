@@ -1,7 +1,9 @@
-// Arrays of every shape (kind 7): the rank, the lengths and their product, the lower bounds, the type of the items.
+// Arrays of every shape without lower bounds: kind 7, BinaryArray in MS-NRBF (2.4.3.1). The array type, the rank, the lengths and their product,
+// the type of the items.
 use format::Field;
 use format::Heading;
 use format::Number32;
+use format::ObjectNo;
 use format::Refusal;
 use format::SlotType;
 use format::Slots;
@@ -93,7 +95,7 @@ fn rank_at(s: &[u8], table: &[u32], n: usize, id: u32, kind: u8, at: usize) -> H
     Heading::Bad(Refusal::BadCount)
 }
 
-// Array types 0 to 2 are taken. 3 to 5 have lower bounds, and are refused by name.
+// Array types 0 to 2 are taken, Single, Jagged and Rectangular (2.4.1.1). 3 to 5 have lower bounds; they are refused by name, and no bound is read.
 fn array_type_at(s: &[u8], table: &[u32], n: usize, id: u32, at: usize) -> Heading
     requires { ⌜ (n ≤ roomOf (now table)) × (length (now s) ≤ 16777216) ⌝ }
     ensures { λ r. ⌜ r ≡ arrayTypeAt (now (s .entry)) (rowsOf n (now (table .entry))) id at ⌝ }
@@ -111,6 +113,7 @@ fn array_type_at(s: &[u8], table: &[u32], n: usize, id: u32, at: usize) -> Headi
     Heading::Bad(Refusal::BadType)
 }
 
+// 7, BinaryArray (2.4.3.1): ObjectId, array type, rank, lengths, type byte, type info; then primitive items.
 pub fn binary_array_at(s: &[u8], table: &[u32], n: usize, at: usize) -> Heading
     requires { ⌜ (n ≤ roomOf (now table)) × (length (now s) ≤ 16777216) × (at < length (now s)) ⌝ }
     ensures { λ r. ⌜ r ≡ binaryArrayAt (now (s .entry)) (rowsOf n (now (table .entry))) at ⌝ }
@@ -118,7 +121,7 @@ pub fn binary_array_at(s: &[u8], table: &[u32], n: usize, at: usize) -> Heading
     let Number32::Value(id, p) = num::u32_at(s, at + 1) else {
         return Heading::Bad(Refusal::CutShort);
     };
-    if arrays::is_free_id(table, n, id) {
+    if arrays::is_free_id(table, n, ObjectNo(id)) {
         return array_type_at(s, table, n, id, p);
     }
     Heading::Bad(Refusal::BadId)

@@ -1,4 +1,4 @@
-// An object of a class that an earlier record describes (kind 1).
+// An object of a class that an earlier record describes: kind 1, ClassWithId in MS-NRBF (2.3.2.5).
 use format::Head;
 use format::Heading;
 use format::Number32;
@@ -45,11 +45,11 @@ fn of_class(s: &[u8], table: &[u32], n: usize, id: u32, end: usize, row: usize) 
 }
 
 // The row of the class of this number, a record of kind 4 or 5: a row number plus 1, or 0.
-fn class_row(table: &[u32], n: usize, class: u32) -> usize
+fn class_row(table: &[u32], n: usize, class: ObjectNo) -> usize
     requires { ⌜ n ≤ roomOf (now table) ⌝ }
-    ensures { λ r. ⌜ r ≡ classRow class (rowsOf n (now (table .entry))) ⌝ }
+    ensures { λ r. ⌜ r ≡ classRow (class .0) (rowsOf n (now (table .entry))) ⌝ }
 {
-    lookups::find_class(table, n, ObjectNo(class))
+    lookups::find_class(table, n, class)
 }
 
 // A class by id whose ObjectId is read: the MetadataId, and the row of its class.
@@ -60,14 +60,14 @@ fn by_metadata_at(s: &[u8], table: &[u32], n: usize, id: u32, at: usize) -> Head
     let Number32::Value(class, end) = num::u32_at(s, at) else {
         return Heading::Bad(Refusal::CutShort);
     };
-    let row = class_row(table, n, class);
+    let row = class_row(table, n, ObjectNo(class));
     if row == 0 {
         return Heading::Bad(Refusal::NoClass);
     }
     of_class(s, table, n, id, end, row)
 }
 
-// A class by id: ObjectId, MetadataId.
+// 1, ClassWithId (2.3.2.5): ObjectId, MetadataId.
 pub fn class_by_id_at(s: &[u8], table: &[u32], n: usize, at: usize) -> Heading
     requires { ⌜ (n ≤ roomOf (now table)) × (length (now s) ≤ 16777216) × (n ≤ 16777216) × (at < length (now s)) ⌝ }
     ensures { λ r. ⌜ r ≡ classByIdAt (now (s .entry)) (rowsOf n (now (table .entry))) at ⌝ }
@@ -75,7 +75,7 @@ pub fn class_by_id_at(s: &[u8], table: &[u32], n: usize, at: usize) -> Heading
     let Number32::Value(id, p) = num::u32_at(s, at + 1) else {
         return Heading::Bad(Refusal::CutShort);
     };
-    if classes::is_free_class_id(table, n, id) {
+    if classes::is_free_class_id(table, n, ObjectNo(id)) {
         return by_metadata_at(s, table, n, id, p);
     }
     Heading::Bad(Refusal::BadId)

@@ -1,4 +1,4 @@
-// Class records: the fields of kinds 4 and 5, each judged where it stands.
+// Class records: the fields of kinds 4 and 5, each judged where it stands. Numbers like 2.3.1.1 are sections of MS-NRBF.
 use format::Field;
 use format::Heading;
 use format::Number32;
@@ -14,20 +14,20 @@ ghost use Rattle.class_info.specs.Stages.{namedClassAt};
 // ---- ids
 
 // Whether a class may have this ObjectId: not 0, and used once.
-pub fn is_free_class_id(table: &[u32], n: usize, id: u32) -> bool
+pub fn is_free_class_id(table: &[u32], n: usize, id: ObjectNo) -> bool
     requires { ⌜ n ≤ roomOf (now table) ⌝ }
-    ensures { λ r. ⌜ r ≡ goodClassId (rowsOf n (now (table .entry))) id ⌝ }
+    ensures { λ r. ⌜ r ≡ goodClassId (rowsOf n (now (table .entry))) (id .0) ⌝ }
 {
-    if id == 0 {
+    if id.0 == 0 {
         return false;
     }
-    let row = lookups::find_object(table, n, ObjectNo(id));
+    let row = lookups::find_object(table, n, id);
     row == 0
 }
 
 // ---- kinds 4 and 5
 
-// A class whose ObjectId is read: name, member count, members.
+// A class whose ObjectId is read: name, member count, members (ClassInfo, 2.3.1.1, and MemberTypeInfo, 2.3.1.2).
 fn named_class_at(s: &[u8], table: &[u32], n: usize, own: bool, id: u32, at: usize) -> Heading
     requires { ⌜ (n ≤ roomOf (now table)) × (length (now s) ≤ 16777216) ⌝ }
     ensures { λ r. ⌜ r ≡ namedClassAt (now (s .entry)) (rowsOf n (now (table .entry))) own id at ⌝ }
@@ -47,7 +47,7 @@ fn named_class_at(s: &[u8], table: &[u32], n: usize, own: bool, id: u32, at: usi
     class_info::members_at(s, table, n, own, id, count, r)
 }
 
-// A class of kind 4, or with its own LibraryId one of kind 5.
+// SystemClassWithMembersAndTypes (kind 4, 2.3.2.3), or with its own LibraryId ClassWithMembersAndTypes (kind 5, 2.3.2.1).
 pub fn class_at(s: &[u8], table: &[u32], n: usize, own: bool, at: usize) -> Heading
     requires { ⌜ (n ≤ roomOf (now table)) × (length (now s) ≤ 16777216) × (at < length (now s)) ⌝ }
     ensures { λ r. ⌜ r ≡ classAt (now (s .entry)) (rowsOf n (now (table .entry))) own at ⌝ }
@@ -55,7 +55,7 @@ pub fn class_at(s: &[u8], table: &[u32], n: usize, own: bool, at: usize) -> Head
     let Number32::Value(id, p) = num::u32_at(s, at + 1) else {
         return Heading::Bad(Refusal::CutShort);
     };
-    if is_free_class_id(table, n, id) {
+    if is_free_class_id(table, n, ObjectNo(id)) {
         return named_class_at(s, table, n, own, id, p);
     }
     Heading::Bad(Refusal::BadId)

@@ -26,7 +26,7 @@ pub fn put_info(
         let l = libraries_out::library_number(s, table, n, m);
         let a = put::put_part(out, s, p, m);
         let from = put::least(a, out.len());
-        let b = put::put_number(&mut out[from..], l.0);
+        let b = put::put_library_no(&mut out[from..], l);
         return put::add_up(a, b);
     }
     put::put_part(out, s, p, e)
@@ -62,7 +62,7 @@ fn put_own(out: &mut [u8], s: &[u8], table: &[u32], n: usize, r: Row) -> usize
     if r.kind == 5 {
         let p = marks::less(r.end as usize, 4);
         let l = libraries_out::library_number(s, table, n, p);
-        return put::put_number(out, l.0);
+        return put::put_library_no(out, l);
     }
     0
 }

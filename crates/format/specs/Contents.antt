@@ -24,24 +24,41 @@ pub record Member (L : Type 0) : Type 0 where
   pub name : List ℕ
   pub type : Detail L
 
--- a record, or a member value; numbers are unsigned bits, texts and values are bytes
+-- a record, or a member value; numbers are unsigned bits, texts and values are bytes. Above each its kind, and its name and section in MS-NRBF
 pub data Rec : Type 0 where
+  -- 0, SerializationHeaderRecord (2.6.1)
   header : (root header : ℕ) → Rec
+  -- 1, ClassWithId (2.3.2.5)
   classById : (id metadata : ℕ) → Rec
+  -- 4, SystemClassWithMembersAndTypes (2.3.2.3)
   systemClass : (id : ℕ) (name : List ℕ) (members : List (Member ℕ)) → Rec
+  -- 5, ClassWithMembersAndTypes (2.3.2.1)
   libraryClass : (id : ℕ) (name : List ℕ) (members : List (Member ℕ)) (from : ℕ) → Rec
+  -- 6, BinaryObjectString (2.5.7)
   string : (id : ℕ) (text : List ℕ) → Rec
+  -- 7, BinaryArray (2.4.3.1)
   array : (id type : ℕ) (lengths : List ℕ) (item : Detail ℕ) (items : List ℕ) → Rec
+  -- 8, MemberPrimitiveTyped (2.5.1)
   typedPrimitive : (code : PrimitiveCode) (value : List ℕ) → Rec
+  -- 9, MemberReference (2.5.3)
   reference : (id : ℕ) → Rec
+  -- 10, ObjectNull (2.5.4)
   null : Rec
+  -- 13, ObjectNullMultiple256 (2.5.6)
   nulls : (count : ℕ) → Rec
+  -- 14, ObjectNullMultiple (2.5.5)
   manyNulls : (count : ℕ) → Rec
+  -- 11, MessageEnd (2.6.3)
   end : Rec
+  -- 12, BinaryLibrary (2.6.2)
   library : (id : ℕ) (name : List ℕ) → Rec
+  -- 15, ArraySinglePrimitive (2.4.3.3)
   primitiveArray : (id count : ℕ) (code : PrimitiveCode) (items : List ℕ) → Rec
+  -- 16, ArraySingleObject (2.4.3.2)
   objectArray : (id count : ℕ) → Rec
+  -- 17, ArraySingleString (2.4.3.4)
   stringArray : (id count : ℕ) → Rec
+  -- a member value: MemberPrimitiveUnTyped (2.5.2)
   value : (bytes : List ℕ) → Rec
 
 -- ---- types

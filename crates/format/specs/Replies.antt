@@ -62,9 +62,9 @@ rowReply Row.HasText = reply 0 0 0
 rowReply Row.NoSuchRow = reply (numberOf R.NoSuchRow) 0 0
 
 abbrev pub tidyReply : TidyAnswer → Reply
-tidyReply (Tidy.Written length) = reply 0 0 length
+tidyReply (Tidy.Written size) = reply 0 0 size
 tidyReply (Tidy.Refused r place) = reply (numberOf r) place 0
-tidyReply (Tidy.OutFull needed) = reply (numberOf R.OutFull) 0 needed
+tidyReply (Tidy.OutFull size) = reply (numberOf R.OutFull) 0 size
 
 -- the tidying that ends a comparing: 0 and no length where both copies are written
 abbrev pub endingOf : Sameness → TidyAnswer

@@ -13,7 +13,8 @@ ghost use Rattle.format.specs.Records.{headingAt};
 
 // ---- all kinds
 
-// The fields of a record of a kind that is taken. 10 and 11 have none.
+// The fields of a record of a kind that is taken; each function has the name and section of its record in MS-NRBF. 10, ObjectNull (2.5.4), and 11,
+// MessageEnd (2.6.3), have none.
 pub fn heading_at(s: &[u8], table: &[u32], n: usize, k: u8, at: usize) -> Heading
     requires { ⌜ (n ≤ roomOf (now table)) × (length (now s) ≤ 16777216) × (n ≤ 16777216) × (at < length (now s)) ⌝ }
     ensures { λ r. ⌜ r ≡ headingAt (now (s .entry)) (rowsOf n (now (table .entry))) k at ⌝ }

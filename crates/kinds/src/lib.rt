@@ -10,7 +10,7 @@ ghost use Rattle.kinds.specs.Kinds.{isBrief};
 
 // ---- what may stand where
 
-// 0 to 17, 21 and 22.
+// 0 to 17, 21 and 22: RecordTypeEnumeration (2.1.2.1 in MS-NRBF).
 fn is_kind(k: u8) -> bool
     ensures { λ r. ⌜ r ≡ isKind k ⌝ }
 {
@@ -24,7 +24,8 @@ fn is_kind(k: u8) -> bool
     }
 }
 
-// Refused by name.
+// Refused by name: SystemClassWithMembers (2, 2.3.2.4), ClassWithMembers (3, 2.3.2.2), BinaryMethodCall (21, 2.2.3.1) and BinaryMethodReturn (22,
+// 2.2.3.3).
 fn not_taken(k: u8) -> bool
     ensures { λ r. ⌜ r ≡ notTaken k ⌝ }
 {
@@ -37,7 +38,8 @@ fn not_taken(k: u8) -> bool
     }
 }
 
-// References, nulls and libraries stand in every slot that waits for a record.
+// References, nulls and libraries stand in every slot that waits for a record: MemberReference (9, 2.5.3), ObjectNull (10, 2.5.4), BinaryLibrary
+// (12, 2.6.2), ObjectNullMultiple256 (13, 2.5.6), ObjectNullMultiple (14, 2.5.5).
 fn in_slot(k: u8) -> bool
     ensures { λ r. ⌜ r ≡ inSlot k ⌝ }
 {
@@ -51,6 +53,8 @@ fn in_slot(k: u8) -> bool
     }
 }
 
+// ClassWithId (1, 2.3.2.5), the classes with types (4, 2.3.2.3; 5, 2.3.2.1), BinaryObjectString (6, 2.5.7), BinaryArray (7, 2.4.3.1), MessageEnd (11,
+// 2.6.3), BinaryLibrary (12, 2.6.2), ArraySinglePrimitive, ArraySingleObject and ArraySingleString (15, 2.4.3.3; 16, 2.4.3.2; 17, 2.4.3.4).
 fn at_top(k: u8) -> bool
     ensures { λ r. ⌜ r ≡ allowed W.Top k ⌝ }
 {
@@ -69,6 +73,7 @@ fn at_top(k: u8) -> bool
     }
 }
 
+// BinaryObjectString (6, 2.5.7), and what stands in every slot.
 fn in_string_slot(k: u8) -> bool
     ensures { λ r. ⌜ r ≡ allowed W.StringSlot k ⌝ }
 {
@@ -78,6 +83,8 @@ fn in_string_slot(k: u8) -> bool
     }
 }
 
+// ClassWithId (1, 2.3.2.5), the classes with types (4, 2.3.2.3; 5, 2.3.2.1), BinaryObjectString (6, 2.5.7), MemberPrimitiveTyped (8, 2.5.1), and what
+// stands in every slot.
 fn in_object_slot(k: u8) -> bool
     ensures { λ r. ⌜ r ≡ allowed W.ObjectSlot k ⌝ }
 {
@@ -91,7 +98,7 @@ fn in_object_slot(k: u8) -> bool
     }
 }
 
-// The header stands first and nowhere else.
+// The header, SerializationHeaderRecord (0, 2.6.1), stands first and nowhere else.
 fn allowed(w: Where, k: u8) -> bool
     ensures { λ r. ⌜ r ≡ allowed w k ⌝ }
 {

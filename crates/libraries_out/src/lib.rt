@@ -20,10 +20,11 @@ pub fn library_number(s: &[u8], table: &[u32], n: usize, p: usize) -> LibraryNo
     LibraryNo(g.link)
 }
 
+// BinaryLibrary (2.6.2 in MS-NRBF): the new number, then the name.
 fn put_library(out: &mut [u8], s: &[u8], g: Row) -> usize
     ensures { λ q. ⌜ Filled (libraryOut (now (s .entry)) g) (now (out .entry)) (now (out .exit)) q ⌝ }
 {
-    let a = heads::put_head(out, 12, g.link);
+    let a = heads::put_library_head(out, LibraryNo(g.link));
     let from = put::least(a, out.len());
     let b = put::put_text(&mut out[from..], s, (g.offset as usize) + 5, g.end as usize);
     put::add_up(a, b)

@@ -67,12 +67,12 @@ fn is_of(what: Wanted, kind: u32) -> bool
     }
 }
 
-// Whether row i has this id and a fitting kind. The id is tested first: it fails most.
-fn names(table: &[u32], n: usize, i: usize, what: Wanted, id: u32) -> bool
+// Whether row i is what is looked up, by its id and its kind. The id is tested first: it fails most.
+fn names(table: &[u32], n: usize, i: usize, what: Wanted) -> bool
     requires { ⌜ (i < n) × (n ≤ roomOf (now table)) ⌝ }
-    ensures { λ r. ⌜ r ≡ named (isOf what) id (getD (rowsOf n (now (table .entry))) i blank) ⌝ }
+    ensures { λ r. ⌜ r ≡ named (isOf what) (idOf what) (getD (rowsOf n (now (table .entry))) i blank) ⌝ }
 {
-    if table::id_at(table, n, i) != id {
+    if table::id_at(table, n, i) != id_of(what) {
         return false;
     }
     is_of(what, table::kind_at(table, n, i))
@@ -83,10 +83,9 @@ fn find(table: &[u32], n: usize, what: Wanted) -> usize
     requires { ⌜ n ≤ roomOf (now table) ⌝ }
     ensures { λ r. ⌜ r ≡ findFrom (named (isOf what) (idOf what)) 0 (rowsOf n (now (table .entry))) ⌝ }
 {
-    let id = id_of(what);
     let mut i: usize = 0;
     while i < n {
-        if names(table, n, i, what, id) {
+        if names(table, n, i, what) {
             return i + 1;
         }
         i += 1;

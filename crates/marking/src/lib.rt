@@ -16,9 +16,9 @@ fn number_one(table: &mut [u32], n: usize, i: usize, last: ObjectNo) -> ObjectNo
 {
     let r = table::row_at(table, n, i);
     if lookups::is_object(r.kind) {
-        let number = marks::plus(last.0, 1);
-        marks::put_named(table, n, i, marks::with_id(r, number));
-        return ObjectNo(number);
+        let number = marks::next_object(last);
+        marks::put_named(table, n, i, marks::with_object_no(r, number));
+        return number;
     }
     last
 }
@@ -77,7 +77,7 @@ fn first_one(s: &[u8], table: &mut [u32], n: usize, i: usize)
     let r = table::row_at(table, n, i);
     if lookups::is_class(r.kind) {
         let first = distinct::first_class(s, table, n, r);
-        marks::put_named(table, n, i, marks::with_link(r, first));
+        marks::put_named(table, n, i, marks::with_first_row(r, first));
     }
 }
 

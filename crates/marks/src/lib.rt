@@ -2,6 +2,7 @@
 // written. `specs/Marks.antt` says what the marks are.
 use format::Field;
 use format::LibraryNo;
+use format::ObjectNo;
 use format::Row;
 ghost use mathlib.Core.Path.{_≡_};
 ghost use Prim.Native.Nat.{_+_, _-_, _*_, _≤_};
@@ -36,6 +37,20 @@ pub fn plus(n: u32, k: u32) -> u32
     word((n as usize) + (k as usize))
 }
 
+// The number after an object's.
+pub fn next_object(last: ObjectNo) -> ObjectNo
+    ensures { λ r. ⌜ r .0 ≡ word (last .0 + 1) ⌝ }
+{
+    ObjectNo(plus(last.0, 1))
+}
+
+// The number after a library's.
+pub fn next_library(last: LibraryNo) -> LibraryNo
+    ensures { λ r. ⌜ r .0 ≡ word (last .0 + 1) ⌝ }
+{
+    LibraryNo(plus(last.0, 1))
+}
+
 // Four bytes as a number, the low one first.
 fn joined(a: u8, b: u8, c: u8, d: u8) -> u32
     ensures { λ r. ⌜ r ≡ a + 256 * b + 65536 * c + 16777216 * d ⌝ }
@@ -45,14 +60,15 @@ fn joined(a: u8, b: u8, c: u8, d: u8) -> u32
 
 // ---- rows
 
-pub fn with_id(r: Row, id: u32) -> Row
-    ensures { λ q. ⌜ q ≡ withId r id ⌝ }
+// An object's row with this number.
+pub fn with_object_no(r: Row, id: ObjectNo) -> Row
+    ensures { λ q. ⌜ q ≡ withId r (id .0) ⌝ }
 {
     Row {
         kind: r.kind,
         offset: r.offset,
         end: r.end,
-        id,
+        id: id.0,
         owner: r.owner,
         slot: r.slot,
         link: r.link,
@@ -75,7 +91,7 @@ pub fn with_slot(r: Row, slot: u32) -> Row
     }
 }
 
-pub fn with_link(r: Row, link: u32) -> Row
+fn with_link(r: Row, link: u32) -> Row
     ensures { λ q. ⌜ q ≡ withLink r link ⌝ }
 {
     Row {
@@ -88,6 +104,20 @@ pub fn with_link(r: Row, link: u32) -> Row
         link,
         count: r.count,
     }
+}
+
+// A library's row whose link is its new number.
+pub fn with_library_no(r: Row, id: LibraryNo) -> Row
+    ensures { λ q. ⌜ q ≡ withLink r (id .0) ⌝ }
+{
+    with_link(r, id.0)
+}
+
+// A class's row whose link is the first row, plus 1, of an equal class.
+pub fn with_first_row(r: Row, first: u32) -> Row
+    ensures { λ q. ⌜ q ≡ withLink r first ⌝ }
+{
+    with_link(r, first)
 }
 
 pub fn with_count(r: Row, count: u32) -> Row

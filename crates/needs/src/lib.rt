@@ -14,15 +14,15 @@ fn need(s: &[u8], table: &mut [u32], n: usize, p: usize, last: LibraryNo) -> Lib
     let f = marks::library_at(s, table, n, p);
     let g = marks::row_named(table, n, f);
     if g.slot == 0 {
-        let number = marks::plus(last.0, 1);
+        let number = marks::next_library(last);
         let placed = marks::with_slot(g, marks::plus(marks::word(p), 1));
         marks::put_named(
             table,
             n,
             marks::less(f as usize, 1),
-            marks::with_link(placed, number),
+            marks::with_library_no(placed, number),
         );
-        return LibraryNo(number);
+        return number;
     }
     last
 }

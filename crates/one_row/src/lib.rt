@@ -8,26 +8,29 @@ ghost use Rattle.pieces.specs.Copy.{keptOut, stringOut, recordOut};
 
 // ---- a row
 
-// An object whose bytes after the ObjectId are kept.
+// An object whose bytes after the ObjectId are kept: ArraySinglePrimitive (2.4.3.3 in MS-NRBF), ArraySingleObject (2.4.3.2) and ArraySingleString
+// (2.4.3.4).
 fn put_kept(out: &mut [u8], s: &[u8], r: Row) -> usize
     ensures { λ q. ⌜ Filled (keptOut (now (s .entry)) r) (now (out .entry)) (now (out .exit)) q ⌝ }
 {
-    let a = heads::put_head(out, (r.kind % 256) as u8, r.id);
+    let a = heads::put_object_head(out, (r.kind % 256) as u8, ObjectNo(r.id));
     let from = put::least(a, out.len());
     let b = put::put_part(&mut out[from..], s, (r.offset as usize) + 5, r.end as usize);
     put::add_up(a, b)
 }
 
+// BinaryObjectString (2.5.7).
 fn put_string(out: &mut [u8], s: &[u8], r: Row) -> usize
     ensures { λ q. ⌜ Filled (stringOut (now (s .entry)) r) (now (out .entry)) (now (out .exit)) q ⌝ }
 {
-    let a = heads::put_head(out, 6, r.id);
+    let a = heads::put_object_head(out, 6, ObjectNo(r.id));
     let from = put::least(a, out.len());
     let b = put::put_text(&mut out[from..], s, (r.offset as usize) + 5, r.end as usize);
     put::add_up(a, b)
 }
 
-// Row i, which is r. Libraries and nulls are written with other rows.
+// Row i, which is r. Libraries and nulls are written with other rows. What is written by no function of its own keeps all its bytes:
+// MemberPrimitiveTyped (2.5.1), a member value (MemberPrimitiveUnTyped, 2.5.2) and MessageEnd (2.6.3).
 pub fn put_record(out: &mut [u8], s: &[u8], table: &[u32], n: usize, i: usize, r: Row) -> usize
     requires { ⌜ (n ≤ roomOf (now table)) × (n < 4294967296) × (i < 4294967296) ⌝ }
     ensures { λ q. ⌜ Filled (recordOut (now (s .entry)) (rowsOf n (now (table .entry))) i r) (now (out .entry)) (now (out .exit)) q ⌝ }
@@ -49,7 +52,7 @@ pub fn put_record(out: &mut [u8], s: &[u8], table: &[u32], n: usize, i: usize, r
         7 => arrays_out::put_array(out, s, table, n, r),
         9 => {
             let t = marks::row_named(table, n, r.link);
-            heads::put_head(out, 9, t.id)
+            heads::put_reference(out, ObjectNo(t.id))
         }
         10 => 0,
         12 => 0,

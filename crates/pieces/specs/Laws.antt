@@ -13,7 +13,7 @@ use Rattle.format.specs.Numbers.{leBytes}
 use Rattle.format.specs.Rows.{isClass}
 use Rattle.format.specs.Says.{afterInfo, isNulls}
 use Rattle.put.specs.Out.{between, textOut, headOut, byIdOut, headerOut}
-use Rattle.put.specs.Put.{Filled, Along, along-start}
+use Rattle.put.specs.Put.{Along, along-start}
 use Rattle.marks.specs.Marks.{rowAt, word, libraryAt, infosPlace, isFirst}
 use Rattle.pieces.specs.Copy.{libraryNumber, libraryOut, needOut, needInfoOut, needInfosOut, needOwnOut, needClassOut, infoOut, infosOut, ownOut, detailsOut, classOut, objectOut, stringOut, arrayOut, keptOut, recordOut}
 
@@ -34,14 +34,6 @@ module _ (s : List ℕ) (rs : List Row) (r : Row) where
   pub class-is : classOut s rs r ≡ headOut (r .kind % 256) (r .id) ++ (between s (r .offset + 5) (infosPlace r) ++ detailsOut s rs r)
   unfolding classOut
   class-is = refl
-
--- ---- one of two pieces, by a word
-module _ (l : Bool) (b c d e : List ℕ) (q : ℕ) where
-  pub first-piece : l ≡ true → Filled b d e q → Filled (pick l b c) d e q
-  first-piece h f = rw h f
-
-  pub second-piece : l ≡ false → Filled c d e q → Filled (pick l b c) d e q
-  second-piece h f = rw h f
 
 -- ---- libraries
 module _ (s : List ℕ) (rs : List Row) where

@@ -1,5 +1,6 @@
 // Writers into the unwritten rest of the output. Each answers the length that its bytes need, whether they fit or not; where they fit
 // they are written.
+use format::LibraryNo;
 use format::Prefix;
 ghost use mathlib.Core.Path.{_≡_};
 ghost use mathlib.Core.List.{[], _∷_};
@@ -64,6 +65,13 @@ pub fn put_number(out: &mut [u8], n: u32) -> usize
     out[2] = (n / 256 / 256 % 256) as u8;
     out[3] = (n / 256 / 256 / 256 % 256) as u8;
     4
+}
+
+// The number of a library where a class or a type names it.
+pub fn put_library_no(out: &mut [u8], id: LibraryNo) -> usize
+    ensures { λ r. ⌜ Filled (leBytes 4 (id .0)) (now (out .entry)) (now (out .exit)) r ⌝ }
+{
+    put_number(out, id.0)
 }
 
 // ---- parts of the stream

@@ -1,9 +1,10 @@
-// What the fields of a record say: a function for each kind that has neither members nor slots. Every field is judged where it stands: missing
-// bytes, then its content, before the next one is looked at.
+// What the fields of a record say: a function for each kind that has neither members nor slots, with its name and section in MS-NRBF. Every
+// field is judged where it stands: missing bytes, then its content, before the next one is looked at.
 use format::Field;
 use format::Heading;
 use format::LibraryNo;
 use format::Number32;
+use format::ObjectNo;
 use format::Refusal;
 ghost use Prim.Native.Nat.{_≤_, _<_};
 ghost use mathlib.Core.Path.{_≡_};
@@ -15,12 +16,12 @@ ghost use Rattle.records.specs.Stages.{versionAt, namedAt, freeLibrary};
 // ---- parts of records
 
 // The LibraryId of a library: positive, and used once.
-fn is_free_library(table: &[u32], n: usize, id: u32) -> bool
+fn is_free_library(table: &[u32], n: usize, id: LibraryNo) -> bool
     requires { ⌜ n ≤ roomOf (now table) ⌝ }
-    ensures { λ r. ⌜ r ≡ freeLibrary (rowsOf n (now (table .entry))) id ⌝ }
+    ensures { λ r. ⌜ r ≡ freeLibrary (rowsOf n (now (table .entry))) (id .0) ⌝ }
 {
-    if types::is_positive(id) {
-        return lookups::find_library(table, n, LibraryNo(id)) == 0;
+    if types::is_positive(id.0) {
+        return lookups::find_library(table, n, id) == 0;
     }
     false
 }
@@ -56,7 +57,7 @@ fn version_at(s: &[u8], root: u32, at: usize) -> Heading
 
 // ---- the kinds without members or slots
 
-// 0: the RootId has no sign rule, and the HeaderId is not judged.
+// 0, SerializationHeaderRecord (2.6.1): the RootId has no sign rule, and the HeaderId is not judged.
 pub fn header_at(s: &[u8], at: usize) -> Heading
     requires { ⌜ at < length (now s) ⌝ }
     ensures { λ r. ⌜ r ≡ headerAt (now (s .entry)) at ⌝ }
@@ -70,7 +71,7 @@ pub fn header_at(s: &[u8], at: usize) -> Heading
     version_at(s, root, q)
 }
 
-// 6: ObjectId, text.
+// 6, BinaryObjectString (2.5.7): ObjectId, text.
 pub fn string_record_at(s: &[u8], table: &[u32], n: usize, at: usize) -> Heading
     requires { ⌜ (n ≤ roomOf (now table)) × (at < length (now s)) ⌝ }
     ensures { λ r. ⌜ r ≡ stringRecordAt (now (s .entry)) (rowsOf n (now (table .entry))) at ⌝ }
@@ -78,13 +79,13 @@ pub fn string_record_at(s: &[u8], table: &[u32], n: usize, at: usize) -> Heading
     let Number32::Value(id, p) = num::u32_at(s, at + 1) else {
         return Heading::Bad(Refusal::CutShort);
     };
-    if arrays::is_free_id(table, n, id) {
+    if arrays::is_free_id(table, n, ObjectNo(id)) {
         return named_at(s, id, p);
     }
     Heading::Bad(Refusal::BadId)
 }
 
-// 8: a primitive code, then a value of it.
+// 8, MemberPrimitiveTyped (2.5.1): a primitive code, then a value of it.
 pub fn typed_primitive_at(s: &[u8], at: usize) -> Heading
     requires { ⌜ at < length (now s) ⌝ }
     ensures { λ r. ⌜ r ≡ typedPrimitiveAt (now (s .entry)) at ⌝ }
@@ -101,7 +102,7 @@ pub fn typed_primitive_at(s: &[u8], at: usize) -> Heading
     }
 }
 
-// 9: the IdRef, by its sign alone; its target may come later.
+// 9, MemberReference (2.5.3): the IdRef, by its sign alone; its target may come later.
 pub fn reference_at(s: &[u8], at: usize) -> Heading
     requires { ⌜ at < length (now s) ⌝ }
     ensures { λ r. ⌜ r ≡ referenceAt (now (s .entry)) at ⌝ }
@@ -115,7 +116,7 @@ pub fn reference_at(s: &[u8], at: usize) -> Heading
     Heading::Bad(Refusal::BadId)
 }
 
-// 13: a byte count, also 0.
+// 13, ObjectNullMultiple256 (2.5.6): a byte count, also 0.
 pub fn nulls_at(s: &[u8], at: usize) -> Heading
     requires { ⌜ at < length (now s) ⌝ }
     ensures { λ r. ⌜ r ≡ nullsAt (now (s .entry)) at ⌝ }
@@ -126,7 +127,7 @@ pub fn nulls_at(s: &[u8], at: usize) -> Heading
     Heading::Bad(Refusal::CutShort)
 }
 
-// 14: an INT32 count from 1.
+// 14, ObjectNullMultiple (2.5.5): an INT32 count from 1.
 pub fn long_nulls_at(s: &[u8], at: usize) -> Heading
     requires { ⌜ at < length (now s) ⌝ }
     ensures { λ r. ⌜ r ≡ longNullsAt (now (s .entry)) at ⌝ }
@@ -140,7 +141,7 @@ pub fn long_nulls_at(s: &[u8], at: usize) -> Heading
     Heading::Bad(Refusal::BadCount)
 }
 
-// 12: LibraryId, name. A second library of one number is refused, also where the names are equal.
+// 12, BinaryLibrary (2.6.2): LibraryId, name. A second library of one number is refused, also where the names are equal.
 pub fn library_at(s: &[u8], table: &[u32], n: usize, at: usize) -> Heading
     requires { ⌜ (n ≤ roomOf (now table)) × (at < length (now s)) ⌝ }
     ensures { λ r. ⌜ r ≡ libraryAt (now (s .entry)) (rowsOf n (now (table .entry))) at ⌝ }
@@ -148,7 +149,7 @@ pub fn library_at(s: &[u8], table: &[u32], n: usize, at: usize) -> Heading
     let Number32::Value(id, p) = num::u32_at(s, at + 1) else {
         return Heading::Bad(Refusal::CutShort);
     };
-    if is_free_library(table, n, id) {
+    if is_free_library(table, n, LibraryNo(id)) {
         return named_at(s, id, p);
     }
     Heading::Bad(Refusal::BadId)

@@ -1,5 +1,4 @@
 // A record by what it does: it opens an object, fills its slot, passes a run of nulls, is a library or the end.
-use adding::Opening;
 use adding::Step;
 use format::Head;
 use format::Passed;
@@ -35,17 +34,12 @@ pub fn take_object(
         let next = frames::fill(frames, m, 1, t);
         return adding::add_row(table, m, r, next);
     }
-    let shallow = m.depth < Reader::OPEN;
-    let roomy = m.rows < table::room(table);
-    let o = adding::in_turn(shallow, Refusal::TooDeep, roomy, Refusal::NoRoom);
-    match o {
-        Opening::Good => {
-            let row = (m.rows + 1) as u32;
-            let next = frames::open_object(frames, m, row, h, t);
-            adding::add_row(table, m, r, next)
-        }
-        Opening::Bad(f) => Step::Refuse(f, m.at),
+    if m.depth < Reader::OPEN {
+        let row = (m.rows + 1) as u32;
+        let next = frames::open_object(frames, m, row, h, t);
+        return adding::add_row(table, m, r, next);
     }
+    Step::Refuse(Refusal::TooDeep, m.at)
 }
 
 // A record that fills k slots of the object it stands in.

@@ -35,7 +35,7 @@ pub extern "C" fn strelinga_row_question(stream: &[u8], table: &[u32], row: u64)
     replies::row_number(view::row_question(stream, table, row as usize))
 }
 
-// The text of a row: `from` is its place in the stream and `length` how many bytes it has, both 0 where there is none. Answers as the row
+// The text of a row: `from` is its place in the stream and `size` how many bytes it has, both 0 where there is none. Answers as the row
 // question does.
 #[no_mangle]
 pub extern "C" fn strelinga_text_view(
@@ -43,18 +43,18 @@ pub extern "C" fn strelinga_text_view(
     table: &[u32],
     row: u64,
     from: &mut u64,
-    length: &mut u64,
+    size: &mut u64,
 ) -> u32
-    ensures { λ n. ⌜ Shown (now (stream .entry)) (now (table .entry)) row n (now (from .exit)) (now (length .exit)) ⌝ }
+    ensures { λ n. ⌜ Shown (now (stream .entry)) (now (table .entry)) row n (now (from .exit)) (now (size .exit)) ⌝ }
 {
     let t = view::row_text(stream, table, row as usize);
     let r = replies::text_reply(t);
     *from = r.place;
-    *length = r.value;
+    *size = r.value;
     r.number
 }
 
-// Writes the tidy copy of a stream to the front of the output. Answers 0, or the number of the refusal; `place` is then its place, and `length`
+// Writes the tidy copy of a stream to the front of the output. Answers 0, or the number of the refusal; `place` is then its place, and `size`
 // is how long the copy is or, with 20, would be.
 #[no_mangle]
 pub extern "C" fn strelinga_tidy(
@@ -62,19 +62,19 @@ pub extern "C" fn strelinga_tidy(
     table: &mut [u32],
     out: &mut [u8],
     place: &mut u64,
-    length: &mut u64,
+    size: &mut u64,
 ) -> u32
-    ensures { λ n. ⌜ Tidied (now (stream .entry)) (now (table .entry)) (now (out .entry)) (now (table .exit)) (now (out .exit)) n (now (place .exit)) (now (length .exit)) ⌝ }
+    ensures { λ n. ⌜ Tidied (now (stream .entry)) (now (table .entry)) (now (out .entry)) (now (table .exit)) (now (out .exit)) n (now (place .exit)) (now (size .exit)) ⌝ }
 {
     let a = tidy::tidy(stream, table, out);
     let w = replies::tidy_reply(a);
     *place = w.place;
-    *length = w.value;
+    *size = w.value;
     w.number
 }
 
 // Whether two lists say the same. Answers 0 where both have their tidy copies, and `same` is then 1 or 0; else the number of the refusal of the
-// list that `list` names, with its `place` or, with 20, the length that its copy needs.
+// list that `list` names, with its `place` or, with 20, what its copy needs as `wanted`.
 #[no_mangle]
 pub extern "C" fn strelinga_say_the_same(
     a: &[u8],
@@ -85,15 +85,15 @@ pub extern "C" fn strelinga_say_the_same(
     same: &mut u64,
     list: &mut u64,
     place: &mut u64,
-    needed: &mut u64,
+    wanted: &mut u64,
 ) -> u32
-    ensures { λ n. ⌜ Compared (now (a .entry)) (now (b .entry)) (now (table .entry)) (now (first .entry)) (now (second .entry)) (now (table .exit)) (now (first .exit)) (now (second .exit)) n (now (same .exit)) (now (list .exit)) (now (place .exit)) (now (needed .exit)) ⌝ }
+    ensures { λ n. ⌜ Compared (now (a .entry)) (now (b .entry)) (now (table .entry)) (now (first .entry)) (now (second .entry)) (now (table .exit)) (now (first .exit)) (now (second .exit)) n (now (same .exit)) (now (list .exit)) (now (place .exit)) (now (wanted .exit)) ⌝ }
 {
     let q = sameness::say_the_same(a, b, table, first, second);
     let w = replies::same_reply(q);
     *same = replies::same_of(q);
     *list = replies::list_of(q);
     *place = w.place;
-    *needed = w.value;
+    *wanted = w.value;
     w.number
 }

@@ -4,7 +4,6 @@ use format::ObjectNo;
 use format::Row;
 ghost use mathlib.Core.List.{_++_};
 ghost use Prim.Native.Nat.{_+_, _-_, _≤_, _<_};
-ghost use Rattle.format.specs.Bytes.{pick};
 ghost use Rattle.format.specs.Rows.{rowsOf, roomOf};
 ghost use Rattle.put.specs.Out.{between};
 ghost use Rattle.put.specs.Put.{Filled};
@@ -27,25 +26,15 @@ fn put_class_fields(out: &mut [u8], s: &[u8], table: &[u32], n: usize, r: Row) -
     put::add_up(a, b)
 }
 
+// SystemClassWithMembersAndTypes (kind 4, 2.3.2.3 in MS-NRBF) or ClassWithMembersAndTypes (kind 5, 2.3.2.1).
 fn put_class(out: &mut [u8], s: &[u8], table: &[u32], n: usize, r: Row) -> usize
     requires { ⌜ (n ≤ roomOf (now table)) × (n < 4294967296) ⌝ }
     ensures { λ q. ⌜ Filled (classOut (now (s .entry)) (rowsOf n (now (table .entry))) r) (now (out .entry)) (now (out .exit)) q ⌝ }
 {
-    let a = heads::put_head(out, (r.kind % 256) as u8, r.id);
+    let a = heads::put_object_head(out, (r.kind % 256) as u8, ObjectNo(r.id));
     let from = put::least(a, out.len());
     let b = put_class_fields(&mut out[from..], s, table, n, r);
     put::add_up(a, b)
-}
-
-// The records of the libraries that a class needs, or else its own record.
-fn put_piece(out: &mut [u8], s: &[u8], table: &[u32], n: usize, r: Row, libraries: bool) -> usize
-    requires { ⌜ (n ≤ roomOf (now table)) × (n < 4294967296) ⌝ }
-    ensures { λ q. ⌜ Filled (pick libraries (needClassOut (now (s .entry)) (rowsOf n (now (table .entry))) r) (classOut (now (s .entry)) (rowsOf n (now (table .entry))) r)) (now (out .entry)) (now (out .exit)) q ⌝ }
-{
-    if libraries {
-        return libraries_out::put_need_class(out, s, table, n, r);
-    }
-    put_class(out, s, table, n, r)
 }
 
 // The first object of a class in full, after the libraries that it needs.
@@ -53,13 +42,13 @@ fn put_first(out: &mut [u8], s: &[u8], table: &[u32], n: usize, r: Row) -> usize
     requires { ⌜ (n ≤ roomOf (now table)) × (n < 4294967296) ⌝ }
     ensures { λ q. ⌜ Filled (needClassOut (now (s .entry)) (rowsOf n (now (table .entry))) r ++ classOut (now (s .entry)) (rowsOf n (now (table .entry))) r) (now (out .entry)) (now (out .exit)) q ⌝ }
 {
-    let a = put_piece(out, s, table, n, r, true);
+    let a = libraries_out::put_need_class(out, s, table, n, r);
     let from = put::least(a, out.len());
-    let b = put_piece(&mut out[from..], s, table, n, r, false);
+    let b = put_class(&mut out[from..], s, table, n, r);
     put::add_up(a, b)
 }
 
-// The first object of a class in full, later ones by it.
+// The first object of a class in full, later ones by it: ClassWithId (2.3.2.5).
 pub fn put_object(out: &mut [u8], s: &[u8], table: &[u32], n: usize, i: usize, r: Row) -> usize
     requires { ⌜ (n ≤ roomOf (now table)) × (n < 4294967296) × (i < 4294967296) ⌝ }
     ensures { λ q. ⌜ Filled (objectOut (now (s .entry)) (rowsOf n (now (table .entry))) i r) (now (out .entry)) (now (out .exit)) q ⌝ }

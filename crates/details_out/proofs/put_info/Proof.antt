@@ -19,7 +19,7 @@ put-info-spec =
     (λ c κs. search needs)
     (λ c κs. search needs)
     (λ c. search needs)
-    (λ c. joined-as _ _ _ _ _ _ _ _ _ _ (info-4 _ _ _ _ _ _ _ (c .before .before .before .before .before .before .before .before .before .before .before .before .if1 .taken) (c .before .before .before .before .before .before .before .before .before .before .before .less .ensures) (c .before .before .before .before .before .before .before .before .before .before .library-number .ensures)) (c .before .before .before .before .before .before .before .before .put-part .kept .0) (c .before .before .before .before .before .least .ensures) (c .before .before .before .before .before .before .before .before .put-part .ensures) (c .before .before .before .put-number .ensures) (c .add-up .ensures))
+    (λ c. joined-as _ _ _ _ _ _ _ _ _ _ (info-4 _ _ _ _ _ _ _ (c .before .before .before .before .before .before .before .before .before .before .before .before .if1 .taken) (c .before .before .before .before .before .before .before .before .before .before .before .less .ensures) (c .before .before .before .before .before .before .before .before .before .before .library-number .ensures)) (c .before .before .before .before .before .before .before .before .put-part .kept .0) (c .before .before .before .before .before .least .ensures) (c .before .before .before .before .before .before .before .before .put-part .ensures) (c .before .before .before .put-library-no .ensures) (c .add-up .ensures))
     (λ c κs. search needs)
     (λ c. search needs)
     (λ c. became _ _ _ _ _ (info-none _ _ _ _ _ (c .before .before .before .before .if1 .left)) (c .before .before .put-part2 .ensures)))

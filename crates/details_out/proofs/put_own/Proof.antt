@@ -15,5 +15,5 @@ put-own-spec =
     (λ c κs. search needs)
     (λ c κs. search needs)
     (λ c. search needs)
-    (λ c. became _ _ _ _ _ (own-5 (c .before .before .before .before .before .before .before .before .before .before .before .before .args .s .now) (rowsOf (c .before .before .before .before .before .before .before .before .before .before .before .before .args .n) (c .before .before .before .before .before .before .before .before .before .before .before .before .args .table .now)) (c .before .before .before .before .before .before .before .before .before .before .before .before .args .r) _ _ (c .before .before .before .before .before .before .before .if1 .taken) (c .before .before .before .before .before .less .ensures) (c .before .before .before .before .library-number .ensures)) (c .before .before .put-number .ensures))
+    (λ c. became _ _ _ _ _ (own-5 (c .before .before .before .before .before .before .before .before .before .before .before .before .args .s .now) (rowsOf (c .before .before .before .before .before .before .before .before .before .before .before .before .args .n) (c .before .before .before .before .before .before .before .before .before .before .before .before .args .table .now)) (c .before .before .before .before .before .before .before .before .before .before .before .before .args .r) _ _ (c .before .before .before .before .before .before .before .if1 .taken) (c .before .before .before .before .before .less .ensures) (c .before .before .before .before .library-number .ensures)) (c .before .before .put-library-no .ensures))
     (λ c. nothing _ _ (own-none (c .before .before .before .before .before .args .s .now) (rowsOf (c .before .before .before .before .before .args .n) (c .before .before .before .before .before .args .table .now)) (c .before .before .before .before .before .args .r) (c .if1 .left))))

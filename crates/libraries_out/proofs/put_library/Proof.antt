@@ -20,4 +20,4 @@ put-library-spec =
     (λ c κs. search needs)
     (λ c κs. search needs)
     (λ c. search needs)
-    (λ c. joined-as _ _ _ _ _ _ _ _ _ _ (library-is _ _) (c .before .before .before .before .before .before .before .before .before .before .put-head .kept .0) (c .before .before .before .before .before .before .before .least .ensures) (c .before .before .before .before .before .before .before .before .before .before .put-head .ensures) (c .before .before .before .put-text .ensures) (c .add-up .ensures)))
+    (λ c. joined-as _ _ _ _ _ _ _ _ _ _ (library-is _ _) (c .before .before .before .before .before .before .before .before .before .before .put-library-head .kept .0) (c .before .before .before .before .before .before .before .least .ensures) (c .before .before .before .before .before .before .before .before .before .before .put-library-head .ensures) (c .before .before .before .put-text .ensures) (c .add-up .ensures)))

@@ -21,6 +21,6 @@ first-one-spec =
     let i = f .before .before in
     let i2 = i .before in
     let r = i2 .before in
-    first-class _ _ _ _ _ (r .row-at .ensures) (i2 .is-class .ensures) _ _ _ (i .if1 .taken) (f .first-class .ensures) (w .with-link .ensures) (p .put-named .ensures))
+    first-class _ _ _ _ _ (r .row-at .ensures) (i2 .is-class .ensures) _ _ _ (i .if1 .taken) (f .first-class .ensures) (w .with-first-row .ensures) (p .put-named .ensures))
     (λ c. search needs)
     (λ c. first-other _ _ _ _ _ (c .before .before .row-at .ensures) (c .before .is-class .ensures) (c .if1 .left)))

@@ -21,6 +21,6 @@ number-one-spec =
     let i = n .before in
     let i2 = i .before in
     let r = i2 .before in
-    number-object _ _ _ _ _ (r .row-at .ensures) (i2 .is-object .ensures) _ _ _ (i .if1 .taken) (n .plus .ensures) (w .with-id .ensures) (p .put-named .ensures))
+    number-object _ _ _ _ _ (r .row-at .ensures) (i2 .is-object .ensures) _ _ _ (i .if1 .taken) (n .next-object .ensures) (w .with-object-no .ensures) (p .put-named .ensures))
     (λ c. search needs)
     (λ c. number-other _ _ _ _ _ (c .before .before .row-at .ensures) (c .before .is-object .ensures) (c .if1 .left)))

@@ -31,7 +31,7 @@ need-spec =
     let i = n2 .before in
     let r = i .before .before in
     let l2 = r .before .before in
-    need-first _ _ _ _ _ _ (l2 .library-at .ensures) (r .row-named .ensures) _ _ _ _ _ _ _ (i .if1 .taken) (n2 .plus .ensures) (w3 .word .ensures) (n .plus2 .ensures) (w2 .with-slot .ensures) (w .with-link .ensures) (l .less .ensures) (p .put-named .ensures))
+    need-first _ _ _ _ _ _ (l2 .library-at .ensures) (r .row-named .ensures) _ _ _ _ _ _ _ (i .if1 .taken) (n2 .next-library .ensures) (w3 .word .ensures) (n .plus .ensures) (w2 .with-slot .ensures) (w .with-library-no .ensures) (l .less .ensures) (p .put-named .ensures))
     (λ c. search needs)
     (λ c.
     let r = c .before .before in

@@ -40,7 +40,7 @@ put-record-spec =
     (λ c. search needs)
     (λ c. became _ _ _ _ _ (record-as _ _ _ _ 7 (c .before .before .before .before .match .keys6)) (c .before .before .put-array .ensures))
     (λ c. search needs)
-    (λ c. became _ _ _ _ _ (record-9 _ _ _ _ _ (c .before .before .before .before .before .match .keys7) (c .before .before .before .before .row-named4 .ensures)) (c .before .before .put-head .ensures))
+    (λ c. became _ _ _ _ _ (record-9 _ _ _ _ _ (c .before .before .before .before .before .match .keys7) (c .before .before .before .before .row-named4 .ensures)) (c .before .before .put-reference .ensures))
     (λ c. nothing _ _ (record-as _ _ _ _ 10 (c .match .keys8)))
     (λ c. nothing _ _ (record-as _ _ _ _ 12 (c .match .keys9)))
     (λ c. nothing _ _ (record-as _ _ _ _ 13 (c .match .keys10)))

@@ -15,4 +15,4 @@ is-free-library-spec =
     (λ c. rw (c .find-library .ensures) (sym (library-used _ _ (sym (c .before .before .is-positive .ensures) ∙ c .before .if1 .taken))))
     (λ c.
     let a = c .before .before .before .args in
-    sym (library-negative (rowsOf (a .n) (a .table .now)) (a .id) (sym (c .before .is-positive .ensures) ∙ c .if1 .left))))
+    sym (library-negative (rowsOf (a .n) (a .table .now)) (a .id .0) (sym (c .before .is-positive .ensures) ∙ c .if1 .left))))

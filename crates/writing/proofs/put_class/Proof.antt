@@ -18,4 +18,4 @@ put-class-spec =
     (λ c κs. search needs)
     (λ c κs. search needs)
     (λ c. search needs)
-    (λ c. joined-as _ _ _ _ _ _ _ _ _ _ (class-is _ _ _) (c .before .before .before .before .before .before .before .before .put-head .kept .0) (c .before .before .before .before .before .least .ensures) (c .before .before .before .before .before .before .before .before .put-head .ensures) (c .before .before .before .put-class-fields .ensures) (c .add-up .ensures)))
+    (λ c. joined-as _ _ _ _ _ _ _ _ _ _ (class-is _ _ _) (c .before .before .before .before .before .before .before .before .put-object-head .kept .0) (c .before .before .before .before .before .least .ensures) (c .before .before .before .before .before .before .before .before .put-object-head .ensures) (c .before .before .before .put-class-fields .ensures) (c .add-up .ensures)))

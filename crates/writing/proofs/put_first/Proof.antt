@@ -16,4 +16,4 @@ put-first-spec =
     (λ c κs. search needs)
     (λ c κs. search needs)
     (λ c. search needs)
-    (λ c. joined _ _ _ _ _ _ _ _ _ (c .before .before .before .before .before .before .before .before .put-piece .kept .0) (c .before .before .before .before .before .least .ensures) (c .before .before .before .before .before .before .before .before .put-piece .ensures) (c .before .before .before .put-piece2 .ensures) (c .add-up .ensures)))
+    (λ c. joined _ _ _ _ _ _ _ _ _ (c .before .before .before .before .before .before .before .before .put-need-class .kept .0) (c .before .before .before .before .before .least .ensures) (c .before .before .before .before .before .before .before .before .put-need-class .ensures) (c .before .before .before .put-class .ensures) (c .add-up .ensures)))
