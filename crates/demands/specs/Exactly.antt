@@ -5,6 +5,7 @@ use mathlib.Core.Path.{_≡_, sym, ap, subst, _∙_}
 use mathlib.Core.Logic.{_↔_}
 use mathlib.Core.List.{List}
 use lib.ListN.{length, take}
+use Rattle.format.specs.declared.ReadAnswer.{ReadAnswer}
 use Rattle.format.specs.declared.TidyAnswer.the-variants as Q
 use Rattle.format.specs.declared.Row.{Row}
 use Rattle.format.specs.Grammar.{Reading}
@@ -16,7 +17,7 @@ use Rattle.num.specs.Le.{Bytes}
 use Rattle.meant.specs.Laws.{says-meant}
 use Rattle.demands.specs.Readings.{reading-unique}
 use Rattle.demands.specs.Copies.{tidy-says, same-exactly}
-use Rattle.demands.specs.Calls.{tidy-writes, two-tidied}
+use Rattle.demands.specs.Calls.{tidy-writes, two-tidied, CopyShown}
 
 -- two lists say the same exactly when their records mean the same
 pub same-meant : {s : List ℕ} {rows : List Row} (a : Reading s rows) {t : List ℕ} {others : List Row} (b : Reading t others)
@@ -74,3 +75,7 @@ two-meant s t d byte n u e p s′ t′ d′ byte′ m u′ e′ p′ {rows} {oth
     let x = two-tidied s t d byte n u e p s′ t′ d′ byte′ m u′ e′ p′ rows others w w′ in
     let y = same-meant w w′ in
     (λ h. x .0 (y .1 h), λ h. y .0 (x .1 h))
+
+-- and the records of a copy that is read again mean what those of its list mean
+pub shown-means : {s c l : List ℕ} {a : ReadAnswer} {v : List ℕ} (x : CopyShown s c l a v) {list : List Row} (w : Reading s list) → meantBy (x .reads) ≡ meantBy w
+shown-means x {list} w = same-meant (x .reads) w .0 (x .says-same list w)

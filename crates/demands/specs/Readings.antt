@@ -1,5 +1,5 @@
 -- Demand 2: a list is accepted exactly when the published format, as document 01 settles it, has a reading of it that fits the lent table; and no
--- list has two readings.
+-- two readings of a list have different rows.
 use Prim.Native.Nat.{ℕ, _+_, _≤_}
 use mathlib.Core.Path.{_≡_, sym, ap, _∙_}
 use mathlib.Core.Logic.{_↔_}
