@@ -4,10 +4,10 @@
 use independent_reader::fast;
 use independent_reader::reader::{Reply, ROW_WORDS};
 
-pub const MOST_TURNS: usize = 7;
+pub const MOST_TURNS: usize = 50;
 
 /// No further turn is begun after so many seconds.
-pub const TIME_FOR_TURNS: f64 = 2.0;
+pub const TIME_FOR_TURNS: f64 = 1.0;
 
 const FIRST_ROWS: usize = 1_024;
 
