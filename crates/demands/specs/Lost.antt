@@ -37,7 +37,7 @@ objects-in : (type : ℕ) → Ranked type 1 → Objects (cur 17 1 [] (emptyOf ty
 objects-in type r =
     let a : _<_ 0 2147483648 = omega arith in
     let b : product (0 ∷ []) ≤ 2147483647 = omega arith in
-    one-array (record { sign = record { above = omega arith; below = omega arith }; fresh = refl })
+    one-array {i = 8} (record { sign = record { above = omega arith; below = omega arith }; fresh = refl })
     (of-any (record { ranked = r; lengths = length-of a no-length; small = b }) refl tt refl refl) refl hollow (the-end refl)
 
 small-in : (type : ℕ) → length (streamOf type) ≡ 33
