@@ -19,8 +19,14 @@ pub fn heading_at(s: &[u8], table: &[u32], n: usize, k: u8, at: usize) -> Headin
     match k {
         0 => records::header_at(s, at),
         1 => class_by_id::class_by_id_at(s, table, n, at),
-        4 => classes::class_at(s, table, n, false, at),
-        5 => classes::class_at(s, table, n, true, at),
+        4 => {
+            let h = classes::class_at(s, table, n, false, at);
+            h
+        }
+        5 => {
+            let h = classes::class_at(s, table, n, true, at);
+            h
+        }
         6 => records::string_record_at(s, table, n, at),
         7 => binary_arrays::binary_array_at(s, table, n, at),
         8 => records::typed_primitive_at(s, at),
