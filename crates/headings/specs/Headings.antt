@@ -1,12 +1,27 @@
 -- The fields of a record by its kind: one law for each kind that the definition names, and one for all others.
 use Prim.Native.Nat.{ℕ, _+_}
-use mathlib.Core.Path.{_≡_}
-use mathlib.Core.Bool.{true, false}
+use mathlib.Core.Path.{_≡_, refl}
+use mathlib.Core.Bool.{Bool, true, false}
 use mathlib.Core.List.{List}
+use lib.ListN.{getD}
 use borrow.Author.Tests.{ne-eqb}
+use Rattle.format.specs.declared.Refusal.{Refusal}
+use Rattle.format.specs.declared.Refusal.the-variants as R
 use Rattle.format.specs.declared.SlotType.the-variants as S
+use Rattle.format.specs.declared.Field.{Field}
+use Rattle.format.specs.declared.Field.the-variants as F
+use Rattle.format.specs.declared.Number32.{Number32}
+use Rattle.format.specs.declared.Number32.the-variants as N32
+use Rattle.format.specs.declared.Heading.{Heading}
+use Rattle.format.specs.declared.Heading.the-variants as H
 use Rattle.format.specs.declared.Row.{Row}
-use Rattle.format.specs.Records.{plain, headerAt, stringRecordAt, typedPrimitiveAt, referenceAt, nullsAt, longNullsAt, libraryAt, classAt, classByIdAt, slotArrayAt, primitiveArrayAt, binaryArrayAt, headingAt}
+use Rattle.format.specs.Bytes.{pick}
+use Rattle.format.specs.Numbers.{u32At}
+use Rattle.format.specs.Values.{valueAt}
+use Rattle.format.specs.Types.{nameAt, positive, codeAt, coded, primitiveOf}
+use Rattle.format.specs.Records.{onField, plain, goodId, headerAt, stringRecordAt, typedPrimitiveAt, referenceAt, nullsAt, longNullsAt, libraryAt, classAt, classByIdAt, slotArrayAt, primitiveArrayAt, binaryArrayAt, headingAt}
+use Rattle.kinds.specs.Kinds.{Hollow}
+use Rattle.records.specs.Stages.{namedAt, onJudged, reference-parts, string-parts}
 
 -- a kind that the definition does not name
 abbrev pub NoneOf : ℕ → Type 0
@@ -96,3 +111,37 @@ module _ (s : List ℕ) (rows : List Row) (k at : ℕ) where
         ne-eqb k 15 (r .0 .1),
         ne-eqb k 16 (r .1),
       )
+
+-- ---- records without slots of their own
+
+hollow-pick : (t : Bool) (x y : Heading) → Hollow x → Hollow y → Hollow (pick t x y)
+hollow-pick true x y a b = a
+hollow-pick false x y a b = b
+
+hollow-field : (k : ℕ → Heading) (r : Field) → ((e : ℕ) → Hollow (k e)) → Hollow (onField k r)
+hollow-field k (F.End e) h = h e
+hollow-field k (F.Fault f) h = tt
+
+hollow-judged : (test : ℕ → Bool) (refusal : Refusal) (good : ℕ → ℕ → Heading) (r : Number32) → ((v p : ℕ) → Hollow (good v p))
+    → Hollow (onJudged test refusal good r)
+unfolding onJudged
+hollow-judged test refusal good (N32.Value v p) h = hollow-pick (test v) (good v p) (H.Bad refusal) (h v p) tt
+hollow-judged test refusal good N32.Short h = tt
+
+module _ (s : List ℕ) (at : ℕ) where
+  named-hollow : (id p : ℕ) → Hollow (namedAt s id p)
+  unfolding namedAt
+  named-hollow id p = hollow-field (λ end. plain id end 0) (nameAt s p) (λ e. refl)
+
+  pub string-hollow : (rows : List Row) → Hollow (stringRecordAt s rows at)
+  string-hollow rows = rw (string-parts s at rows) (hollow-judged (goodId rows) R.BadId (namedAt s) (u32At s (at + 1)) named-hollow)
+
+  pub typed-hollow : Hollow (typedPrimitiveAt s at)
+  unfolding typedPrimitiveAt
+  typed-hollow =
+      let code = coded (primitiveOf (getD s (at + 1) 0)) in
+      hollow-field (λ p. onField (λ end. plain 0 end 0) (valueAt s code p)) (codeAt s (at + 1)) (λ p.
+      hollow-field (λ end. plain 0 end 0) (valueAt s code p) (λ e. refl))
+
+  pub reference-hollow : Hollow (referenceAt s at)
+  reference-hollow = rw (reference-parts s at) (hollow-judged positive R.BadId (λ id end. plain id end 0) (u32At s (at + 1)) (λ id p. refl))

@@ -3,13 +3,11 @@ use format::Heading;
 use format::SlotType;
 ghost use Prim.Native.Nat.{_≤_, _<_};
 ghost use mathlib.Core.Path.{_≡_};
-ghost use lib.ListN.{length};
 ghost use mathlib.Core.Bool.{true};
-ghost use mathlib.Core.List.{List};
-ghost use Rattle.format.specs.declared.Row.{Row};
-ghost use Rattle.kinds.specs.Kinds.{isBrief};
+ghost use lib.ListN.{length};
 ghost use Rattle.format.specs.Rows.{roomOf, rowsOf};
 ghost use Rattle.format.specs.Records.{headingAt};
+ghost use Rattle.kinds.specs.Kinds.{isBrief, Hollow};
 
 // ---- all kinds
 
@@ -22,8 +20,14 @@ pub fn heading_at(s: &[u8], table: &[u32], n: usize, k: u8, at: usize) -> Headin
     match k {
         0 => records::header_at(s, at),
         1 => class_by_id::class_by_id_at(s, table, n, at),
-        4 => classes::class_at(s, table, n, false, at),
-        5 => classes::class_at(s, table, n, true, at),
+        4 => {
+            let h = classes::class_at(s, table, n, false, at);
+            h
+        }
+        5 => {
+            let h = classes::class_at(s, table, n, true, at);
+            h
+        }
         6 => records::string_record_at(s, table, n, at),
         7 => binary_arrays::binary_array_at(s, table, n, at),
         8 => records::typed_primitive_at(s, at),
@@ -41,12 +45,13 @@ pub fn heading_at(s: &[u8], table: &[u32], n: usize, k: u8, at: usize) -> Headin
 
 // ---- brief kinds
 
-// The fields of a record of a brief kind, whatever the rows are.
-pub fn brief_at(s: &[u8], k: u8, at: usize) -> Heading
-    requires { ⌜ (isBrief k ≡ true) × (at < length (now s)) ⌝ }
-    ensures { λ r. ⌜ ((rows : List Row) → r ≡ headingAt (now (s .entry)) rows k at) ⌝ }
+// The fields of a record of a brief kind. It has no slots of its own.
+pub fn brief_at(s: &[u8], table: &[u32], n: usize, k: u8, at: usize) -> Heading
+    requires { ⌜ (isBrief k ≡ true) × (n ≤ roomOf (now table)) × (at < length (now s)) ⌝ }
+    ensures { λ r. ⌜ (r ≡ headingAt (now (s .entry)) (rowsOf n (now (table .entry))) k at) × Hollow r ⌝ }
 {
     match k {
+        6 => records::string_record_at(s, table, n, at),
         8 => records::typed_primitive_at(s, at),
         9 => records::reference_at(s, at),
         _ => arrays::plain_head(0, at + 1, 1),

@@ -13,16 +13,24 @@ use Rattle.format.specs.declared.Where.{Where}
 use Rattle.format.specs.declared.Where.the-variants as W
 use Rattle.format.specs.declared.Kind.{Kind}
 use Rattle.format.specs.declared.Kind.the-variants as K
+use Rattle.format.specs.declared.Heading.{Heading}
+use Rattle.format.specs.declared.Heading.the-variants as H
 use Rattle.format.specs.Bytes.{pick}
 use Rattle.format.specs.Records.{isKind, notTaken, inSlot, isClassKind, allowed, kindOf, kindAt}
 use Rattle.fields.specs.Judged.{told}
 
--- fill one slot, look nothing up and open nothing
+-- fill one slot and open nothing
 abbrev pub isBrief : ℕ → Bool
-isBrief k = eqb k 8 || (eqb k 9 || eqb k 10)
+isBrief k = eqb k 6 || (eqb k 8 || (eqb k 9 || eqb k 10))
 
-pub brief-null : (k : ℕ) → isBrief k ≡ true → (k ≡ 8 → ⊥) → (k ≡ 9 → ⊥) → k ≡ 10
-brief-null k e eight nine = let a : isBrief k ≡ eqb k 10 = rw (ne-eqb k 8 eight, ne-eqb k 9 nine) in eqb-true k 10 (sym a ∙ e)
+pub brief-null : (k : ℕ) → isBrief k ≡ true → (k ≡ 6 → ⊥) → (k ≡ 8 → ⊥) → (k ≡ 9 → ⊥) → k ≡ 10
+brief-null k e six eight nine =
+    let a : isBrief k ≡ eqb k 10 = rw (ne-eqb k 6 six, ne-eqb k 8 eight, ne-eqb k 9 nine) in eqb-true k 10 (sym a ∙ e)
+
+-- the fields of a record without slots of its own
+abbrev pub Hollow : Heading → Type 0
+Hollow (H.Fields h) = h .slots ≡ 0
+Hollow (H.Bad f) = Unit {0}
 
 -- ---- the slots
 
@@ -64,10 +72,11 @@ or : {X : Type 0} (a b : Bool) → (a ≡ true → X) → (b ≡ true → X) →
 or true b f g h = f refl
 or false b f g h = g h
 
-pub by-brief : (k : ℕ) (P : ℕ → Type 0) → P 8 → P 9 → P 10 → isBrief k ≡ true → P k
-by-brief k P a b c =
-    or _ _ (λ e. subst P (sym (eqb-true k 8 e)) a)
-    (or _ _ (λ e. subst P (sym (eqb-true k 9 e)) b) (λ e. subst P (sym (eqb-true k 10 e)) c))
+pub by-brief : (k : ℕ) (P : ℕ → Type 0) → P 6 → P 8 → P 9 → P 10 → isBrief k ≡ true → P k
+by-brief k P a b c d =
+    or _ _ (λ e. subst P (sym (eqb-true k 6 e)) a)
+    (or _ _ (λ e. subst P (sym (eqb-true k 8 e)) b)
+    (or _ _ (λ e. subst P (sym (eqb-true k 9 e)) c) (λ e. subst P (sym (eqb-true k 10 e)) d)))
 
 module _ (k : ℕ) where
   is : (c : ℕ) → Known c → eqb k c ≡ true → Known k

@@ -128,11 +128,12 @@ fn kind_of(w: Where, k: u8) -> Kind
     Kind::Wrong(Refusal::UnknownKind)
 }
 
-// Kinds that fill one slot and neither look anything up nor open anything: 8, 9 and 10.
+// Kinds that fill one slot and open nothing: 6, 8, 9 and 10.
 pub fn is_brief(k: u8) -> bool
     ensures { λ r. ⌜ r ≡ isBrief k ⌝ }
 {
     match k {
+        6 => true,
         8 => true,
         9 => true,
         10 => true,

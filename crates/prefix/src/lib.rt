@@ -58,7 +58,14 @@ fn groups(s: &[u8], at: usize, k: u8, least: u8) -> Prefix
 pub fn prefix_at(s: &[u8], at: usize) -> Prefix
     ensures { λ r. ⌜ r ≡ prefixAt (now (s .entry)) at ⌝ }
 {
-    groups(s, at, 4, 0)
+    if at < s.len() {
+        let b = s[at];
+        if b < 128 {
+            return last_group(b, at + 1);
+        }
+    }
+    let r = groups(s, at, 4, 0);
+    r
 }
 
 // ---- writing

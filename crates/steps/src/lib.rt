@@ -8,12 +8,12 @@ use format::Reader;
 use format::SlotType;
 use format::Typed;
 ghost use mathlib.Core.Path.{_≡_};
+ghost use mathlib.Core.Bool.{true};
 ghost use Prim.Native.Nat.{_-_, _≤_};
 ghost use lib.ListN.{length};
-ghost use mathlib.Core.Bool.{true};
-ghost use Rattle.kinds.specs.Kinds.{isBrief};
 ghost use Rattle.format.specs.Rows.{roomOf};
 ghost use Rattle.format.specs.Machine.{act, valueStep, valueHead};
+ghost use Rattle.kinds.specs.Kinds.{isBrief, Hollow};
 ghost use Rattle.adding.specs.Held.{stateOf, after, Held, Short};
 
 // A record whose fields are good.
@@ -121,7 +121,7 @@ pub fn take_brief(
     kind: u32,
     heading: Heading,
 ) -> Step
-    requires { ⌜ Held (roomOf (now table)) m × Short heading × (isBrief kind ≡ true) × (length (now frames) ≡ 384) × (length (now s) ≤ 16777216) ⌝ }
+    requires { ⌜ Held (roomOf (now table)) m × Short heading × Hollow heading × (isBrief kind ≡ true) × (length (now frames) ≡ 384) × (length (now s) ≤ 16777216) ⌝ }
     ensures { λ q. ⌜ after (now (table .exit)) (now (frames .entry)) q
         ≡ act (now (s .entry)) (roomOf (now (table .entry))) (stateOf (now (table .entry)) (now (frames .entry)) m) kind heading ⌝ }
 {

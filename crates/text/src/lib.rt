@@ -3,7 +3,10 @@ use format::Field;
 use format::Refusal;
 use format::Utf8;
 ghost use mathlib.Core.Path.{_≡_};
-ghost use Rattle.format.specs.Text.{needOf, loOf, hiOf, leadOf, stepOf, wellFormed, textAt};
+ghost use Prim.Native.Nat.{_≤_};
+ghost use lib.ListN.{length};
+ghost use Rattle.format.specs.Text.{needOf, loOf, hiOf, between, leadOf, stepOf, wellFormed, textAt};
+ghost use Rattle.text.specs.Run.{runFrom};
 
 // How many bytes follow a first byte; 4 for a byte that is none.
 pub fn need_of(b: u8) -> u8
@@ -99,6 +102,20 @@ fn step(st: Utf8, b: u8) -> Utf8
     }
 }
 
+// How many bytes below 0x80 s begins with: each is a scalar by itself.
+fn plain(s: &[u8]) -> usize
+    ensures { λ r. ⌜ (r ≤ length (now (s .entry))) × (runFrom between (now (s .entry)) 0 ≡ runFrom between (now (s .entry)) r) ⌝ }
+{
+    let mut n: usize = 0;
+    while n < s.len() {
+        if s[n] >= 0x80 {
+            return n;
+        }
+        n += 1;
+    }
+    n
+}
+
 // Whether all of s is text; a scalar that s breaks off is not.
 pub fn well_formed(s: &[u8]) -> bool
     ensures { λ r. ⌜ r ≡ wellFormed (now (s .entry)) ⌝ }
@@ -108,7 +125,7 @@ pub fn well_formed(s: &[u8]) -> bool
         lo: 0x80,
         hi: 0xBF,
     };
-    let mut i: usize = 0;
+    let mut i: usize = plain(s);
     while i < s.len() {
         st = step(st, s[i]);
         i += 1;

@@ -104,7 +104,7 @@ fn record_step(
     match k {
         Kind::Taken(kind) => {
             if kinds::is_brief(kind) {
-                let h = headings::brief_at(s, kind, at);
+                let h = headings::brief_at(s, table, m.rows, kind, at);
                 return steps::take_brief(s, table, frames, m, kind as u32, h);
             }
             let n = m;

@@ -12,4 +12,5 @@ is-brief-spec =
     (λ c. sym (ap isBrief (c .match .keys1)))
     (λ c. sym (ap isBrief (c .match .keys2)))
     (λ c. sym (ap isBrief (c .match .keys3)))
+    (λ c. sym (ap isBrief (c .match .keys4)))
     (λ c. search auto))

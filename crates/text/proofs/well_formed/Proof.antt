@@ -1,6 +1,6 @@
 -- The invariant: what is left of s from i on leads from st to where all of s leads from the beginning. The measure: the bytes left.
 use Prim.Native.Nat.{_≤_, _-_}
-use mathlib.Core.Path.{_≡_, _∙_, refl}
+use mathlib.Core.Path.{_≡_, _∙_}
 use borrow.Author.Needs.{needs}
 use native.Mathlib.Omega.{arith}
 use lib.ListN.{length}
@@ -21,7 +21,8 @@ well-formed-spec =
     (tie.spec
     Inv-loop
     μ-loop
-    (λ c. (omega arith, refl))
+    (λ c κs. search needs)
+    (λ c. c .plain .ensures)
     (λ c. search needs)
     (λ c κs. search needs)
     (λ c. search needs)

@@ -16,23 +16,23 @@ record-step-spec =
     (λ c. search needs)
     (λ c κs. search needs)
     (λ c κs.
-    let a = c .before .before .before .before .before .before .before .before .args in
-    let p = c .before .before .before .before .before .before .before .before .pre in
-    (sym (c .before .is-brief .ensures) ∙ c .if1 .taken, kind-within (a .s .now) (a .w) (a .m .at) _ (sym (c .before .before .before .before .before .kind-at .ensures) ∙ c .before .before .before .k .given .1)))
+    let a = c .before .before .before .before .before .before .before .before .before .args in
+    let p = c .before .before .before .before .before .before .before .before .before .pre in
+    (sym (c .before .before .is-brief .ensures) ∙ c .before .if1 .taken, p .0 .roomy, kind-within (a .s .now) (a .w) (a .m .at) _ (sym (c .before .before .before .before .before .before .kind-at .ensures) ∙ c .before .before .before .before .k .given .1)))
     (λ c. search needs)
     (λ c κs.
-    let a = c .before .before .before .before .before .before .before .before .before .before .before .args in
-    let p = c .before .before .before .before .before .before .before .before .before .before .before .pre in
+    let a = c .before .before .before .before .before .before .before .before .before .before .before .before .args in
+    let p = c .before .before .before .before .before .before .before .before .before .before .before .before .pre in
     let h = c .before .before .brief-at in
-    (p .0, heading-short (a .s .now) (stateOf (a .table .now) (a .frames .now) (a .m) .rows) _ (a .m .at) (h .result) (h .ensures _) (kind-within (a .s .now) (a .w) (a .m .at) _ (sym (c .before .before .before .before .before .before .before .before .kind-at .ensures) ∙ c .before .before .before .before .before .before .k .given .1)) (p .2), sym (c .before .before .before .before .is-brief .ensures) ∙ c .before .before .before .if1 .taken, p .1, p .2))
+    (p .0, heading-short (a .s .now) _ _ (a .m .at) (h .result) (h .ensures .0) (kind-within (a .s .now) (a .w) (a .m .at) _ (sym (c .before .before .before .before .before .before .before .before .before .kind-at .ensures) ∙ c .before .before .before .before .before .before .before .k .given .1)) (p .2), h .ensures .1, sym (c .before .before .before .before .before .is-brief .ensures) ∙ c .before .before .before .before .if1 .taken, p .1, p .2))
     (λ c. search needs)
     (λ c.
-    let a = c .before .before .before .before .before .before .before .before .before .before .before .before .before .before .args in
-    let p = c .before .before .before .before .before .before .before .before .before .before .before .before .before .before .pre in
-    let k = c .before .before .before .before .before .before .before .before .before .before .before .kind-at in
+    let a = c .before .before .before .before .before .before .before .before .before .before .before .before .before .before .before .args in
+    let p = c .before .before .before .before .before .before .before .before .before .before .before .before .before .before .before .pre in
+    let k = c .before .before .before .before .before .before .before .before .before .before .before .before .kind-at in
     let h = c .before .before .before .before .before .brief-at in
     let o = c .before .before .take-brief in
-    (o .ensures ∙ record-on (a .s .now) (roomOf (a .table .now)) (stateOf (a .table .now) (a .frames .now) (a .m)) (a .w) (k .result) (k .ensures) _ (h .result) (c .before .before .before .before .before .before .before .before .before .k .given .1) (h .ensures _), p .1))
+    (o .ensures ∙ record-on (a .s .now) (roomOf (a .table .now)) (stateOf (a .table .now) (a .frames .now) (a .m)) (a .w) (k .result) (k .ensures) _ (h .result) (c .before .before .before .before .before .before .before .before .before .before .k .given .1) (h .ensures .0), p .1))
     (λ c κs.
     let a = c .before .before .before .before .before .before .before .before .before .before .args in
     let p = c .before .before .before .before .before .before .before .before .before .before .pre in
