@@ -17,9 +17,9 @@ use Rattle.format.specs.Numbers.{leBytes}
 use Rattle.format.specs.Prefix.{groupsOf}
 use Rattle.format.specs.Rows.{withLink, rowsOf}
 use Rattle.format.specs.Unicode.{Scalar, encode, Encodes}
-use Rattle.format.specs.Contents.{text, Rec, header, classById, nulls, end, library, objectArray, enc, encs}
+use Rattle.format.specs.Contents.{text, Rec, header, classById, nulls, manyNulls, end, library, objectArray, enc, encs}
 use Rattle.format.specs.Contents.{object as anything}
-use Rattle.format.specs.Grammar.{Positive, Name, Entry, no-more, member, Cur, cur, Object, system-class, library-class, Body, hollow, filled, Slots, full, allTake, class-by-id, an-object, a-string, a-reference, a-run, a-library, Array, of-objects, Objects, the-end, one-object, one-string, one-array, one-library, Link, to-root, to-object, stays, no-links, one-link, among, Reading}
+use Rattle.format.specs.Grammar.{Positive, Name, Entry, no-more, member, Cur, cur, Object, system-class, library-class, Body, hollow, filled, Slots, full, allTake, class-by-id, an-object, a-string, a-reference, a-run, a-long-run, a-library, Array, of-objects, Objects, the-end, one-object, one-string, one-array, one-library, Link, to-root, to-object, stays, no-links, one-link, among, Reading}
 use Rattle.format.specs.Examples.{hexOnto}
 use Rattle.format.specs.Lists.{jaw, named, inSlot, inSlotRows, forwards, forwardsRows}
 
@@ -169,6 +169,11 @@ no-run-past-the-end (one-array i a q b o) =
 pub run-over-none : {room own slot at row k : ℕ} {t : SlotType} {ts : List SlotType} {es : List Entry} {rs : List Rec} {is : List Row} {c : Cur}
     → Slots room own slot (t ∷ ts) (cur at row es (nulls k ∷ rs) is) c → allTake (take k (t ∷ ts)) ≡ true
 run-over-none (a-run t k l p u r d) = p
+
+-- likewise of a run with its count in four bytes
+pub long-run-within : {room own slot at row k : ℕ} {t : SlotType} {ts : List SlotType} {es : List Entry} {rs : List Rec} {is : List Row} {c : Cur}
+    → Slots room own slot (t ∷ ts) (cur at row es (manyNulls k ∷ rs) is) c → (k ≤ length (t ∷ ts)) × (allTake (take k (t ∷ ts)) ≡ true)
+long-run-within (a-long-run t k l p u r d) = (l, p)
 
 -- a class that no earlier record has
 pub no-later-class : {rs : List Rec} {is : List Row} → Objects (cur 17 1 [] (classById 1 2 ∷ rs) is) → ⊥

@@ -30,8 +30,6 @@ pub data ToTidy : Type 0 where
   as-read : ToTidy
   -- number 20, with the needed length
   needs : (length : ℕ) → ToTidy
-  -- runs too long to be spread
-  uncomputed : ToTidy
 
 pub record Example : Type 0 where
   pub stream : List ℕ
@@ -90,19 +88,16 @@ abbrev pub tidyReplyOf : Example → ToTidy → Reply
 tidyReplyOf e (writes c) = reply 0 0 (length c)
 tidyReplyOf e as-read = readReplyOf (e .read)
 tidyReplyOf e (needs n) = reply 20 0 n
-tidyReplyOf e uncomputed = reply 0 0 0
 
 abbrev pub outputOf : Example → ToTidy → List ℕ
 outputOf e (writes c) = laid c (before e)
 outputOf e as-read = before e
 outputOf e (needs n) = before e
-outputOf e uncomputed = []
 
 abbrev pub tableOf : Example → ToTidy → List ℕ
 tableOf e (writes c) = wordsOf (e .words) (e .read)
 tableOf e as-read = replicate (e .words) 0
 tableOf e (needs n) = replicate (e .words) 0
-tableOf e uncomputed = []
 
 abbrev pub tidyAs : Example → Outcome → ToTidy → Bool
 tidyAs e o t =
@@ -113,7 +108,6 @@ abbrev pub tidyHolds : Example → Outcome → ToTidy → Bool
 tidyHolds e o (writes c) = tidyAs e o (writes c)
 tidyHolds e o as-read = tidyAs e o as-read
 tidyHolds e o (needs n) = tidyAs e o (needs n)
-tidyHolds e o uncomputed = true
 
 abbrev pub bothHold : Example → Outcome → Bool
 bothHold e o = readHolds e o && tidyHolds e o (e .tidy)

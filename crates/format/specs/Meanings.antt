@@ -1,4 +1,4 @@
--- Worked meanings: what records mean, kind by kind; lists that mean the same; and lists that do not, one pair for each word of 01 that tells them apart.
+-- Worked meanings: what records mean, kind by kind; lists that mean the same; and lists that do not, a pair for each word of 01 that can tell them apart.
 use Prim.Native.Nat.{ℕ}
 use mathlib.Core.Path.{_≡_, refl, ap}
 use mathlib.Core.List.{List, [], _∷_}
@@ -77,7 +77,8 @@ pub nulls-spread : meant 1 (objectArray 1 3 ∷ null ∷ nulls 0 ∷ nulls 2 ∷
 unfolding meant walk nameBy classBy orderBy found librariesOf classesOf orderAfter spread
 nulls-spread = refl
 
--- ---- and lists that do not: for each word of 01 two lists that differ in nothing else
+-- ---- and lists that do not: for each word of 01 two lists that differ in nothing else. Owner and slot follow from the records and their order, so no two
+-- lists differ in these alone; kind-8, kind-17 and kind-32 have them.
 
 -- a list of one object, and one of two records
 abbrev alone : Rec → Model

@@ -70,6 +70,7 @@ pub fn move_on(s: &[u8], t: Typed) -> Typed
         return t;
     }
     let infos = after_info(s, codes::byte_at(s, types as usize), t.infos);
+    // The answer has a place of its own, so that the way above, which is taken most, calls nothing.
     let next = typed_at(s, next_place(s, types), infos);
     next
 }
