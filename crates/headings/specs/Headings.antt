@@ -20,14 +20,13 @@ use Rattle.format.specs.Numbers.{u32At}
 use Rattle.format.specs.Values.{valueAt}
 use Rattle.format.specs.Types.{nameAt, positive, codeAt, coded, primitiveOf}
 use Rattle.format.specs.Records.{onField, plain, goodId, headerAt, stringRecordAt, typedPrimitiveAt, referenceAt, nullsAt, longNullsAt, libraryAt, classAt, classByIdAt, slotArrayAt, primitiveArrayAt, binaryArrayAt, headingAt}
-use Rattle.kinds.specs.Kinds.{Hollow}
+use Rattle.kinds.specs.Kinds.{isBrief, brief-none, Hollow}
 use Rattle.records.specs.Stages.{namedAt, onJudged, reference-parts, string-parts}
 
 -- a kind that the definition does not name
 abbrev pub NoneOf : ℕ → Type 0
 NoneOf k =
-    (((((((((((((((Unit {0} × (k ≡ 0 → ⊥)) × (k ≡ 1 → ⊥)) × (k ≡ 4 → ⊥)) × (k ≡ 5 → ⊥)) × (k ≡ 6 → ⊥)) × (k ≡ 7 → ⊥)) × (k ≡ 8 → ⊥)) ×
-    (k ≡ 9 → ⊥)) × (k ≡ 10 → ⊥)) × (k ≡ 11 → ⊥)) × (k ≡ 12 → ⊥)) × (k ≡ 13 → ⊥)) × (k ≡ 14 → ⊥)) × (k ≡ 15 → ⊥)) × (k ≡ 16 → ⊥))
+    (((((((((((Unit {0} × (k ≡ 0 → ⊥)) × (k ≡ 1 → ⊥)) × (k ≡ 4 → ⊥)) × (k ≡ 5 → ⊥)) × (k ≡ 7 → ⊥)) × (k ≡ 11 → ⊥)) × (k ≡ 12 → ⊥)) × (k ≡ 13 → ⊥)) × (k ≡ 14 → ⊥)) × (k ≡ 15 → ⊥)) × (k ≡ 16 → ⊥))
 
 module _ (s : List ℕ) (rows : List Row) (k at : ℕ) where
   pub header-heading : k ≡ 0 → headingAt s rows k at ≡ headerAt s at
@@ -91,19 +90,20 @@ module _ (s : List ℕ) (rows : List Row) (k at : ℕ) where
   objects-heading h = rw h
 
   -- 17, and what never stands here
-  pub strings-heading : NoneOf k → headingAt s rows k at ≡ slotArrayAt s rows S.Text at
+  pub strings-heading : NoneOf k → isBrief k ≡ false → headingAt s rows k at ≡ slotArrayAt s rows S.Text at
   unfolding headingAt
-  strings-heading r =
+  strings-heading r b =
+      let n = brief-none k b in
       rw (
-        ne-eqb k 0 (r .0 .0 .0 .0 .0 .0 .0 .0 .0 .0 .0 .0 .0 .0 .1),
-        ne-eqb k 1 (r .0 .0 .0 .0 .0 .0 .0 .0 .0 .0 .0 .0 .0 .1),
-        ne-eqb k 4 (r .0 .0 .0 .0 .0 .0 .0 .0 .0 .0 .0 .0 .1),
-        ne-eqb k 5 (r .0 .0 .0 .0 .0 .0 .0 .0 .0 .0 .0 .1),
-        ne-eqb k 6 (r .0 .0 .0 .0 .0 .0 .0 .0 .0 .0 .1),
-        ne-eqb k 7 (r .0 .0 .0 .0 .0 .0 .0 .0 .0 .1),
-        ne-eqb k 8 (r .0 .0 .0 .0 .0 .0 .0 .0 .1),
-        ne-eqb k 9 (r .0 .0 .0 .0 .0 .0 .0 .1),
-        ne-eqb k 10 (r .0 .0 .0 .0 .0 .0 .1),
+        ne-eqb k 0 (r .0 .0 .0 .0 .0 .0 .0 .0 .0 .0 .1),
+        ne-eqb k 1 (r .0 .0 .0 .0 .0 .0 .0 .0 .0 .1),
+        ne-eqb k 4 (r .0 .0 .0 .0 .0 .0 .0 .0 .1),
+        ne-eqb k 5 (r .0 .0 .0 .0 .0 .0 .0 .1),
+        n .0,
+        ne-eqb k 7 (r .0 .0 .0 .0 .0 .0 .1),
+        n .1 .0,
+        n .1 .1 .0,
+        n .1 .1 .1,
         ne-eqb k 11 (r .0 .0 .0 .0 .0 .1),
         ne-eqb k 12 (r .0 .0 .0 .0 .1),
         ne-eqb k 13 (r .0 .0 .0 .1),

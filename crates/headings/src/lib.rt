@@ -3,7 +3,7 @@ use format::Heading;
 use format::SlotType;
 ghost use Prim.Native.Nat.{_≤_, _<_};
 ghost use mathlib.Core.Path.{_≡_};
-ghost use mathlib.Core.Bool.{true};
+ghost use mathlib.Core.Bool.{true, false};
 ghost use lib.ListN.{length};
 ghost use Rattle.format.specs.Rows.{roomOf, rowsOf};
 ghost use Rattle.format.specs.Records.{headingAt};
@@ -11,10 +11,10 @@ ghost use Rattle.kinds.specs.Kinds.{isBrief, Hollow};
 
 // ---- all kinds
 
-// The fields of a record of a kind that is taken; each function has the name and section of its record in MS-NRBF. 10, ObjectNull (2.5.4), and 11,
-// MessageEnd (2.6.3), have none.
+// The fields of a record of a kind that is taken and not brief; each function has the name and section of its record in MS-NRBF. 11, MessageEnd
+// (2.6.3), has none.
 pub fn heading_at(s: &[u8], table: &[u32], n: usize, k: u8, at: usize) -> Heading
-    requires { ⌜ (n ≤ roomOf (now table)) × (length (now s) ≤ 16777216) × (n ≤ 16777216) × (at < length (now s)) ⌝ }
+    requires { ⌜ (n ≤ roomOf (now table)) × (length (now s) ≤ 16777216) × (n ≤ 16777216) × (at < length (now s)) × (isBrief k ≡ false) ⌝ }
     ensures { λ r. ⌜ r ≡ headingAt (now (s .entry)) (rowsOf n (now (table .entry))) k at ⌝ }
 {
     match k {
@@ -28,11 +28,7 @@ pub fn heading_at(s: &[u8], table: &[u32], n: usize, k: u8, at: usize) -> Headin
             let h = classes::class_at(s, table, n, true, at);
             h
         }
-        6 => records::string_record_at(s, table, n, at),
         7 => binary_arrays::binary_array_at(s, table, n, at),
-        8 => records::typed_primitive_at(s, at),
-        9 => records::reference_at(s, at),
-        10 => arrays::plain_head(0, at + 1, 1),
         11 => arrays::plain_head(0, at + 1, 0),
         12 => records::library_at(s, table, n, at),
         13 => records::nulls_at(s, at),

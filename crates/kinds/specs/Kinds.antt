@@ -1,6 +1,6 @@
 -- What a kind byte says where it stands: one law for each answer, and what a kind that is taken says.
 use Prim.Native.Nat.{ℕ, _≤_, _<_}
-use mathlib.Core.Path.{_≡_, refl, sym, subst, _∙_}
+use mathlib.Core.Path.{_≡_, refl, sym, ap, subst, _∙_}
 use mathlib.Core.Bool.{Bool, true, false, _||_}
 use mathlib.Core.List.{List}
 use native.Mathlib.Omega.{arith}
@@ -26,6 +26,18 @@ isBrief k = eqb k 6 || (eqb k 8 || (eqb k 9 || eqb k 10))
 pub brief-null : (k : ℕ) → isBrief k ≡ true → (k ≡ 6 → ⊥) → (k ≡ 8 → ⊥) → (k ≡ 9 → ⊥) → k ≡ 10
 brief-null k e six eight nine =
     let a : isBrief k ≡ eqb k 10 = rw (ne-eqb k 6 six, ne-eqb k 8 eight, ne-eqb k 9 nine) in eqb-true k 10 (sym a ∙ e)
+
+-- a kind that is not brief is none of them
+pub brief-none : (k : ℕ) → isBrief k ≡ false → (eqb k 6 ≡ false) × ((eqb k 8 ≡ false) × ((eqb k 9 ≡ false) × (eqb k 10 ≡ false)))
+brief-none k e =
+    let a = neither (eqb k 6) (eqb k 8 || (eqb k 9 || eqb k 10)) e in
+    let b = neither (eqb k 8) (eqb k 9 || eqb k 10) (a .1) in
+    let c = neither (eqb k 9) (eqb k 10) (b .1) in
+    (a .0, (b .0, (c .0, c .1)))
+  where
+    neither : (p q : Bool) → (p || q) ≡ false → (p ≡ false) × (q ≡ false)
+    neither true q e = (e, absurd (let z : _≡_ {A = ℕ} 0 1 = cc in omega arith))
+    neither false q e = (refl, e)
 
 -- the fields of a record without slots of its own
 abbrev pub Hollow : Heading → Type 0
@@ -144,3 +156,8 @@ module _ (s : List ℕ) (w : Where) (at k : ℕ) (q : kindAt s w at ≡ K.Taken 
 
   pub kind-byte : Stands w (getD s at 0) k
   kind-byte = kind-stands w (getD s at 0) k (sym (kind-there s w at kind-within) ∙ q)
+
+-- the header's kind is not brief
+pub header-long : (s : List ℕ) (at k : ℕ) → kindAt s W.Start at ≡ K.Taken k → isBrief k ≡ false
+unfolding allowed
+header-long s at k q = ap isBrief (eqb-true k 0 (kind-byte s W.Start at k q .fits))

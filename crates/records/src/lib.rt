@@ -93,7 +93,7 @@ pub fn typed_primitive_at(s: &[u8], at: usize) -> Heading
     match codes::code_at(s, at + 1) {
         Field::End(p) => {
             let code = codes::coded_of(codes::primitive_of(codes::byte_at(s, at + 1)));
-            match values::value_at(s, code, p) {
+            match values::value_soon(s, code, p) {
                 Field::End(end) => arrays::plain_head(0, end, 0),
                 Field::Fault(f) => Heading::Bad(f),
             }

@@ -6,6 +6,7 @@ use format::Reader;
 use format::SlotType;
 use format::Where;
 ghost use mathlib.Core.Path.{_≡_};
+ghost use mathlib.Core.Bool.{false};
 ghost use mathlib.Core.List.{List};
 ghost use Prim.Native.Nat.{ℕ, _≤_, _<_};
 ghost use lib.ListN.{length};
@@ -13,6 +14,7 @@ ghost use Rattle.format.specs.Rows.{roomOf, rowsOf};
 ghost use Rattle.format.specs.Records.{headingAt};
 ghost use Rattle.format.specs.declared.Where.the-variants as W;
 ghost use Rattle.format.specs.Machine.{act, recordStep, whereIn, step};
+ghost use Rattle.kinds.specs.Kinds.{isBrief};
 ghost use Rattle.frames.specs.Frames.{saved};
 ghost use Rattle.adding.specs.Held.{stateOf, after, Held};
 ghost use Rattle.turns.specs.Due.{dueOf};
@@ -48,7 +50,7 @@ fn where_in(depth: usize, w: Where) -> Where
     w
 }
 
-// The record of a kind that is taken, whatever it does.
+// The record of a kind that is taken and not brief, whatever it does.
 fn long_step(
     s: &[u8],
     table: &mut [u32],
@@ -56,7 +58,7 @@ fn long_step(
     m: Reader,
     kind: u8,
 ) -> Step
-    requires { ⌜ Held (roomOf (now table)) m × (m .at < length (now s)) × (length (now frames) ≡ 384) × (length (now s) ≤ 16777216) ⌝ }
+    requires { ⌜ Held (roomOf (now table)) m × (m .at < length (now s)) × (length (now frames) ≡ 384) × (length (now s) ≤ 16777216) × (isBrief kind ≡ false) ⌝ }
     ensures { λ q. ⌜ (after (now (table .exit)) (now (frames .exit)) q
         ≡ act (now (s .entry)) (roomOf (now (table .entry))) (stateOf (now (table .entry)) (now (frames .entry)) m) kind
         (headingAt (now (s .entry)) (rowsOf (m .rows) (now (table .entry))) kind (m .at)))

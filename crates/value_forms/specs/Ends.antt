@@ -1,6 +1,6 @@
 -- Primitive values at a place: one law for each answer.
 use Prim.Native.Nat.{ℕ, _+_, _-_, _*_, _/_, _%_, _≤_, _<_}
-use mathlib.Core.Path.{_≡_, sym, _∙_}
+use mathlib.Core.Path.{_≡_, refl, sym, ap, _∙_}
 use mathlib.Core.Bool.{true, false}
 use mathlib.Core.List.{List}
 use native.Mathlib.Omega.{arith}
@@ -98,6 +98,30 @@ module _ (s : List ℕ) (p : ℕ) where
     pub date-end : x / 4611686018427387904 < 3 → x % 4611686018427387904 < 2305843009213693952 → dateTimeAt s p ≡ F.End e
     unfolding dateTimeAt
     date-end k t = rw h (simp lt-ltb)
+
+-- ---- values of a fixed size
+
+-- a value of a code that has a size is so many bytes, whatever they are
+value-bytes : (s : List ℕ) (code : PrimitiveCode) (p : ℕ) → (sizeOf code ≡ 0 → ⊥) → bytesAt s p (sizeOf code) ≡ valueAt s code p
+unfolding valueAt
+value-bytes s C.Boolean p h = absurd (h (omega arith))
+value-bytes s C.Byte p h = refl
+value-bytes s C.Char p h = absurd (h (omega arith))
+value-bytes s C.Decimal p h = absurd (h (omega arith))
+value-bytes s C.Double p h = refl
+value-bytes s C.Int16 p h = refl
+value-bytes s C.Int32 p h = refl
+value-bytes s C.Int64 p h = refl
+value-bytes s C.SByte p h = refl
+value-bytes s C.Single p h = refl
+value-bytes s C.TimeSpan p h = refl
+value-bytes s C.DateTime p h = absurd (h (omega arith))
+value-bytes s C.UInt16 p h = refl
+value-bytes s C.UInt32 p h = refl
+value-bytes s C.UInt64 p h = refl
+
+pub value-sized : (s : List ℕ) (code : PrimitiveCode) (p size : ℕ) → size ≡ sizeOf code → (size ≡ 0 → ⊥) → bytesAt s p size ≡ valueAt s code p
+value-sized s code p size e h = ap (bytesAt s p) e ∙ value-bytes s code p (λ z. h (e ∙ z))
 
 -- ---- items
 

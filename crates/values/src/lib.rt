@@ -49,3 +49,15 @@ pub fn value_at(s: &[u8], code: PrimitiveCode, at: usize) -> Field
         PrimitiveCode::UInt64 => value_forms::bytes_at(s, at, 8),
     }
 }
+
+// The same value on the short way: one of a code that has a size is one comparison, and the others have a result of their own.
+pub fn value_soon(s: &[u8], code: PrimitiveCode, at: usize) -> Field
+    ensures { λ r. ⌜ r ≡ valueAt (now (s .entry)) code at ⌝ }
+{
+    let size = size_of(code);
+    if size != 0 {
+        return value_forms::bytes_at(s, at, size);
+    }
+    let q = value_at(s, code, at);
+    q
+}

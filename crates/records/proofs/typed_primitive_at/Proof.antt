@@ -22,6 +22,6 @@ typed-primitive-at-spec =
     (λ c κs. search needs)
     (λ c. search needs)
     (λ c. search needs)
-    (λ c. c .plain-head .ensures ∙ sym (value-end _ _ _ (sym (c .before .before .before .before .before .before .before .before .before .before .before .code-at .ensures) ∙ c .before .before .before .before .before .before .before .before .before .p .given .1) _ (c .before .before .before .before .before .coded-of .ensures ∙ ap coded (c .before .before .before .before .before .before .primitive-of .ensures ∙ ap primitiveOf (c .before .before .before .before .before .before .before .byte-at .ensures))) _ (sym (c .before .before .before .before .value-at .ensures) ∙ c .before .before .end .given .1)))
-    (λ c. sym (value-bad _ _ _ (sym (c .before .before .before .before .before .before .before .before .before .before .code-at .ensures) ∙ c .before .before .before .before .before .before .before .before .p .given .1) _ (c .before .before .before .before .coded-of .ensures ∙ ap coded (c .before .before .before .before .before .primitive-of .ensures ∙ ap primitiveOf (c .before .before .before .before .before .before .byte-at .ensures))) _ (sym (c .before .before .before .value-at .ensures) ∙ c .before .f .given .1)))
+    (λ c. c .plain-head .ensures ∙ sym (value-end _ _ _ (sym (c .before .before .before .before .before .before .before .before .before .before .before .code-at .ensures) ∙ c .before .before .before .before .before .before .before .before .before .p .given .1) _ (c .before .before .before .before .before .coded-of .ensures ∙ ap coded (c .before .before .before .before .before .before .primitive-of .ensures ∙ ap primitiveOf (c .before .before .before .before .before .before .before .byte-at .ensures))) _ (sym (c .before .before .before .before .value-soon .ensures) ∙ c .before .before .end .given .1)))
+    (λ c. sym (value-bad _ _ _ (sym (c .before .before .before .before .before .before .before .before .before .before .code-at .ensures) ∙ c .before .before .before .before .before .before .before .before .p .given .1) _ (c .before .before .before .before .coded-of .ensures ∙ ap coded (c .before .before .before .before .before .primitive-of .ensures ∙ ap primitiveOf (c .before .before .before .before .before .before .byte-at .ensures))) _ (sym (c .before .before .before .value-soon .ensures) ∙ c .before .f .given .1)))
     (λ c. sym (code-bad _ _ _ (sym (c .before .before .before .code-at .ensures) ∙ c .before .f2 .given .1))))

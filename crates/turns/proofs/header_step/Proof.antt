@@ -3,7 +3,7 @@ use mathlib.Core.Path.{refl, sym, _∙_}
 use Rattle.format.specs.declared.Where.the-variants as W
 use Rattle.format.specs.Rows.{roomOf}
 use Rattle.adding.specs.Held.{stateOf}
-use Rattle.kinds.specs.Kinds.{kind-within}
+use Rattle.kinds.specs.Kinds.{kind-within, header-long}
 use Rattle.turns.specs.Records.{record-on, record-off}
 use borrow.Author.Needs.{needs}
 use Rattle.turns.proofs.header_step.Statement.{statement}
@@ -18,7 +18,8 @@ header-step-spec =
     (λ c κs.
     let a = c .before .before .before .before .before .before .before .before .args in
     let p = c .before .before .before .before .before .before .before .before .pre in
-    (p .0, kind-within (a .s .now) W.Start (a .m .at) _ (sym (c .before .before .before .before .before .kind-at .ensures) ∙ c .before .before .before .k .given .1), p .1, p .2))
+    let q = sym (c .before .before .before .before .before .kind-at .ensures) ∙ c .before .before .before .k .given .1 in
+    (p .0, kind-within (a .s .now) W.Start (a .m .at) _ q, p .1, p .2, header-long (a .s .now) (a .m .at) _ q))
     (λ c. search needs)
     (λ c. search needs)
     (λ c.

@@ -36,7 +36,7 @@ record-step-spec =
     (λ c κs.
     let a = c .before .before .before .before .before .before .before .before .before .before .args in
     let p = c .before .before .before .before .before .before .before .before .before .before .pre in
-    (p .0, kind-within (a .s .now) (a .w) (a .m .at) _ (sym (c .before .before .before .before .before .before .before .kind-at .ensures) ∙ c .before .before .before .before .before .k .given .1), p .1, p .2))
+    (p .0, kind-within (a .s .now) (a .w) (a .m .at) _ (sym (c .before .before .before .before .before .before .before .kind-at .ensures) ∙ c .before .before .before .before .before .k .given .1), p .1, p .2, sym (c .before .before .before .is-brief .ensures) ∙ c .before .before .if1 .left))
     (λ c. search needs)
     (λ c. search needs)
     (λ c.
