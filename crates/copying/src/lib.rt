@@ -5,11 +5,13 @@ use format::Row;
 use format::TidyAnswer;
 use pieces::Gathered;
 ghost use mathlib.Core.Path.{_≡_};
+ghost use mathlib.Core.List.{_++_};
 ghost use Prim.Native.Nat.{_≤_, _<_};
 ghost use lib.ListN.{length};
 ghost use Rattle.format.specs.Rows.{rowsOf, roomOf};
 ghost use Rattle.format.specs.Says.{isNulls};
 ghost use Rattle.format.specs.Tidy.{answerBy, outBy};
+ghost use Rattle.put.specs.Out.{between, runOut};
 ghost use Rattle.put.specs.Put.{Filled};
 ghost use Rattle.copying.specs.Laws.{isMore};
 ghost use Rattle.pieces.specs.Copy.{isPassed, beforeOut, runAfter, rowOut, copyOf};
@@ -110,6 +112,16 @@ fn put_row(
     put::add_up(a, b)
 }
 
+// Nulls that wait, and after them the records that are kept from place `begin` to place `end`.
+fn put_stretch(out: &mut [u8], s: &[u8], nulls: usize, begin: u32, end: u32) -> usize
+    ensures { λ q. ⌜ Filled (runOut nulls ++ between (now (s .entry)) begin end) (now (out .entry)) (now (out .exit)) q ⌝ }
+{
+    let a = heads::put_run(out, nulls);
+    let from = put::least(a, out.len());
+    let b = put::put_part(&mut out[from..], s, begin as usize, end as usize);
+    put::add_up(a, b)
+}
+
 // The whole copy at the front of `out`, and its length; over an empty part, the length alone.
 fn copy_all(out: &mut [u8], s: &[u8], table: &[u32], n: usize) -> usize
     requires { ⌜ (n ≤ roomOf (now table)) × (n ≤ 16777216) ⌝ }
@@ -131,6 +143,14 @@ fn copy_all(out: &mut [u8], s: &[u8], table: &[u32], n: usize) -> usize
         }
         let r = table::row_at(table, n, i);
         let from = put::least(at, out.len());
+        let kept = stretches::stretch_from(table, n, i, r.offset);
+        if i < kept.next {
+            let c = put_stretch(&mut out[from..], s, w.count, r.offset, kept.end);
+            at = put::add_up(at, c);
+            w = Gathered { owner: 0, count: 0 };
+            i = kept.next;
+            continue;
+        }
         let b = put_row(&mut out[from..], s, table, n, i, w, r);
         at = put::add_up(at, b);
         w = run_after(w, r);
