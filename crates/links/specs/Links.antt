@@ -1,25 +1,35 @@
 -- The pass that puts in the links, in place: a lookup does not see a link, so rows that have theirs do not disturb it.
 use mathlib.Core.Path.{_≡_, refl, sym, _∙_}
 use mathlib.Core.List.{List, [], _∷_, _++_, append-nil, append-assoc, map, map-append}
-use mathlib.Core.Bool.{false}
-use Prim.Native.Nat.{ℕ, zero, suc, _+_, _<_}
+use mathlib.Core.Bool.{Bool, true, false, _&&_, _||_}
+use Prim.Native.Nat.{ℕ, zero, suc, _+_, _-_, _≤_, _<_}
 use native.Mathlib.Omega.{arith}
 use native.Mathlib.Numerals.{add-one}
 use borrow.Author.Tests.{ne-eqb}
 use lib.Dec.{eqb}
 use lib.ListN.{length, getD, take, drop, set, length-map, take-append-drop}
-use lib.Seq.{take-length, drop-length, take-suc, drop-cons, set-at, getD-at, length-take-le}
+use lib.Seq.{set-getD, take-length, drop-length, take-suc, drop-cons, set-at, getD-at, length-take-le}
 use Rattle.format.specs.declared.Row.{Row}
+use Rattle.format.specs.Bytes.{pick}
 use Rattle.format.specs.Rows.{blank, rowsOf, isObject, findFrom, objectRow, withLink, linkOf, linked, isLost}
 use Rattle.table.specs.Rows.{length-rowsOf}
-use Rattle.lookups.specs.Find.{named}
+use Rattle.lookups.specs.Find.{named, Scan, scan-end, scan-hit}
 
 -- ---- one row
 
-module _ (rows : List Row) (r row : Row) (e : r ≡ row) where
-  pub lost-not : (r .kind ≡ 9 → ⊥) → false ≡ isLost rows row
-  lost-not k = rw (← e, ne-eqb (r .kind) 9 k)
+-- a row of this kind and link is a reference with no target
+unfoldable pub lostBy : ℕ → ℕ → Bool
+lostBy kind link = eqb kind 9 && eqb link 0
 
+pub lost-not : (kind link : ℕ) → (kind ≡ 9 → ⊥) → false ≡ lostBy kind link
+unfolding lostBy
+lost-not kind link k = rw (ne-eqb kind 9 k)
+
+pub lost-by : (kind link : ℕ) → kind ≡ 9 → eqb link 0 ≡ lostBy kind link
+unfolding lostBy
+lost-by kind link k = rw k
+
+module _ (rows : List Row) (r row : Row) (e : r ≡ row) where
   pub lost-if : (f : ℕ) → r .kind ≡ 9 → f ≡ objectRow (r .id) rows → eqb f 0 ≡ isLost rows row
   lost-if f k q = rw (← e, k, q)
 
@@ -55,11 +65,6 @@ half-none rows = refl
 half-all : (rows : List Row) → half (length rows) rows ≡ linked rows
 unfolding half linked
 half-all rows = rw (take-length, drop-length, append-nil)
-
-pub half-end : (n i : ℕ) (t : List ℕ) → i ≡ n → half i (rowsOf n t) ≡ linked (rowsOf n t)
-half-end n i t e =
-    let q : i ≡ length (rowsOf n t) = e ∙ sym (length-rowsOf n t) in
-    rw q (half-all (rowsOf n t))
 
 find-map : (id k : ℕ) (rows xs ys : List Row)
     → findFrom (named isObject id) k (map (withOwn rows) xs ++ ys) ≡ findFrom (named isObject id) k (xs ++ ys)
@@ -99,14 +104,63 @@ module _ (rows : List Row) (i : ℕ) (h : i < length rows) where
       rw half-split (set-at (map (withOwn rows) (take i rows)) (getD rows i blank) (drop (suc i) rows) (withOwn rows (getD rows i blank)) i front) in
       rw (add-one, q) e
 
--- row i of xs gets its link
-pub half-step : (n i v : ℕ) (t : List ℕ) (xs ys : List Row) → i < n → xs ≡ half i (rowsOf n t) → v ≡ linkOf xs (getD xs i blank)
-    → ys ≡ set xs i (withLink (getD xs i blank) v) → ys ≡ half (i + 1) (rowsOf n t)
-half-step n i v t xs ys h e f g =
-    let l : length (rowsOf n t) ≡ n = length-rowsOf n t in
-    let a : getD xs i blank ≡ getD (rowsOf n t) i blank = rw e (half-at (rowsOf n t) i (omega arith)) in
-    let q : v ≡ linkOf (rowsOf n t) (getD (rowsOf n t) i blank) = f ∙ rw (a, e) (link-half i (rowsOf n t) (getD (rowsOf n t) i blank)) in
-    g ∙ rw (a, q, e) (sym (half-next (rowsOf n t) i (omega arith)))
+-- a link that is there already
+pub link-there : (xs : List Row) (i v : ℕ) (r : Row) → r ≡ getD xs i blank → r .link ≡ v → xs ≡ set xs i (withLink (getD xs i blank) v)
+link-there xs i v r e k =
+    let a : withLink (getD xs i blank) v ≡ getD xs i blank = rw (← e, ← k) in
+    rw a (sym (set-getD xs i blank))
+
+-- v is the link of r, which is row i of xs, and the rows before it have theirs
+module _ (n i v : ℕ) (t : List ℕ) (xs : List Row) (r : Row) (h : i < n) (e : xs ≡ half i (rowsOf n t)) (x : r ≡ getD xs i blank) (f : v ≡ linkOf xs r) where
+  pub this-row : r ≡ getD (rowsOf n t) i blank
+  this-row =
+      let l : length (rowsOf n t) ≡ n = length-rowsOf n t in
+      x ∙ rw e (half-at (rowsOf n t) i (omega arith))
+
+  own-link : v ≡ linkOf (rowsOf n t) r
+  own-link = f ∙ rw e (link-half i (rowsOf n t) r)
+
+  pub lost-told : lostBy (r .kind) v ≡ isLost (rowsOf n t) r
+  unfolding linkOf lostBy
+  lost-told = rw own-link (go (eqb (r .kind) 9) (eqb (r .kind) 0))
+    where
+      go : (a b : Bool) → (a && eqb (pick (a || b) (objectRow (r .id) (rowsOf n t)) (pick (eqb (r .kind) 1) (r .link) 0)) 0) ≡ (a && eqb (objectRow (r .id) (rowsOf n t)) 0)
+      go true b = refl
+      go false b = refl
+
+  -- the row gets its link
+  pub half-step : (ys : List Row) → ys ≡ set xs i (withLink (getD xs i blank) v) → ys ≡ half (i + 1) (rowsOf n t)
+  half-step ys g =
+      let l : length (rowsOf n t) ≡ n = length-rowsOf n t in
+      let a : getD xs i blank ≡ getD (rowsOf n t) i blank = sym x ∙ this-row in
+      let q : v ≡ linkOf (rowsOf n t) (getD (rowsOf n t) i blank) = rw this-row at own-link in
+      g ∙ rw (a, q, e) (sym (half-next (rowsOf n t) i (omega arith)))
+
+-- what the pass leaves and answers: all rows with their links and 0, or the number of the first lost reference's row plus 1
+pub record Linking (rows after : List Row) (q : ℕ) : Type 0 where
+  pub first : q ≡ findFrom (isLost rows) 0 rows
+  pub all : q ≡ 0 → after ≡ linked rows
+  pub there : (q ≡ 0 → ⊥) → getD after (q - 1) blank ≡ getD rows (q - 1) blank
+
+module _ (n : ℕ) (t : List ℕ) (xs : List Row) (i : ℕ) (e : xs ≡ half i (rowsOf n t)) (k : Scan (isLost (rowsOf n t)) n t i) where
+  pub all-linked : n ≤ i → Linking (rowsOf n t) xs 0
+  all-linked h =
+      let l : i ≡ length (rowsOf n t) = omega (arith, length-rowsOf n t, k .0) in
+      record {
+        first = scan-end (isLost (rowsOf n t)) n t i k h;
+        all = λ z. e ∙ rw l (half-all (rowsOf n t));
+        there = λ z. absurd (z refl);
+      }
+
+  pub one-lost : (q : Bool) (r : Row) → i < n → r ≡ getD (rowsOf n t) i blank → q ≡ isLost (rowsOf n t) r → q ≡ true → Linking (rowsOf n t) xs (i + 1)
+  one-lost q r h x y z =
+      let l = length-rowsOf n t in
+      let o : i + 1 - 1 ≡ i = omega arith in
+      record {
+        first = scan-hit (isLost (rowsOf n t)) n t i k h r x q y z;
+        all = λ w. absurd (omega arith);
+        there = λ w. rw (o, e) (half-at (rowsOf n t) i (omega arith));
+      }
 
 -- ---- the rows with their links
 

@@ -1,45 +1,19 @@
 // The links of references: every reference gets the row that it names, wherever that row stands, and so does the header.
 use format::ObjectNo;
+use format::Row;
 ghost use mathlib.Core.Path.{_≡_};
-ghost use Prim.Native.Nat.{_+_, _-_, _≤_, _<_};
-ghost use lib.ListN.{getD};
-ghost use Rattle.format.specs.Rows.{blank, roomOf, rowsOf, findFrom, linkOf, linked, isLost};
+ghost use Prim.Native.Nat.{_≤_, _<_};
+ghost use lib.ListN.{getD, set};
+ghost use Rattle.format.specs.Rows.{blank, roomOf, rowsOf, withLink, linkOf};
+ghost use Rattle.links.specs.Links.{lostBy, Linking};
 
-// ---- links
+// ---- one row
 
-// Whether row i is a reference with no target.
-fn is_lost(table: &[u32], n: usize, i: usize) -> bool
-    requires { ⌜ (i < n) × (n ≤ roomOf (now table)) ⌝ }
-    ensures { λ r. ⌜ r ≡ isLost (rowsOf n (now (table .entry))) (getD (rowsOf n (now (table .entry))) i blank) ⌝ }
+// The link of row r. It is a row number plus 1, which has to fit a word.
+fn link_of(table: &[u32], n: usize, r: Row) -> u32
+    requires { ⌜ (n ≤ roomOf (now table)) × (n < 4294967296) ⌝ }
+    ensures { λ q. ⌜ q ≡ linkOf (rowsOf n (now (table .entry))) r ⌝ }
 {
-    let r = table::row_at(table, n, i);
-    if r.kind != 9 {
-        return false;
-    }
-    lookups::find_object(table, n, ObjectNo(r.id)) == 0
-}
-
-// The first reference with no target: the number of its row plus 1; 0 if there is none.
-pub fn first_lost(table: &[u32], n: usize) -> usize
-    requires { ⌜ n ≤ roomOf (now table) ⌝ }
-    ensures { λ r. ⌜ r ≡ findFrom (isLost (rowsOf n (now (table .entry)))) 0 (rowsOf n (now (table .entry))) ⌝ }
-{
-    let mut i: usize = 0;
-    while i < n {
-        if is_lost(table, n, i) {
-            return i + 1;
-        }
-        i += 1;
-    }
-    0
-}
-
-// The link of row i. It is a row number plus 1, which has to fit a word.
-fn link_of(table: &[u32], n: usize, i: usize) -> u32
-    requires { ⌜ (i < n) × (n ≤ roomOf (now table)) × (n < 4294967296) ⌝ }
-    ensures { λ r. ⌜ r ≡ linkOf (rowsOf n (now (table .entry))) (getD (rowsOf n (now (table .entry))) i blank) ⌝ }
-{
-    let r = table::row_at(table, n, i);
     let kind = r.kind;
     match kind {
         9 => lookups::find_object(table, n, ObjectNo(r.id)) as u32,
@@ -49,15 +23,44 @@ fn link_of(table: &[u32], n: usize, i: usize) -> u32
     }
 }
 
-// Each of the first n rows gets its link.
-pub fn link_all(table: &mut [u32], n: usize)
+// Whether a row of this kind and link is a reference with no target.
+fn is_lost(kind: u32, link: u32) -> bool
+    ensures { λ q. ⌜ q ≡ lostBy kind link ⌝ }
+{
+    if kind != 9 {
+        return false;
+    }
+    link == 0
+}
+
+// Row i of the first n has this link. Where it is there already nothing is written.
+fn put_link(table: &mut [u32], n: usize, i: usize, link: u32)
+    requires { ⌜ (i < n) × (n ≤ roomOf (now table)) ⌝ }
+    ensures { λ _. ⌜ rowsOf n (now (table .exit)) ≡ set (rowsOf n (now (table .entry))) i
+        (withLink (getD (rowsOf n (now (table .entry))) i blank) link) ⌝ }
+{
+    let r = table::row_at(table, n, i);
+    if r.link != link {
+        table::set_link(table, n, i, link);
+    }
+}
+
+// ---- all rows
+
+// Each of the first n rows gets its link, up to the first reference with no target: the number of its row plus 1; 0 if there is none.
+pub fn link_all(table: &mut [u32], n: usize) -> usize
     requires { ⌜ (n ≤ roomOf (now table)) × (n < 4294967296) ⌝ }
-    ensures { λ _. ⌜ rowsOf n (now (table .exit)) ≡ linked (rowsOf n (now (table .entry))) ⌝ }
+    ensures { λ q. ⌜ Linking (rowsOf n (now (table .entry))) (rowsOf n (now (table .exit))) q ⌝ }
 {
     let mut i: usize = 0;
     while i < n {
-        let v = link_of(table, n, i);
-        table::set_link(table, n, i, v);
+        let r = table::row_at(table, n, i);
+        let link = link_of(table, n, r);
+        if is_lost(r.kind, link) {
+            return i + 1;
+        }
+        put_link(table, n, i, link);
         i += 1;
     }
+    0
 }

@@ -28,12 +28,11 @@ fn finish_rows(s: &[u8], table: &mut [u32], rows: usize, at: usize) -> ReadAnswe
     if root == 0 {
         return ReadAnswer::Refused(Refusal::NoRoot, 0);
     }
-    let lost = links::first_lost(table, rows);
+    let lost = links::link_all(table, rows);
     if lost != 0 {
         let r = table::row_at(table, rows, lost - 1);
         return ReadAnswer::Refused(Refusal::NoObject, r.offset as usize);
     }
-    links::link_all(table, rows);
     ReadAnswer::Accepted(rows)
 }
 

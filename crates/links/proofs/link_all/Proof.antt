@@ -1,15 +1,17 @@
--- Invariant: the rows before i have their links, and the slice its length. Measure: the rows left.
-use mathlib.Core.Path.{_≡_, refl, _∙_}
-use Prim.Native.Nat.{_≤_, _-_}
+-- Invariant: the rows before i have their links, none of them is lost, and the slice has its length. Measure: the rows left.
+use mathlib.Core.Path.{_≡_, refl, sym, _∙_}
+use Prim.Native.Nat.{_-_}
 use native.Mathlib.Omega.{arith}
 use lib.ListN.{length}
-use Rattle.format.specs.Rows.{rowsOf}
-use Rattle.links.specs.Links.{half, half-none, half-step, half-end}
+use Rattle.format.specs.Rows.{rowsOf, isLost}
+use Rattle.lookups.specs.Find.{Scan, scan-start, scan-miss}
+use Rattle.links.specs.Links.{half, half-none, this-row, lost-told, half-step, all-linked, one-lost}
+use borrow.Author.Needs.{needs}
 use Rattle.links.proofs.link_all.Statement.{statement}
 use Rattle.links.proofs.link_all.Tie as tie
 
 abbrev Inv-loop : tie.InvT-loop
-Inv-loop table₀ n i₀ table i = (i ≤ n) × (length table ≡ length table₀) × (rowsOf n table ≡ half i (rowsOf n table₀))
+Inv-loop table₀ n i₀ table i = Scan (isLost (rowsOf n table₀)) n table₀ i × (length table ≡ length table₀) × (rowsOf n table ≡ half i (rowsOf n table₀))
 
 abbrev μ-loop : tie.MeasureT-loop
 μ-loop table₀ n i₀ table i = n - i
@@ -20,20 +22,33 @@ link-all-spec =
     (tie.spec
     Inv-loop
     μ-loop
-    (λ c. (omega arith, refl, half-none _))
+    (λ c. (scan-start _ _ _, refl, half-none _))
     (λ c κs. omega arith)
+    (λ c κs. (omega arith, omega arith))
+    (λ c κs. search needs)
+    (λ c. omega arith)
+    (λ c. c .before .before .before .before .before .before .before .loop .inv .1)
+    (λ c.
+    let a = c .before .before .before .before .before .before .before .before .before .args in
+    let v = c .before .before .before .before .before .before .before .loop in
+    let h = c .before .before .before .before .before .before .loop-test .taken in
+    let x = c .before .before .before .before .row-at .ensures in
+    let f = c .before .before .link-of .ensures in
+    let r = this-row (a .n) (v .i) _ (a .table .now) _ _ h (v .inv .2) x f in
+    one-lost (a .n) (a .table .now) _ (v .i) (v .inv .2) (v .inv .0) _ _ h r (c .before .is-lost .ensures ∙ lost-told (a .n) (v .i) _ (a .table .now) _ _ h (v .inv .2) x f) (c .if1 .taken))
     (λ c κs. omega arith)
     (λ c. omega arith)
     (λ c. omega arith)
     (λ c.
-    let s = c .before .before in
-    let l = s .before .before in
-    let t = l .before .before in
-    let v = t .before .loop in
-    let a = t .before .before .before .args in (
-      omega arith,
-      s .set-link .kept .0 ∙ v .inv .1,
-      half-step (a .n) (v .i) (l .link-of .result) (a .table .now) (rowsOf (a .n) (v .table)) _ (t .loop-test .taken) (v .inv .2) (l .link-of .ensures) (s .set-link .ensures),
+    let a = c .before .before .before .before .before .before .before .before .before .before .before .before .before .args in
+    let v = c .before .before .before .before .before .before .before .before .before .before .before .loop in
+    let h = c .before .before .before .before .before .before .before .before .before .before .loop-test .taken in
+    let x = c .before .before .before .before .before .before .before .before .row-at .ensures in
+    let f = c .before .before .before .before .before .before .link-of .ensures in
+    let r = this-row (a .n) (v .i) _ (a .table .now) _ _ h (v .inv .2) x f in (
+      scan-miss _ _ _ (v .i) (v .inv .0) h _ r _ (c .before .before .before .before .before .is-lost .ensures ∙ lost-told (a .n) (v .i) _ (a .table .now) _ _ h (v .inv .2) x f) (c .before .before .before .before .if1 .left),
+      c .before .before .put-link .kept .0 ∙ v .inv .1,
+      half-step (a .n) (v .i) _ (a .table .now) _ _ h (v .inv .2) x f _ (c .before .before .put-link .ensures),
     ))
     (λ c. c .before .loop .inv .1)
-    (λ c. c .before .loop .inv .2 ∙ half-end _ _ _ (omega arith)))
+    (λ c. all-linked _ _ _ _ (c .before .loop .inv .2) (c .before .loop .inv .0) (omega (arith, c .loop-test .left))))

@@ -1,4 +1,5 @@
 -- The row's kind picks the link, one law for each arm. A row number plus 1 is at most n, so it fits a word (`found-le`).
+use mathlib.Core.Path.{refl}
 use native.Mathlib.Omega.{arith}
 use borrow.Author.Needs.{needs}
 use Rattle.lookups.specs.Find.{found-le}
@@ -11,11 +12,10 @@ link-of-spec =
     tie.close
     (tie.spec
     (λ c κs. search needs)
-    (λ c κs. search needs)
     (λ c. omega (arith, found-le _ _ _ _ (c .find-object .ensures)))
     (λ c κs. search needs)
     (λ c. omega (arith, found-le _ _ _ _ (c .find-object2 .ensures)))
-    (λ c. link-reference _ _ _ (c .before .before .row-at .ensures) _ (c .before .match .keys1) (c .find-object .ensures))
-    (λ c. link-root _ _ _ (c .before .before .row-at .ensures) _ (c .before .match .keys2) (c .find-object2 .ensures))
-    (λ c. link-kept _ _ _ (c .before .row-at .ensures) (c .match .keys3))
-    (λ c. link-none _ _ _ (c .before .row-at .ensures) (search needs) (search needs) (search needs)))
+    (λ c. link-reference _ _ _ refl _ (c .before .match .keys1) (c .find-object .ensures))
+    (λ c. link-root _ _ _ refl _ (c .before .match .keys2) (c .find-object2 .ensures))
+    (λ c. link-kept _ _ _ refl (c .match .keys3))
+    (λ c. link-none _ _ _ refl (search needs) (search needs) (search needs)))

@@ -28,24 +28,24 @@ finish-rows-spec =
     (λ c. search needs)
     (λ c. search needs)
     (λ c.
-    let a = c .before .before .before .before .before .before .before .before .before .before .before .before .before .before .args in
-    let h = c .before .before .before .before .before .before .before .before .before .row-at in
-    let o = c .before .before .before .before .before .before .before .find-object in
-    let l = c .before .before .before .before .first-lost in
-    let x = c .before .row-at2 in (
-      lost (a .s .now) (rowsOf (a .rows) (a .table .now)) (a .at) (c .before .before .before .before .before .before .before .before .before .before .before .if1 .left) (h .result) (o .result) (h .ensures) (o .ensures) (c .before .before .before .before .before .before .if2 .left)
-          (l .result) (x .result) (l .ensures) (c .before .before .before .if3 .taken) (x .ensures),
+    let a = c .before .before .before .before .before .before .before .before .before .before .before .before .before .before .before .before .args in
+    let h = c .before .before .before .before .before .before .before .before .before .before .before .row-at in
+    let o = c .before .before .before .before .before .before .before .before .before .find-object in
+    let l = c .before .before .before .before .before .before .link-all in
+    let x = c .before .row-at2 in
+    let k = c .before .before .before .if3 .taken in (
+      lost (a .s .now) (rowsOf (a .rows) (a .table .now)) (a .at) (c .before .before .before .before .before .before .before .before .before .before .before .before .before .if1 .left) (h .result) (o .result) (h .ensures) (o .ensures) (c .before .before .before .before .before .before .before .before .if2 .left)
+          (l .result) (x .result) (l .ensures .first) k (x .ensures ∙ l .ensures .there k),
       tt,
     ))
-    (λ c κs. search needs)
     (λ c. search needs)
     (λ c.
-    let a = c .before .before .before .before .before .before .before .before .before .before .before .before .before .before .before .args in
-    let h = c .before .before .before .before .before .before .before .before .before .before .row-at in
-    let o = c .before .before .before .before .before .before .before .before .find-object in
-    let l = c .before .before .before .before .before .first-lost in (
-      ap accepted (c .before .before .link-all .ensures)
-          ∙ whole (a .s .now) (rowsOf (a .rows) (a .table .now)) (a .at) (c .before .before .before .before .before .before .before .before .before .before .before .before .if1 .left) (h .result) (o .result) (h .ensures) (o .ensures) (c .before .before .before .before .before .before .before .if2 .left)
-          (l .result) (l .ensures) (c .before .before .before .before .if3 .left),
-      c .before .before .before .before .before .before .before .before .before .before .before .before .before .before .before .pre .0,
+    let a = c .before .before .before .before .before .before .before .before .before .before .before .before .before .args in
+    let h = c .before .before .before .before .before .before .before .before .row-at in
+    let o = c .before .before .before .before .before .before .find-object in
+    let l = c .before .before .before .link-all in (
+      ap accepted (l .ensures .all (c .if3 .left))
+          ∙ whole (a .s .now) (rowsOf (a .rows) (a .table .now)) (a .at) (c .before .before .before .before .before .before .before .before .before .before .if1 .left) (h .result) (o .result) (h .ensures) (o .ensures) (c .before .before .before .before .before .if2 .left)
+          (l .result) (l .ensures .first) (c .if3 .left),
+      c .before .before .before .before .before .before .before .before .before .before .before .before .before .pre .0,
     )))
