@@ -145,8 +145,8 @@ fn copy_all(out: &mut [u8], s: &[u8], table: &[u32], n: usize) -> usize
         let from = put::least(at, out.len());
         let kept = stretches::stretch_from(table, n, i, r.offset);
         if i < kept.next {
-            let c = put_stretch(&mut out[from..], s, w.count, r.offset, kept.end);
-            at = put::add_up(at, c);
+            let b = put_stretch(&mut out[from..], s, w.count, r.offset, kept.end);
+            at = put::add_up(at, b);
             w = Gathered { owner: 0, count: 0 };
             i = kept.next;
             continue;

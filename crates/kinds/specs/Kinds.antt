@@ -1,7 +1,7 @@
 -- What a kind byte says where it stands: one law for each answer, and what a kind that is taken says.
 use Prim.Native.Nat.{ℕ, _≤_, _<_}
 use mathlib.Core.Path.{_≡_, refl, sym, ap, subst, _∙_}
-use mathlib.Core.Bool.{Bool, true, false, _||_}
+use mathlib.Core.Bool.{Bool, true, false, _&&_, _||_}
 use mathlib.Core.List.{List}
 use native.Mathlib.Omega.{arith}
 use lib.ListN.{length, getD}
@@ -17,11 +17,20 @@ use Rattle.format.specs.declared.Heading.{Heading}
 use Rattle.format.specs.declared.Heading.the-variants as H
 use Rattle.format.specs.Bytes.{pick}
 use Rattle.format.specs.Records.{isKind, notTaken, inSlot, isClassKind, allowed, kindOf, kindAt}
+use Rattle.fields.specs.Tests.{both-of}
 use Rattle.fields.specs.Judged.{told}
 
 -- fill one slot and open nothing
 abbrev pub isBrief : ℕ → Bool
 isBrief k = eqb k 6 || (eqb k 8 || (eqb k 9 || eqb k 10))
+
+-- a brief kind that may stand here
+unfoldable pub briefIn : Where → ℕ → Bool
+briefIn w k = isBrief k && allowed w k
+
+-- a record of such a kind stands at a place
+unfoldable pub briefAt : List ℕ → Where → ℕ → Bool
+briefAt s w at = ltb at (length s) && briefIn w (getD s at 0)
 
 pub brief-null : (k : ℕ) → isBrief k ≡ true → (k ≡ 6 → ⊥) → (k ≡ 8 → ⊥) → (k ≡ 9 → ⊥) → k ≡ 10
 brief-null k e six eight nine =
@@ -157,7 +166,62 @@ module _ (s : List ℕ) (w : Where) (at k : ℕ) (q : kindAt s w at ≡ K.Taken 
   pub kind-byte : Stands w (getD s at 0) k
   kind-byte = kind-stands w (getD s at 0) k (sym (kind-there s w at kind-within) ∙ q)
 
+-- ---- brief kinds
+
+module _ (w : Where) (k : ℕ) where
+  pub brief-known : (n : ℕ) (q : Bool) → isBrief n ≡ true → k ≡ n → q ≡ allowed w n → q ≡ briefIn w k
+  unfolding briefIn
+  brief-known n q b e a = rw (e, b) a
+
+  pub brief-other : (k ≡ 6 → ⊥) → (k ≡ 8 → ⊥) → (k ≡ 9 → ⊥) → (k ≡ 10 → ⊥) → false ≡ briefIn w k
+  unfolding briefIn
+  brief-other a b c d = rw (ne-eqb k 6 a, ne-eqb k 8 b, ne-eqb k 9 c, ne-eqb k 10 d)
+
+module _ (s : List ℕ) (w : Where) (at : ℕ) where
+  pub brief-there : (q : Bool) → at < length s → q ≡ briefIn w (getD s at 0) → q ≡ briefAt s w at
+  unfolding briefAt
+  brief-there q h e = rw (lt-ltb at (length s) h) e
+
+  pub brief-past : length s ≤ at → false ≡ briefAt s w at
+  unfolding briefAt
+  brief-past h = rw (le-ltb at (length s) h)
+
+  -- a brief record stands within the stream, is brief, and is taken
+  module _ (e : briefAt s w at ≡ true) where
+    pub brief-within : at < length s
+    unfolding briefAt
+    brief-within = ltb-true at (length s) (both-of (ltb at (length s)) _ e .0)
+
+    parts : (isBrief (getD s at 0) ≡ true) × (allowed w (getD s at 0) ≡ true)
+    unfolding briefAt briefIn
+    parts = both-of (isBrief (getD s at 0)) _ (both-of (ltb at (length s)) _ e .1)
+
+    pub brief-is : isBrief (getD s at 0) ≡ true
+    brief-is = parts .0
+
+    pub brief-taken : kindAt s w at ≡ K.Taken (getD s at 0)
+    brief-taken = kind-there s w at brief-within ∙ kind-allowed (getD s at 0) w (parts .1)
+
+  -- a kind that is taken where no brief record stands is not brief
+  pub taken-long : briefAt s w at ≡ false → (k : ℕ) → kindAt s w at ≡ K.Taken k → isBrief k ≡ false
+  unfolding briefAt briefIn
+  taken-long e k q =
+      let x = kind-byte s w at k q in
+      let h = lt-ltb at (length s) (kind-within s w at k q) in
+      let f : allowed w (getD s at 0) ≡ true = rw (← x .byte) (x .fits) in
+      rw (x .byte) (last (isBrief (getD s at 0)) (rw (h, f) at e))
+    where
+      last : (b : Bool) → (b && true) ≡ false → b ≡ false
+      last true e = e
+      last false e = refl
+
 -- the header's kind is not brief
-pub header-long : (s : List ℕ) (at k : ℕ) → kindAt s W.Start at ≡ K.Taken k → isBrief k ≡ false
-unfolding allowed
-header-long s at k q = ap isBrief (eqb-true k 0 (kind-byte s W.Start at k q .fits))
+pub header-long : (s : List ℕ) (at : ℕ) → briefAt s W.Start at ≡ false
+unfolding briefAt briefIn allowed
+header-long s at = none (ltb at (length s)) (isBrief (getD s at 0)) (eqb (getD s at 0) 0) (λ e. ap isBrief (eqb-true (getD s at 0) 0 e))
+  where
+    none : (a b c : Bool) → (c ≡ true → b ≡ false) → (a && (b && c)) ≡ false
+    none false b c f = refl
+    none true false c f = refl
+    none true true false f = refl
+    none true true true f = f refl

@@ -6,7 +6,7 @@ ghost use Prim.Native.Nat.{_<_};
 ghost use mathlib.Core.Path.{_≡_};
 ghost use Rattle.format.specs.declared.Where.the-variants as W;
 ghost use Rattle.format.specs.Records.{isKind, notTaken, inSlot, allowed, kindOf, kindAt};
-ghost use Rattle.kinds.specs.Kinds.{isBrief};
+ghost use Rattle.kinds.specs.Kinds.{briefIn, briefAt};
 
 // ---- what may stand where
 
@@ -128,19 +128,6 @@ fn kind_of(w: Where, k: u8) -> Kind
     Kind::Wrong(Refusal::UnknownKind)
 }
 
-// Kinds that fill one slot and open nothing: 6, 8, 9 and 10.
-pub fn is_brief(k: u8) -> bool
-    ensures { λ r. ⌜ r ≡ isBrief k ⌝ }
-{
-    match k {
-        6 => true,
-        8 => true,
-        9 => true,
-        10 => true,
-        _ => false,
-    }
-}
-
 pub fn kind_at(s: &[u8], w: Where, at: usize) -> Kind
     ensures { λ r. ⌜ r ≡ kindAt (now (s .entry)) w at ⌝ }
 {
@@ -148,4 +135,68 @@ pub fn kind_at(s: &[u8], w: Where, at: usize) -> Kind
         return kind_of(w, s[at]);
     }
     Kind::Wrong(Refusal::CutShort)
+}
+
+// ---- brief kinds: they fill one slot and open nothing
+
+// BinaryObjectString (6) stands at the top, in string slots and in object slots.
+fn takes_string(w: Where) -> bool
+    ensures { λ r. ⌜ r ≡ allowed w 6 ⌝ }
+{
+    match w {
+        Where::Start => false,
+        Where::Top => true,
+        Where::StringSlot => true,
+        Where::ObjectSlot => true,
+        Where::ArraySlot => false,
+    }
+}
+
+// MemberPrimitiveTyped (8) stands in object slots alone.
+fn takes_typed(w: Where) -> bool
+    ensures { λ r. ⌜ r ≡ allowed w 8 ⌝ }
+{
+    match w {
+        Where::Start => false,
+        Where::Top => false,
+        Where::StringSlot => false,
+        Where::ObjectSlot => true,
+        Where::ArraySlot => false,
+    }
+}
+
+// MemberReference (9) and ObjectNull (10) stand in every slot.
+fn takes_null(w: Where) -> bool
+    ensures { λ r. ⌜ (r ≡ allowed w 9) × (r ≡ allowed w 10) ⌝ }
+{
+    match w {
+        Where::Start => false,
+        Where::Top => false,
+        Where::StringSlot => true,
+        Where::ObjectSlot => true,
+        Where::ArraySlot => true,
+    }
+}
+
+// Whether this kind is brief and may stand here.
+fn is_brief_in(w: Where, k: u8) -> bool
+    ensures { λ r. ⌜ r ≡ briefIn w k ⌝ }
+{
+    match k {
+        6 => takes_string(w),
+        8 => takes_typed(w),
+        9 => takes_null(w),
+        10 => takes_null(w),
+        _ => false,
+    }
+}
+
+// Whether a record of a brief kind stands at this place, and may. Asked by the kind first: most records are brief, and then one question is enough.
+pub fn is_brief_at(s: &[u8], w: Where, at: usize) -> bool
+    ensures { λ r. ⌜ r ≡ briefAt (now (s .entry)) w at ⌝ }
+{
+    if at < s.len() {
+        return is_brief_in(w, s[at]);
+    }
+    false
 }

@@ -1,11 +1,11 @@
 -- The pass that puts in the links, in place: a lookup does not see a link, so rows that have theirs do not disturb it.
-use mathlib.Core.Path.{_≡_, refl, sym, _∙_}
+use mathlib.Core.Path.{_≡_, refl, sym, ap, _∙_}
 use mathlib.Core.List.{List, [], _∷_, _++_, append-nil, append-assoc, map, map-append}
 use mathlib.Core.Bool.{Bool, true, false, _&&_, _||_}
 use Prim.Native.Nat.{ℕ, zero, suc, _+_, _-_, _≤_, _<_}
 use native.Mathlib.Omega.{arith}
 use native.Mathlib.Numerals.{add-one}
-use borrow.Author.Tests.{ne-eqb}
+use borrow.Author.Tests.{ne-eqb, eqb-true}
 use lib.Dec.{eqb}
 use lib.ListN.{length, getD, take, drop, set, length-map, take-append-drop}
 use lib.Seq.{set-getD, take-length, drop-length, take-suc, drop-cons, set-at, getD-at, length-take-le}
@@ -13,9 +13,50 @@ use Rattle.format.specs.declared.Row.{Row}
 use Rattle.format.specs.Bytes.{pick}
 use Rattle.format.specs.Rows.{blank, rowsOf, isObject, findFrom, objectRow, withLink, linkOf, linked, isLost}
 use Rattle.table.specs.Rows.{length-rowsOf}
-use Rattle.lookups.specs.Find.{named, Scan, scan-end, scan-hit}
+use Rattle.lookups.specs.Find.{named, Scan, scan-end, scan-hit, scan-miss}
 
 -- ---- one row
+
+-- a row that has its link before the pass: no reference, not the header
+unfoldable pub hasLink : Row → Bool
+hasLink r = pick (eqb (r .kind) 9 || eqb (r .kind) 0) false (pick (eqb (r .kind) 1) true (eqb (r .link) 0))
+
+never : {X : Type 0} → false ≡ true → X
+never e = absurd (let z : _≡_ {A = ℕ} 0 1 = ap (λ (b : Bool). pick b 1 0) e in omega arith)
+
+module _ (r : Row) where
+  pub has-not : r .kind ≡ 9 → false ≡ hasLink r
+  unfolding hasLink
+  has-not k = rw k
+
+  pub has-none : r .kind ≡ 0 → false ≡ hasLink r
+  unfolding hasLink
+  has-none k = rw k
+
+  pub has-class : r .kind ≡ 1 → true ≡ hasLink r
+  unfolding hasLink
+  has-class k = rw k
+
+  pub has-zero : (r .kind ≡ 9 → ⊥) → (r .kind ≡ 0 → ⊥) → (r .kind ≡ 1 → ⊥) → eqb (r .link) 0 ≡ hasLink r
+  unfolding hasLink
+  has-zero a b c = rw (ne-eqb (r .kind) 9 a, ne-eqb (r .kind) 0 b, ne-eqb (r .kind) 1 c)
+
+  has-own : (rows : List Row) → hasLink r ≡ true → r .link ≡ linkOf rows r
+  unfolding hasLink linkOf
+  has-own rows = go (eqb (r .kind) 9 || eqb (r .kind) 0) (eqb (r .kind) 1)
+    where
+      go : (a b : Bool) → pick a false (pick b true (eqb (r .link) 0)) ≡ true → r .link ≡ pick a (objectRow (r .id) rows) (pick b (r .link) 0)
+      go true b e = never e
+      go false true e = refl
+      go false false e = eqb-true _ _ e
+
+  has-found : (rows : List Row) → hasLink r ≡ true → isLost rows r ≡ false
+  unfolding hasLink
+  has-found rows = go (eqb (r .kind) 9) (eqb (r .kind) 0)
+    where
+      go : (a b : Bool) → pick (a || b) false (pick (eqb (r .kind) 1) true (eqb (r .link) 0)) ≡ true → (a && eqb (objectRow (r .id) rows) 0) ≡ false
+      go true b e = never e
+      go false b e = refl
 
 -- a row of this kind and link is a reference with no target
 unfoldable pub lostBy : ℕ → ℕ → Bool
@@ -104,12 +145,6 @@ module _ (rows : List Row) (i : ℕ) (h : i < length rows) where
       rw half-split (set-at (map (withOwn rows) (take i rows)) (getD rows i blank) (drop (suc i) rows) (withOwn rows (getD rows i blank)) i front) in
       rw (add-one, q) e
 
--- a link that is there already
-pub link-there : (xs : List Row) (i v : ℕ) (r : Row) → r ≡ getD xs i blank → r .link ≡ v → xs ≡ set xs i (withLink (getD xs i blank) v)
-link-there xs i v r e k =
-    let a : withLink (getD xs i blank) v ≡ getD xs i blank = rw (← e, ← k) in
-    rw a (sym (set-getD xs i blank))
-
 -- v is the link of r, which is row i of xs, and the rows before it have theirs
 module _ (n i v : ℕ) (t : List ℕ) (xs : List Row) (r : Row) (h : i < n) (e : xs ≡ half i (rowsOf n t)) (x : r ≡ getD xs i blank) (f : v ≡ linkOf xs r) where
   pub this-row : r ≡ getD (rowsOf n t) i blank
@@ -135,6 +170,20 @@ module _ (n i v : ℕ) (t : List ℕ) (xs : List Row) (r : Row) (h : i < n) (e :
       let a : getD xs i blank ≡ getD (rowsOf n t) i blank = sym x ∙ this-row in
       let q : v ≡ linkOf (rowsOf n t) (getD (rowsOf n t) i blank) = rw this-row at own-link in
       g ∙ rw (a, q, e) (sym (half-next (rowsOf n t) i (omega arith)))
+
+-- row i of xs has its link already
+module _ (n i : ℕ) (t : List ℕ) (xs : List Row) (r : Row) (h : i < n) (e : xs ≡ half i (rowsOf n t)) (x : r ≡ getD xs i blank) (k : hasLink r ≡ true) where
+  has-link : r .link ≡ linkOf xs r
+  has-link = has-own r xs k
+
+  pub half-there : xs ≡ half (i + 1) (rowsOf n t)
+  half-there =
+      let a : withLink (getD xs i blank) (r .link) ≡ getD xs i blank = rw (← x) in
+      half-step n i (r .link) t xs r h e x has-link xs (rw a (sym (set-getD xs i blank)))
+
+  pub there-found : Scan (isLost (rowsOf n t)) n t i → Scan (isLost (rowsOf n t)) n t (i + 1)
+  there-found v =
+      scan-miss (isLost (rowsOf n t)) n t i v h r (this-row n i (r .link) t xs r h e x has-link) (isLost (rowsOf n t) r) refl (has-found r (rowsOf n t) k)
 
 -- what the pass leaves and answers: all rows with their links and 0, or the number of the first lost reference's row plus 1
 pub record Linking (rows after : List Row) (q : ℕ) : Type 0 where

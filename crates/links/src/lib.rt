@@ -3,11 +3,23 @@ use format::ObjectNo;
 use format::Row;
 ghost use mathlib.Core.Path.{_≡_};
 ghost use Prim.Native.Nat.{_≤_, _<_};
-ghost use lib.ListN.{getD, set};
-ghost use Rattle.format.specs.Rows.{blank, roomOf, rowsOf, withLink, linkOf};
-ghost use Rattle.links.specs.Links.{lostBy, Linking};
+ghost use Rattle.format.specs.Rows.{roomOf, rowsOf, linkOf};
+ghost use Rattle.links.specs.Links.{hasLink, lostBy, Linking};
 
 // ---- one row
+
+// Whether row r has its link already: all but references and the header were given theirs with the row.
+fn has_link(r: Row) -> bool
+    ensures { λ q. ⌜ q ≡ hasLink r ⌝ }
+{
+    let kind = r.kind;
+    match kind {
+        9 => false,
+        0 => false,
+        1 => true,
+        _ => r.link == 0,
+    }
+}
 
 // The link of row r. It is a row number plus 1, which has to fit a word.
 fn link_of(table: &[u32], n: usize, r: Row) -> u32
@@ -33,18 +45,6 @@ fn is_lost(kind: u32, link: u32) -> bool
     link == 0
 }
 
-// Row i of the first n has this link. Where it is there already nothing is written.
-fn put_link(table: &mut [u32], n: usize, i: usize, link: u32)
-    requires { ⌜ (i < n) × (n ≤ roomOf (now table)) ⌝ }
-    ensures { λ _. ⌜ rowsOf n (now (table .exit)) ≡ set (rowsOf n (now (table .entry))) i
-        (withLink (getD (rowsOf n (now (table .entry))) i blank) link) ⌝ }
-{
-    let r = table::row_at(table, n, i);
-    if r.link != link {
-        table::set_link(table, n, i, link);
-    }
-}
-
 // ---- all rows
 
 // Each of the first n rows gets its link, up to the first reference with no target: the number of its row plus 1; 0 if there is none.
@@ -55,11 +55,15 @@ pub fn link_all(table: &mut [u32], n: usize) -> usize
     let mut i: usize = 0;
     while i < n {
         let r = table::row_at(table, n, i);
+        if has_link(r) {
+            i += 1;
+            continue;
+        }
         let link = link_of(table, n, r);
         if is_lost(r.kind, link) {
             return i + 1;
         }
-        put_link(table, n, i, link);
+        table::set_link(table, n, i, link);
         i += 1;
     }
     0

@@ -69,9 +69,10 @@ pub fn move_on(s: &[u8], t: Typed) -> Typed
     if types == 0 {
         return t;
     }
-    let infos = after_info(s, codes::byte_at(s, types as usize), t.infos);
-    // The answer has a place of its own, so that the way above, which is taken most, calls nothing.
-    let next = typed_at(s, next_place(s, types), infos);
+    // The stream is lent and the answer laid down as copies of their own, so that the way above, which is taken most, stays in registers.
+    let stream = s;
+    let infos = after_info(stream, codes::byte_at(stream, types as usize), t.infos);
+    let next = typed_at(stream, next_place(stream, types), infos);
     next
 }
 

@@ -5,7 +5,7 @@ use native.Mathlib.Omega.{arith}
 use lib.ListN.{length}
 use Rattle.format.specs.Rows.{rowsOf, isLost}
 use Rattle.lookups.specs.Find.{Scan, scan-start, scan-miss}
-use Rattle.links.specs.Links.{half, half-none, this-row, lost-told, half-step, all-linked, one-lost}
+use Rattle.links.specs.Links.{half, half-none, this-row, lost-told, half-step, half-there, there-found, all-linked, one-lost}
 use borrow.Author.Needs.{needs}
 use Rattle.links.proofs.link_all.Statement.{statement}
 use Rattle.links.proofs.link_all.Tie as tie
@@ -24,31 +24,40 @@ link-all-spec =
     μ-loop
     (λ c. (scan-start _ _ _, refl, half-none _))
     (λ c κs. omega arith)
+    (λ c κs. search needs)
+    (λ c. omega arith)
+    (λ c. omega arith)
+    (λ c.
+    let v = c .before .before .before .before .before .loop in
+    let h = c .before .before .before .before .loop-test .taken in
+    let x = c .before .before .row-at .ensures in
+    let k = sym (c .before .has-link .ensures) ∙ c .if1 .taken in
+    (there-found _ _ _ _ _ h (v .inv .2) x k (v .inv .0), v .inv .1, half-there _ _ _ _ _ h (v .inv .2) x k))
     (λ c κs. (omega arith, omega arith))
     (λ c κs. search needs)
     (λ c. omega arith)
-    (λ c. c .before .before .before .before .before .before .before .loop .inv .1)
+    (λ c. c .before .before .before .before .before .before .before .before .before .loop .inv .1)
     (λ c.
-    let a = c .before .before .before .before .before .before .before .before .before .args in
-    let v = c .before .before .before .before .before .before .before .loop in
-    let h = c .before .before .before .before .before .before .loop-test .taken in
-    let x = c .before .before .before .before .row-at .ensures in
+    let a = c .before .before .before .before .before .before .before .before .before .before .before .args in
+    let v = c .before .before .before .before .before .before .before .before .before .loop in
+    let h = c .before .before .before .before .before .before .before .before .loop-test .taken in
+    let x = c .before .before .before .before .before .before .row-at .ensures in
     let f = c .before .before .link-of .ensures in
     let r = this-row (a .n) (v .i) _ (a .table .now) _ _ h (v .inv .2) x f in
-    one-lost (a .n) (a .table .now) _ (v .i) (v .inv .2) (v .inv .0) _ _ h r (c .before .is-lost .ensures ∙ lost-told (a .n) (v .i) _ (a .table .now) _ _ h (v .inv .2) x f) (c .if1 .taken))
+    one-lost (a .n) (a .table .now) _ (v .i) (v .inv .2) (v .inv .0) _ _ h r (c .before .is-lost .ensures ∙ lost-told (a .n) (v .i) _ (a .table .now) _ _ h (v .inv .2) x f) (c .if2 .taken))
     (λ c κs. omega arith)
     (λ c. omega arith)
     (λ c. omega arith)
     (λ c.
-    let a = c .before .before .before .before .before .before .before .before .before .before .before .before .before .args in
-    let v = c .before .before .before .before .before .before .before .before .before .before .before .loop in
-    let h = c .before .before .before .before .before .before .before .before .before .before .loop-test .taken in
-    let x = c .before .before .before .before .before .before .before .before .row-at .ensures in
+    let a = c .before .before .before .before .before .before .before .before .before .before .before .before .before .before .before .args in
+    let v = c .before .before .before .before .before .before .before .before .before .before .before .before .before .loop in
+    let h = c .before .before .before .before .before .before .before .before .before .before .before .before .loop-test .taken in
+    let x = c .before .before .before .before .before .before .before .before .before .before .row-at .ensures in
     let f = c .before .before .before .before .before .before .link-of .ensures in
     let r = this-row (a .n) (v .i) _ (a .table .now) _ _ h (v .inv .2) x f in (
-      scan-miss _ _ _ (v .i) (v .inv .0) h _ r _ (c .before .before .before .before .before .is-lost .ensures ∙ lost-told (a .n) (v .i) _ (a .table .now) _ _ h (v .inv .2) x f) (c .before .before .before .before .if1 .left),
-      c .before .before .put-link .kept .0 ∙ v .inv .1,
-      half-step (a .n) (v .i) _ (a .table .now) _ _ h (v .inv .2) x f _ (c .before .before .put-link .ensures),
+      scan-miss _ _ _ (v .i) (v .inv .0) h _ r _ (c .before .before .before .before .before .is-lost .ensures ∙ lost-told (a .n) (v .i) _ (a .table .now) _ _ h (v .inv .2) x f) (c .before .before .before .before .if2 .left),
+      c .before .before .set-link .kept .0 ∙ v .inv .1,
+      half-step (a .n) (v .i) _ (a .table .now) _ _ h (v .inv .2) x f _ (c .before .before .set-link .ensures),
     ))
     (λ c. c .before .loop .inv .1)
     (λ c. all-linked _ _ _ _ (c .before .loop .inv .2) (c .before .loop .inv .0) (omega (arith, c .loop-test .left))))
