@@ -8,12 +8,13 @@ use format::Where;
 ghost use mathlib.Core.Path.{_≡_};
 ghost use mathlib.Core.Bool.{false};
 ghost use mathlib.Core.List.{List};
-ghost use Prim.Native.Nat.{ℕ, _≤_};
+ghost use Prim.Native.Nat.{ℕ, _≤_, _<_};
 ghost use lib.ListN.{length};
-ghost use Rattle.format.specs.Rows.{roomOf};
+ghost use Rattle.format.specs.Rows.{roomOf, rowsOf};
+ghost use Rattle.format.specs.Records.{headingAt};
 ghost use Rattle.format.specs.declared.Where.the-variants as W;
-ghost use Rattle.format.specs.Machine.{recordStep, whereIn, step};
-ghost use Rattle.kinds.specs.Kinds.{briefAt};
+ghost use Rattle.format.specs.Machine.{act, recordStep, whereIn, step};
+ghost use Rattle.kinds.specs.Kinds.{isBrief};
 ghost use Rattle.frames.specs.Frames.{saved};
 ghost use Rattle.adding.specs.Held.{stateOf, after, Held};
 ghost use Rattle.turns.specs.Due.{dueOf};
@@ -49,28 +50,22 @@ fn where_in(depth: usize, w: Where) -> Where
     w
 }
 
-// A kind byte and its record, where no brief record stands.
+// The record of a kind that is taken and not brief, whatever it does.
 fn long_step(
     s: &[u8],
     table: &mut [u32],
     frames: &mut [u32; Reader::WORDS],
     m: Reader,
-    w: Where,
+    kind: u8,
 ) -> Step
-    requires { ⌜ Held (roomOf (now table)) m × (length (now frames) ≡ 384) × (length (now s) ≤ 16777216) × (briefAt (now s) w (m .at) ≡ false) ⌝ }
+    requires { ⌜ Held (roomOf (now table)) m × (m .at < length (now s)) × (length (now frames) ≡ 384) × (length (now s) ≤ 16777216) × (isBrief kind ≡ false) ⌝ }
     ensures { λ q. ⌜ (after (now (table .exit)) (now (frames .exit)) q
-        ≡ recordStep (now (s .entry)) (roomOf (now (table .entry))) (stateOf (now (table .entry)) (now (frames .entry)) m) w)
+        ≡ act (now (s .entry)) (roomOf (now (table .entry))) (stateOf (now (table .entry)) (now (frames .entry)) m) kind
+        (headingAt (now (s .entry)) (rowsOf (m .rows) (now (table .entry))) kind (m .at)))
         × (length (now (frames .exit)) ≡ 384) ⌝ }
 {
-    let at = m.at;
-    let k = kinds::kind_at(s, w, at);
-    match k {
-        Kind::Taken(kind) => {
-            let h = headings::heading_at(s, table, m.rows, kind, at);
-            steps::take(s, table, frames, m, kind as u32, h)
-        }
-        Kind::Wrong(f) => Step::Refuse(f, at),
-    }
+    let h = headings::heading_at(s, table, m.rows, kind, m.at);
+    steps::take(s, table, frames, m, kind as u32, h)
 }
 
 // The header, which stands first.
@@ -85,10 +80,16 @@ pub fn header_step(
         ≡ recordStep (now (s .entry)) (roomOf (now (table .entry))) (stateOf (now (table .entry)) (now (frames .entry)) m) W.Start)
         × (length (now (frames .exit)) ≡ 384) ⌝ }
 {
-    long_step(s, table, frames, m, Where::Start)
+    let at = m.at;
+    let k = kinds::kind_at(s, Where::Start, at);
+    match k {
+        Kind::Taken(kind) => long_step(s, table, frames, m, kind),
+        Kind::Wrong(f) => Step::Refuse(f, at),
+    }
 }
 
-// A kind byte and its record. What is lent to the long way are copies of its own, so that the brief way stays in registers.
+// A kind byte and its record. A brief record is asked for first: most are. What is lent to the long way are copies of its own, so that the brief
+// way stays in registers.
 fn record_step(
     s: &[u8],
     table: &mut [u32],
@@ -107,9 +108,15 @@ fn record_step(
         let h = headings::brief_at(s, table, m.rows, kind, at);
         return steps::take_brief(s, table, frames, m, kind as u32, h);
     }
-    let n = m;
-    let q = long_step(s, table, frames, n, w);
-    q
+    let k = kinds::kind_at(s, w, at);
+    match k {
+        Kind::Taken(kind) => {
+            let n = m;
+            let q = long_step(s, table, frames, n, kind);
+            q
+        }
+        Kind::Wrong(f) => Step::Refuse(f, at),
+    }
 }
 
 // A member value at once, or a record.

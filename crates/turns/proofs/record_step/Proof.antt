@@ -4,8 +4,8 @@ use native.Mathlib.Omega.{arith}
 use Rattle.format.specs.Rows.{roomOf}
 use Rattle.adding.specs.Held.{stateOf}
 use Rattle.format.specs.Records.{kindAt}
-use Rattle.kinds.specs.Kinds.{brief-within, brief-is, brief-taken}
-use Rattle.turns.specs.Records.{heading-short, record-on}
+use Rattle.kinds.specs.Kinds.{kind-within, brief-within, brief-is, brief-taken, taken-long}
+use Rattle.turns.specs.Records.{heading-short, record-on, record-off}
 use borrow.Author.Needs.{needs}
 use Rattle.turns.proofs.record_step.Statement.{statement}
 use Rattle.turns.proofs.record_step.Tie as tie
@@ -36,8 +36,21 @@ record-step-spec =
     let o = c .before .before .take-brief in
     let q = sym (c .before .before .before .before .before .before .before .before .before .is-brief-at .ensures) ∙ c .before .before .before .before .before .before .before .before .if1 .taken in
     (o .ensures ∙ record-on (a .s .now) (roomOf (a .table .now)) (stateOf (a .table .now) (a .frames .now) (a .m)) (a .w) (kindAt (a .s .now) (a .w) (a .m .at)) refl _ (h .result) (brief-taken (a .s .now) (a .w) (a .m .at) q) (h .ensures .0), c .before .before .before .before .before .before .before .before .before .before .before .before .pre .1))
-    (λ c κs.
-    let p = c .before .before .before .before .before .before .pre in
-    (p .0, p .1, p .2, sym (c .before .before .before .is-brief-at .ensures) ∙ c .before .before .if1 .left))
+    (λ c κs. search needs)
     (λ c. search needs)
-    (λ c. search needs))
+    (λ c κs.
+    let a = c .before .before .before .before .before .before .before .before .before .before .args in
+    let p = c .before .before .before .before .before .before .before .before .before .before .pre in
+    let q = sym (c .before .before .before .before .before .kind-at .ensures) ∙ c .before .before .before .k .given .1 in
+    (p .0, kind-within (a .s .now) (a .w) (a .m .at) _ q, p .1, p .2, taken-long (a .s .now) (a .w) (a .m .at) (sym (c .before .before .before .before .before .before .before .is-brief-at .ensures) ∙ c .before .before .before .before .before .before .if1 .left) _ q))
+    (λ c. search needs)
+    (λ c. search needs)
+    (λ c.
+    let a = c .before .before .before .before .before .before .before .before .before .before .before .before .before .args in
+    let k = c .before .before .before .before .before .before .before .before .kind-at in
+    let o = c .before .before .long-step in
+    (o .ensures .0 ∙ record-on (a .s .now) (roomOf (a .table .now)) (stateOf (a .table .now) (a .frames .now) (a .m)) (a .w) (k .result) (k .ensures) _ _ (c .before .before .before .before .before .before .k .given .1) refl, o .ensures .1))
+    (λ c.
+    let a = c .before .before .before .before .before .before .before .before .args in
+    let k = c .before .before .before .kind-at in
+    (record-off (a .s .now) (roomOf (a .table .now)) (stateOf (a .table .now) (a .frames .now) (a .m)) (a .w) (k .result) (k .ensures) _ (c .before .k2 .given .1), c .before .before .before .before .before .before .before .before .pre .1)))
