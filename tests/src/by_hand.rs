@@ -66,6 +66,7 @@ pub fn cases() -> Vec<Case> {
         texts(),
         chars(),
         decimals(),
+        dates(),
         other_values(),
         object_ids(),
         libraries(),
@@ -577,20 +578,43 @@ fn decimals() -> Vec<Case> {
     cases
 }
 
+fn dates() -> Vec<Case> {
+    // 9999-12-31 23:59:59.9999999
+    let last: u64 = 3_155_378_975_999_999_999;
+    let bits = |kind: u64, ticks: u64| (kind << 62 | ticks).to_le_bytes();
+    let date = |kind, ticks| slots(1).typed(DATE_TIME, &bits(kind, ticks));
+    let member = || Stream::new().system(1, "C", &[("d", 0, &[DATE_TIME])]);
+    let items = |items: &[u8]| Stream::new().primitives(1, 2, DATE_TIME, items);
+    let mut cases = vec![
+        case("DateTime kind 0", date(0, (1 << 61) - 1).end(), Accepted(4)),
+        case("DateTime kind 1", date(1, (1 << 61) - 1).end(), Accepted(4)),
+        case("DateTime kind 3", date(3, 0).end(), Refused(11, 26)),
+        case("DateTime kind 3, last", date(3, last).end(), Refused(11, 26)),
+        case("DateTime bit 61", date(0, 1 << 61).end(), Accepted(4)),
+        case("DateTime kind 2, bit 61", date(2, 1 << 61).end(), Accepted(4)),
+        case("DateTime cut", slots(1).typed(DATE_TIME, &[0xFF; 7]), Refused(2, 26)),
+        case("DateTime member, last", member().bytes(&bits(0, last)).end(), Accepted(4)),
+        case("DateTime member, past", member().bytes(&bits(0, last + 1)), Refused(11, 32)),
+        case("DateTime items, cut", items(&bits(0, last)), Refused(2, 17)),
+        case("DateTime items, bad first", items(&bits(0, last + 1)), Refused(11, 17)),
+    ];
+    for kind in 0..3 {
+        for (what, ticks) in [("first", 0), ("last", last)] {
+            let stream = date(kind, ticks).end();
+            let what = format!("DateTime {what} of kind {kind}");
+            cases.push(case(&what, stream.clone(), Accepted(4)).copied(stream));
+        }
+        for (what, ticks) in [("past the last", last + 1), ("all bits", (1 << 62) - 1)] {
+            let what = format!("DateTime {what} of kind {kind}");
+            cases.push(case(&what, date(kind, ticks).end(), Refused(11, 26)));
+        }
+    }
+    cases
+}
+
 fn other_values() -> Vec<Case> {
-    let date = |top: u8, rest: u8| {
-        slots(1).typed(DATE_TIME, &[rest, rest, rest, rest, rest, rest, rest, top])
-    };
     let member = |code: u8| Stream::new().system(1, "", &[("", 0, &[code])]);
     vec![
-        case("DateTime kind 0", date(0x1F, 0xFF).end(), Accepted(4)),
-        case("DateTime kind 1", date(0x5F, 0xFF).end(), Accepted(4)),
-        case("DateTime kind 2", date(0x80, 0).end(), Accepted(4)),
-        case("DateTime kind 3", date(0xC0, 0).end(), Refused(11, 26)),
-        case("DateTime negative", date(0x20, 0).end(), Refused(11, 26)),
-        case("DateTime -1", date(0x3F, 0xFF).end(), Refused(11, 26)),
-        case("DateTime kind 2 negative", date(0xA0, 0).end(), Refused(11, 26)),
-        case("DateTime cut", slots(1).typed(DATE_TIME, &[0xFF; 7]), Refused(2, 26)),
         case("Boolean 2", slots(1).typed(BOOLEAN, &[2]), Refused(11, 26)),
         case("Boolean 255", slots(1).typed(BOOLEAN, &[255]), Refused(11, 26)),
         case("Boolean missing", slots(1).bytes(&[8, BOOLEAN]), Refused(2, 26)),

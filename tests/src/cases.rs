@@ -4,7 +4,7 @@
 use crate::by_hand::{self, Outcome};
 use crate::corpus;
 use crate::generate::{self, Random};
-use crate::reader::{read_records, OPEN_LIMIT, ROW_WORDS};
+use crate::reader::{read_records, LAST_TICK, OPEN_LIMIT, ROW_WORDS};
 use crate::show::MOST_WORDS;
 use crate::stream::{Member, Stream};
 use std::path::Path;
@@ -79,6 +79,11 @@ pub fn known(outcome: &str) -> Option<Known> {
         }
         _ => None,
     }
+}
+
+pub fn from_hex(digits: &str) -> Option<Vec<u8>> {
+    let byte = |at| u8::from_str_radix(digits.get(at..at + 2)?, 16).ok();
+    (0..digits.len()).step_by(2).map(byte).collect()
 }
 
 /// At least `count` streams, the first half valid, the other damaged. Some of
@@ -260,7 +265,7 @@ fn nulls(stream: Stream, count: usize) -> Stream {
 /// side.
 fn edge(random: &mut Random) -> Vec<u8> {
     let slot = Stream::new().objects(1, 1);
-    let stream = match random.below(5) {
+    let stream = match random.below(6) {
         0 => {
             let text = edge_text(random);
             Stream::new().bytes(&[6]).int(1).bytes(&[text.len() as u8]).bytes(&text)
@@ -271,6 +276,7 @@ fn edge(random: &mut Random) -> Vec<u8> {
         }
         2 => slot.typed(3, &edge_char(random)),
         3 => slot.bytes(&[8, 5]).text(&edge_decimal(random)),
+        4 => slot.typed(13, &edge_date(random)),
         _ => {
             let code = random.below(19) as u8;
             let value = edge_bytes(random.pick(&[1, 2, 4, 8, 8]), random);
@@ -341,6 +347,15 @@ fn edge_decimal(random: &mut Random) -> String {
         text.insert(place, random.pick(&['-', '.', '+', 'E', ' ', '/', ':', '\u{661}']));
     }
     text
+}
+
+/// Any kind, and ticks on either side of a bound of theirs: none, the last one,
+/// and the bit that would be the sign of signed ones.
+fn edge_date(random: &mut Random) -> [u8; 8] {
+    let bound = random.pick(&[0, LAST_TICK, 1 << 61]);
+    let ticks = (bound + random.below(3) as u64).wrapping_sub(1) % (1 << 62);
+    let kind = random.below(4) as u64;
+    (kind << 62 | ticks).to_le_bytes()
 }
 
 /// The largest whole part or one that differs from it in a digit, or any.

@@ -1,6 +1,7 @@
 //! Makes small lists from a seed, packs one list in many ways, and damages
 //! streams.
 
+use crate::reader::LAST_TICK;
 use crate::stream::{Member, Stream};
 
 /// Splitmix64: enough for choosing, and the same everywhere.
@@ -256,16 +257,20 @@ impl Maker<'_> {
             1 => vec![self.random.below(2) as u8],
             3 => self.random.pick(&CHARS).as_bytes().to_vec(),
             5 => Stream::default().text(self.random.pick(&DECIMALS)).0,
-            13 => {
-                let mut ticks = self.random.bytes(8);
-                ticks[7] = (self.random.below(3) as u8) << 6 | ticks[7] & 0x1F;
-                ticks
-            }
+            13 => self.date_time(),
             2 | 10 => self.random.bytes(1),
             7 | 14 => self.random.bytes(2),
             8 | 11 | 15 => self.random.bytes(4),
             _ => self.random.bytes(8),
         }
+    }
+
+    /// Any tick of the years 1 to 9999; the first and the last come often.
+    fn date_time(&mut self) -> Vec<u8> {
+        let any = self.random.draw() % (LAST_TICK + 1);
+        let ticks = self.random.pick(&[0, any, any, LAST_TICK]);
+        let kind = self.random.below(3) as u64;
+        (kind << 62 | ticks).to_le_bytes().to_vec()
     }
 }
 

@@ -4,7 +4,7 @@
 //! of the output and the outcome as in lists/expected.tsv, but `full` before a
 //! needed length and `unknown` where the copy was not noted.
 
-use crate::cases::{known, Case};
+use crate::cases::{from_hex, known, Case};
 
 const NOTED: &str = include_str!("../outside.tsv");
 
@@ -23,17 +23,12 @@ fn case(number: usize, line: &str) -> Option<Case> {
     };
     Some(Case {
         what: format!("outside {number}"),
-        stream: if hex == "-" { Vec::new() } else { bytes(hex)? },
+        stream: if hex == "-" { Vec::new() } else { from_hex(hex)? },
         words: words.parse().ok()?,
         room: Some(room.parse().ok()?),
         known: Some(known(outcome)?),
         is_list: false,
     })
-}
-
-fn bytes(hex: &str) -> Option<Vec<u8>> {
-    let byte = |at| u8::from_str_radix(hex.get(at..at + 2)?, 16).ok();
-    (0..hex.len()).step_by(2).map(byte).collect()
 }
 
 #[cfg(test)]
@@ -60,9 +55,9 @@ mod tests {
     }
 
     #[test]
-    fn all_558_have_the_outcome_noted() {
+    fn all_573_have_the_outcome_noted() {
         let cases = cases().unwrap();
-        assert_eq!(cases.len(), 558);
+        assert_eq!(cases.len(), 573);
         let mut unknown = 0;
         for (case, line) in cases.iter().zip(NOTED.lines()) {
             let (_, noted) = line.rsplit_once('\t').unwrap();
@@ -88,6 +83,6 @@ mod tests {
         let by_hand = by_hand::cases();
         let there =
             |case: &&by_hand::Case| noted.contains(&(case.stream.clone(), case.words, case.out));
-        assert_eq!((noted.len(), by_hand.iter().filter(there).count()), (558, 438));
+        assert_eq!((noted.len(), by_hand.iter().filter(there).count()), (573, 453));
     }
 }

@@ -181,7 +181,7 @@ mod tests {
 
     fn all() -> Vec<(Pair, Comparison)> {
         let with_answer = |pair| (found_pair(&pair).0, pair);
-        let made = pairs(7, 1_000, &generated(7, 2_000, &[])).into_iter();
+        let made = pairs(7, 2_000, &generated(7, 4_000, &[])).into_iter();
         made.map(with_answer).map(|(answer, pair)| (pair, answer)).collect()
     }
 

@@ -26,6 +26,8 @@ pub const STRING_ARRAY: u8 = 17;
 pub const MEMBER_VALUE: u8 = 32;
 
 const DECIMAL_TOP: &[u8] = b"79228162514264337593543950335";
+/// The ticks of a DateTime end with 9999-12-31 23:59:59.9999999.
+pub const LAST_TICK: u64 = 3_155_378_975_999_999_999;
 
 #[derive(Clone, Copy, PartialEq, Eq, Debug)]
 pub enum Reply {
@@ -303,11 +305,12 @@ fn judge(good: bool) -> Field<()> {
     }
 }
 
+/// Two bits of kind, then 62 bits of ticks without a sign.
 fn is_date_time(bytes: &[u8]) -> bool {
-    let top = bytes[7];
-    let kind = top >> 6;
-    let negative = top & 0x20 != 0;
-    kind < 3 && !negative
+    let bits = bytes.iter().rev().fold(0, |bits, &byte| bits << 8 | u64::from(byte));
+    let kind = bits >> 62;
+    let ticks = bits << 2 >> 2;
+    kind < 3 && ticks <= LAST_TICK
 }
 
 fn is_decimal(text: &[u8]) -> bool {

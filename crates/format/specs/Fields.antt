@@ -223,12 +223,23 @@ fields =
     ∷ gives (decimalOf 4 0x31324535) badValue
     ∷ gives (decimalOf 2 0x312D) badValue
     ∷ gives (decimalOf 0 0) badValue
-    ∷ gives (value 13 8 0xFFFFFFFFFFFFFF1F) (ends 8)
-    ∷ gives (value 13 8 0x0000000000000020) badValue
+    -- of each kind of DateTime the first tick, the last, one more, and the bits before the next kind; kind 3; bit 61 alone; a byte that is missing
+    ∷ gives (value 13 8 0x0000000000000000) (ends 8)
+    ∷ gives (value 13 8 0xFF3F37F47528CA2B) (ends 8)
+    ∷ gives (value 13 8 0x004037F47528CA2B) badValue
     ∷ gives (value 13 8 0xFFFFFFFFFFFFFF3F) badValue
-    ∷ gives (value 13 8 0xFFFFFFFFFFFFFF5F) (ends 8)
-    ∷ gives (value 13 8 0xFFFFFFFFFFFFFF9F) (ends 8)
+    ∷ gives (value 13 8 0x0000000000000040) (ends 8)
+    ∷ gives (value 13 8 0xFF3F37F47528CA6B) (ends 8)
+    ∷ gives (value 13 8 0x004037F47528CA6B) badValue
+    ∷ gives (value 13 8 0xFFFFFFFFFFFFFF7F) badValue
+    ∷ gives (value 13 8 0x0000000000000080) (ends 8)
+    ∷ gives (value 13 8 0xFF3F37F47528CAAB) (ends 8)
+    ∷ gives (value 13 8 0x004037F47528CAAB) badValue
+    ∷ gives (value 13 8 0xFFFFFFFFFFFFFFBF) badValue
     ∷ gives (value 13 8 0x00000000000000C0) badValue
+    ∷ gives (value 13 8 0xFF3F37F47528CAEB) badValue
+    ∷ gives (value 13 8 0x0000000000000020) (ends 8)
+    ∷ gives (value 13 7 0xFF3F37F47528CA) cutShort
     -- where a value ends, and where three items end, by code
     ∷ gives (each valueEnd codes) (0 ∷ 1 ∷ 0 ∷ 1 ∷ 0 ∷ 1 ∷ 0 ∷ 8 ∷ 0 ∷ 2 ∷ 0 ∷ 4 ∷ 0 ∷ 8 ∷ 0 ∷ 1 ∷ 0 ∷ 4 ∷ 0 ∷ 8 ∷ 0 ∷ 8 ∷ 0 ∷ 2 ∷ 0 ∷ 4 ∷ 0 ∷ 8 ∷ [])
     ∷ gives (each itemsEnd codes) (0 ∷ 3 ∷ 0 ∷ 3 ∷ 0 ∷ 3 ∷ 0 ∷ 24 ∷ 0 ∷ 6 ∷ 0 ∷ 12 ∷ 0 ∷ 24 ∷ 0 ∷ 3 ∷ 0 ∷ 12 ∷ 0 ∷ 24 ∷ 0 ∷ 24 ∷ 0 ∷ 6 ∷ 0 ∷ 12 ∷ 0 ∷ 24 ∷ [])

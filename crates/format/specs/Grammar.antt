@@ -31,12 +31,12 @@ pub record Name (t : List ℕ) : Type 0 where
   pub good : (cs : List ℕ) × Encodes cs t
   pub short : length t < 2147483648
 
--- the 64 bits of a DateTime (2.1.1.5): the kind in the top two, then ticks that are not negative as 62 signed bits
+-- the 64 bits of a DateTime (2.1.1.5; 02, (i)): a kind from 0 to 2 in the top two, then ticks without a sign, the last of which ends the year 9999
 pub record Moment (x : ℕ) : Type 0 where
   pub kind : ℕ
   pub ticks : ℕ
   pub kind-known : kind ≤ 2
-  pub no-sign : ticks < 2305843009213693952
+  pub ticks-known : ticks ≤ 3155378975999999999
   pub bits : x ≡ kind * 4611686018427387904 + ticks
 
 -- how many bytes a value of a code has whose every pattern is taken

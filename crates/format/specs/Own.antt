@@ -4,14 +4,14 @@ use mathlib.Core.Path.{_≡_, refl, sym, subst}
 use mathlib.Core.Logic.{_↔_}
 use mathlib.Core.Bool.{Bool, true, false, not, _&&_}
 use native.Mathlib.Omega.{arith}
-use lib.Dec.{ltb, eqb}
-use borrow.Author.Tests.{ltb-true, eqb-false, lt-ltb, ne-eqb, leb-false, lt-leb}
+use lib.Dec.{ltb, leb, eqb}
+use borrow.Author.Tests.{ltb-true, leb-true, eqb-false, lt-ltb, le-leb, ne-eqb, leb-false, lt-leb}
 use Rattle.format.specs.declared.PrimitiveCode.{PrimitiveCode}
 use Rattle.format.specs.declared.PrimitiveCode.the-variants as C
 use Rattle.format.specs.declared.SlotType.{SlotType}
 use Rattle.format.specs.declared.SlotType.the-variants as S
 use Rattle.format.specs.Numbers.{negative}
-use Rattle.format.specs.Values.{dateTime, sizeOf}
+use Rattle.format.specs.Values.{lastTick, dateTime, sizeOf}
 use Rattle.format.specs.Types.{positive, isPrimitive}
 use Rattle.format.specs.Grammar.{Positive, Moment, takesRecords, Sized, a-byte, an-sbyte, an-int16, a-uint16, an-int32, a-uint32, a-single, an-int64, a-uint64, a-double, a-time-span}
 
@@ -28,16 +28,16 @@ positive-exactly n = (go (eqb n 0) (negative n) refl refl, λ w. rw (ne-eqb n 0 
 
 -- for every number, also one of more than 64 bits: the machine takes it as a DateTime exactly when the grammar does
 pub moment-exactly : (x : ℕ) → (dateTime x ≡ true) ↔ Moment x
-moment-exactly x = (go (ltb (x / 4611686018427387904) 3) (ltb (x % 4611686018427387904) 2305843009213693952) refl refl, back)
+moment-exactly x = (go (ltb (x / 4611686018427387904) 3) (leb (x % 4611686018427387904) lastTick) refl refl, back)
   where
     back : Moment x → dateTime x ≡ true
-    back w = rw (lt-ltb (x / 4611686018427387904) 3 (omega arith), lt-ltb (x % 4611686018427387904) 2305843009213693952 (omega arith))
+    back w = rw (lt-ltb (x / 4611686018427387904) 3 (omega arith), le-leb (x % 4611686018427387904) lastTick (omega arith))
 
-    go : (a b : Bool) → ltb (x / 4611686018427387904) 3 ≡ a → ltb (x % 4611686018427387904) 2305843009213693952 ≡ b → (a && b) ≡ true → Moment x
+    go : (a b : Bool) → ltb (x / 4611686018427387904) 3 ≡ a → leb (x % 4611686018427387904) lastTick ≡ b → (a && b) ≡ true → Moment x
     go true true e h q =
         let k = ltb-true (x / 4611686018427387904) 3 e in
-        let t = ltb-true (x % 4611686018427387904) 2305843009213693952 h in
-        record { kind = x / 4611686018427387904; ticks = x % 4611686018427387904; kind-known = omega arith; no-sign = t; bits = omega arith }
+        let t = leb-true (x % 4611686018427387904) lastTick h in
+        record { kind = x / 4611686018427387904; ticks = x % 4611686018427387904; kind-known = omega arith; ticks-known = t; bits = omega arith }
     go true false e h q = absurd (let z : _≡_ {A = ℕ} 0 1 = cc in omega arith)
     go false b e h q = absurd (let z : _≡_ {A = ℕ} 0 1 = cc in omega arith)
 

@@ -96,10 +96,14 @@ decimalFrom s (P.Fault f) = F.Fault f
 unfoldable pub decimalAt : List ℕ → ℕ → Field
 decimalAt s at = decimalFrom s (prefixAt s at)
 
--- ---- DateTime (2.1.1.5): the top two bits are the kind, 0 to 2; the low 62 bits are signed ticks, not negative
+-- ---- DateTime (2.1.1.5; 02, (i)): the top two bits are the kind, 0 to 2; the low 62 bits are ticks without a sign, up to the last of the year 9999
+
+-- 9999-12-31 23:59:59.9999999
+abbrev pub lastTick : ℕ
+lastTick = 3155378975999999999
 
 abbrev pub dateTime : ℕ → Bool
-dateTime x = ltb (x / 4611686018427387904) 3 && ltb (x % 4611686018427387904) 2305843009213693952
+dateTime x = ltb (x / 4611686018427387904) 3 && leb (x % 4611686018427387904) lastTick
 
 abbrev pub dateTimeOf : Number64 → Field
 dateTimeOf (N64.Value x next) = pick (dateTime x) (F.End next) (F.Fault R.BadValue)

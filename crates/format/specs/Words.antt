@@ -1,10 +1,12 @@
--- Worked facts of the grammar's words, on either side of each bound: scalar values and their bytes, the digits of a Decimal and its range.
-use Prim.Native.Nat.{ℕ}
+-- Worked facts of the grammar's words, on either side of each bound: scalar values and their bytes, the digits of a Decimal and its range, the ticks of
+-- a DateTime.
+use Prim.Native.Nat.{ℕ, _+_, _*_, _%_, _≤_, _<_}
 use mathlib.Core.Path.{_≡_, refl}
 use mathlib.Core.List.{List, [], _∷_}
 use native.Mathlib.Omega.{arith}
 use Rattle.format.specs.Unicode.{Scalar, encode}
 use Rattle.format.specs.Decimals.{valueOf, written, Each, Digits, minus, point, InRange, Decimal}
+use Rattle.format.specs.Grammar.{Moment}
 
 -- ---- text
 
@@ -65,3 +67,41 @@ half =
       text = refl;
       range = omega arith;
     }
+
+-- ---- DateTime
+
+dated : (kind ticks : ℕ) → kind ≤ 2 → ticks ≤ 3155378975999999999 → Moment (kind * 4611686018427387904 + ticks)
+dated kind ticks k t = record { kind = kind; ticks = ticks; kind-known = k; ticks-known = t; bits = refl }
+
+past : (x : ℕ) → 3155378975999999999 < x % 4611686018427387904 → Moment x → ⊥
+past x h w = omega (arith, w .kind-known, w .ticks-known, w .bits)
+
+-- the first tick and the last one of each kind; and one that is negative to who reads 62 signed bits
+pub moments : Moment 0 × Moment 3155378975999999999
+    × Moment 0x4000000000000000 × Moment 0x6BCA2875F4373FFF
+    × Moment 0x8000000000000000 × Moment 0xABCA2875F4373FFF
+    × Moment 0x2000000000000000
+moments = (
+  dated 0 0 (omega arith) (omega arith),
+  dated 0 3155378975999999999 (omega arith) (omega arith),
+  dated 1 0 (omega arith) (omega arith),
+  dated 1 3155378975999999999 (omega arith) (omega arith),
+  dated 2 0 (omega arith) (omega arith),
+  dated 2 3155378975999999999 (omega arith) (omega arith),
+  dated 0 0x2000000000000000 (omega arith) (omega arith),
+)
+
+-- one tick more than the last, one less than the first of the next kind, and nothing of kind 3
+pub no-moments : (Moment 3155378976000000000 → ⊥) × (Moment 0x3FFFFFFFFFFFFFFF → ⊥)
+    × (Moment 0x6BCA2875F4374000 → ⊥) × (Moment 0x7FFFFFFFFFFFFFFF → ⊥)
+    × (Moment 0xABCA2875F4374000 → ⊥) × (Moment 0xBFFFFFFFFFFFFFFF → ⊥)
+    × (Moment 0xC000000000000000 → ⊥)
+no-moments = (
+  past 3155378976000000000 (omega arith),
+  past 0x3FFFFFFFFFFFFFFF (omega arith),
+  past 0x6BCA2875F4374000 (omega arith),
+  past 0x7FFFFFFFFFFFFFFF (omega arith),
+  past 0xABCA2875F4374000 (omega arith),
+  past 0xBFFFFFFFFFFFFFFF (omega arith),
+  λ w. omega (arith, w .kind-known, w .ticks-known, w .bits),
+)

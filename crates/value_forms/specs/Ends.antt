@@ -15,7 +15,7 @@ use Rattle.format.specs.Bytes.{part}
 use Rattle.format.specs.Text.{needOf, wellFormed}
 use Rattle.format.specs.declared.Number64.the-variants as N64
 use Rattle.format.specs.Numbers.{u64At}
-use Rattle.format.specs.Values.{bytesAt, booleanAt, scalarAt, charAt, decimal, decimalText, dateTimeAt, sizeOf, valueAt, times, itemsAt}
+use Rattle.format.specs.Values.{bytesAt, booleanAt, scalarAt, charAt, decimal, decimalText, lastTick, dateTimeAt, sizeOf, valueAt, times, itemsAt}
 use Rattle.fields.specs.Judged.{judgedAt, judged-short, judged-good, judged-bad}
 
 module _ (s : List ℕ) (p : ℕ) where
@@ -91,13 +91,13 @@ module _ (s : List ℕ) (p : ℕ) where
     unfolding dateTimeAt
     date-kind k = rw (h, le-ltb (x / 4611686018427387904) 3 k)
 
-    pub date-ticks : x / 4611686018427387904 < 3 → 2305843009213693952 ≤ x % 4611686018427387904 → dateTimeAt s p ≡ F.Fault R.BadValue
+    pub date-ticks : x / 4611686018427387904 < 3 → lastTick < x % 4611686018427387904 → dateTimeAt s p ≡ F.Fault R.BadValue
     unfolding dateTimeAt
-    date-ticks k t = rw h (simp (lt-ltb, le-ltb))
+    date-ticks k t = rw h (simp (lt-ltb, lt-leb))
 
-    pub date-end : x / 4611686018427387904 < 3 → x % 4611686018427387904 < 2305843009213693952 → dateTimeAt s p ≡ F.End e
+    pub date-end : x / 4611686018427387904 < 3 → x % 4611686018427387904 ≤ lastTick → dateTimeAt s p ≡ F.End e
     unfolding dateTimeAt
-    date-end k t = rw h (simp lt-ltb)
+    date-end k t = rw h (simp (lt-ltb, le-leb))
 
 -- ---- values of a fixed size
 

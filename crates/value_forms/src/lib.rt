@@ -90,7 +90,7 @@ pub fn decimal_at(s: &[u8], at: usize) -> Field
     }
 }
 
-// The kind is 0 to 2 and the ticks are not negative; no other pattern is judged.
+// The kind is 0 to 2; the ticks have no sign and end with the last one of the year 9999.
 pub fn date_time_at(s: &[u8], at: usize) -> Field
     ensures { λ r. ⌜ r ≡ dateTimeAt (now (s .entry)) at ⌝ }
 {
@@ -99,7 +99,7 @@ pub fn date_time_at(s: &[u8], at: usize) -> Field
             if x / 4611686018427387904 >= 3 {
                 return Field::Fault(Refusal::BadValue);
             }
-            if x % 4611686018427387904 >= 2305843009213693952 {
+            if x % 4611686018427387904 > 3155378975999999999 {
                 return Field::Fault(Refusal::BadValue);
             }
             Field::End(next)

@@ -8,6 +8,9 @@ pub type Field<T> = Result<T, Reply>;
 /// The greatest Decimal.
 const DECIMAL_TOP: u128 = (1 << 96) - 1;
 
+/// The ticks of the years 1 to 9999: so many days, each with its ticks.
+const TICKS: u64 = 3_652_059 * 864_000_000_000;
+
 pub struct Cursor<'a> {
     rest: &'a [u8],
     bytes: usize,
@@ -183,9 +186,10 @@ fn judge(is_good: bool) -> Field<()> {
     }
 }
 
-/// The top two bits are the kind, the next is the sign of the ticks.
+/// The kind is 0 to 2, and below it is a tick of the years 1 to 9999.
 fn is_date_time(bytes: &[u8; 8]) -> bool {
-    bytes[7] < 0xC0 && bytes[7] & 0x20 == 0
+    let bits = u64::from_le_bytes(*bytes);
+    bits < 3 << 62 && bits & (u64::MAX >> 2) < TICKS
 }
 
 fn is_decimal(text: &[u8]) -> bool {
