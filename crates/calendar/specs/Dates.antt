@@ -45,12 +45,12 @@ known = (refl, refl, refl)
 -- ---- sums
 
 module _ (f : ℕ → ℕ) where
-  total-more : (n : ℕ) → 1 ≤ n → total f n ≡ total f (n - 1) + f n
+  pub total-more : (n : ℕ) → 1 ≤ n → total f n ≡ total f (n - 1) + f n
   unfolding total
   total-more zero h = absurd (omega arith)
   total-more (suc n) h = let d : suc n - 1 ≡ n = omega arith in rw d
 
-  total-grows : (a b : ℕ) → a ≤ b → total f a ≤ total f b
+  pub total-grows : (a b : ℕ) → a ≤ b → total f a ≤ total f b
   unfolding total
   total-grows a zero h = let e : a ≡ 0 = omega arith in rw e (omega arith)
   total-grows a (suc b) h = go (total-grows a b) (decLe a b)
@@ -179,7 +179,7 @@ date-of-ticks ticks h = date-of-day (ticks / 864000000000) (omega arith)
 
 -- ---- no two dates have the same number
 
-within-year : (d : Date) → IsDate d → total (daysOfMonth (d .year)) (d .month - 1) + (d .day - 1) < daysOfYear (d .year)
+pub within-year : (d : Date) → IsDate d → total (daysOfMonth (d .year)) (d .month - 1) + (d .day - 1) < daysOfYear (d .year)
 within-year d i =
     omega (
       arith,
@@ -216,13 +216,20 @@ date-again d i h = let o = date-of-day (daysBefore d) h in one-date (dateOf (day
 
 -- ---- the time of day
 
--- the time of day is one, and has the ticks that are no whole day
-pub record ClockOf (n : ℕ) (c : Clock) : Type 0 where
+pub record IsClock (c : Clock) : Type 0 where
   pub hours-most : c .hours < 24
   pub minutes-most : c .minutes < 60
   pub seconds-most : c .seconds < 60
   pub ticks-most : c .ticks < 10000000
-  pub number : 36000000000 * c .hours + 600000000 * c .minutes + 10000000 * c .seconds + c .ticks ≡ n % 864000000000
+
+-- the ticks of a day before a time of it
+abbrev pub ticksBefore : Clock → ℕ
+ticksBefore c = 36000000000 * c .hours + 600000000 * c .minutes + 10000000 * c .seconds + c .ticks
+
+-- the time of day is one, and has the ticks that are no whole day
+pub record ClockOf (n : ℕ) (c : Clock) : Type 0 where
+  pub is-clock : IsClock c
+  pub number : ticksBefore c ≡ n % 864000000000
 
 -- f units of d, and what is no whole unit
 units : (n d f : ℕ) → d * (n / d % f) + n % d ≡ n % (d * f)
@@ -234,10 +241,7 @@ units n d f =
 pub clock-of-ticks : (n : ℕ) → ClockOf n (clockOf n)
 unfolding clockOf
 clock-of-ticks n = record {
-  hours-most = omega arith;
-  minutes-most = omega arith;
-  seconds-most = omega arith;
-  ticks-most = omega arith;
+  is-clock = record { hours-most = omega arith; minutes-most = omega arith; seconds-most = omega arith; ticks-most = omega arith };
   number = let s : 10000000 * (n / 10000000 % 60) + n % 10000000 ≡ n % 600000000 = units n 10000000 60 in
       let m : 600000000 * (n / 600000000 % 60) + n % 600000000 ≡ n % 36000000000 = units n 600000000 60 in
       let h : 36000000000 * (n / 36000000000 % 24) + n % 36000000000 ≡ n % 864000000000 = units n 36000000000 24 in
