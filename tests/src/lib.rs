@@ -5,6 +5,7 @@
 pub mod asked;
 pub mod by_hand;
 pub mod cases;
+pub mod changes;
 pub mod corpus;
 pub mod fast;
 pub mod generate;

@@ -1,4 +1,5 @@
-//! `against RUN.. [--seed N] [--count N] [--lists FOLDER] [--linked PROGRAM]`:
+//! `against RUN.. [--seed N] [--count N] [--lists FOLDER] [--changes FOLDER]
+//! [--linked PROGRAM]`:
 //! compares the proved jobs with the independent ones, stream by stream:
 //! answer, place or length, every word of the table and every byte of the
 //! output; and the fast ones with the independent ones, on the same. RUN with
@@ -7,6 +8,7 @@
 
 use independent_reader::asked::{ask, Asked};
 use independent_reader::cases::{self, Case};
+use independent_reader::changes;
 use independent_reader::corpus::{copy_note, rows_hash};
 use independent_reader::generate::Random;
 use independent_reader::large::large;
@@ -22,7 +24,8 @@ use std::collections::HashMap;
 use std::path::PathBuf;
 use std::process::ExitCode;
 
-const USAGE: &str = "against RUN.. [--seed N] [--count N] [--lists FOLDER] [--linked PROGRAM]";
+const USAGE: &str =
+    "against RUN.. [--seed N] [--count N] [--lists FOLDER] [--changes FOLDER] [--linked PROGRAM]";
 const USUAL_SEED: u64 = 1;
 const USUAL_COUNT: usize = 20_000;
 
@@ -61,18 +64,19 @@ fn main() -> ExitCode {
 fn compare_all() -> Result<usize, String> {
     let wishes = Wishes::from(std::env::args().skip(1))?;
     let lists = wishes.lists()?;
-    let (by_hand, outside) = (cases::by_hand(), outside::cases()?);
-    let (hand, noted, real) = (by_hand.len(), outside.len(), lists.len());
+    let (by_hand, outside, changes) = (cases::by_hand(), outside::cases()?, wishes.changes()?);
+    let (hand, noted, changed, real) = (by_hand.len(), outside.len(), changes.len(), lists.len());
     let large = if wishes.linked.is_some() { large(&lists) } else { Vec::new() };
     println!(
-        "seed {}: {} generated streams, {hand} by hand, {noted} with outcomes noted, {real} lists, {} large ones",
+        "seed {}: {} generated streams, {hand} by hand, {noted} with outcomes noted, {changed} of changes, {real} lists, {} large ones",
         wishes.seed,
         wishes.count,
         large.len()
     );
     let mut report = Report::default();
-    let not_made = by_hand.into_iter().chain(outside).chain(lists.clone());
-    wishes.compare_batch(wishes.seed, [0, hand + noted + real], not_made, &mut report)?;
+    let not_made = by_hand.into_iter().chain(outside).chain(changes).chain(lists.clone());
+    let pairs = hand + noted + changed + real;
+    wishes.compare_batch(wishes.seed, [0, pairs], not_made, &mut report)?;
     let mut seeds = Random::new(wishes.seed);
     let mut seed = wishes.seed;
     for first in (0..wishes.count).step_by(BATCH) {
@@ -92,18 +96,20 @@ struct Wishes {
     seed: u64,
     count: usize,
     lists: Option<PathBuf>,
+    changes: Option<PathBuf>,
     linked: Option<String>,
 }
 
 impl Wishes {
     fn from(mut words: impl Iterator<Item = String>) -> Result<Wishes, String> {
         let (run, seed, count) = (Vec::new(), USUAL_SEED, USUAL_COUNT);
-        let mut wishes = Wishes { run, seed, count, lists: None, linked: None };
+        let mut wishes = Wishes { run, seed, count, lists: None, changes: None, linked: None };
         while let Some(word) = words.next() {
             match word.as_str() {
                 "--seed" => wishes.seed = number(words.next())?,
                 "--count" => wishes.count = number(words.next())?,
                 "--lists" => wishes.lists = Some(words.next().ok_or(USAGE)?.into()),
+                "--changes" => wishes.changes = Some(words.next().ok_or(USAGE)?.into()),
                 "--linked" => wishes.linked = Some(words.next().ok_or(USAGE)?),
                 _ => wishes.run.push(word),
             }
@@ -116,6 +122,10 @@ impl Wishes {
 
     fn lists(&self) -> Result<Vec<Case>, String> {
         self.lists.as_ref().map_or(Ok(Vec::new()), |folder| cases::lists(folder))
+    }
+
+    fn changes(&self) -> Result<Vec<Case>, String> {
+        self.changes.as_ref().map_or(Ok(Vec::new()), |folder| changes::cases(folder))
     }
 
     fn program(&self, name: &str) -> Vec<String> {
