@@ -11,7 +11,7 @@ use std::path::Path;
 const LISTING: &str = "listing (room for 1,024 rows):\n";
 const COPY: &str = "tidy (hex):\n";
 
-/// Every case whose job is the listing and the tidy copy.
+/// Another job than the listing with the tidy copy, or a switch, is an error.
 pub fn cases(folder: &Path) -> Result<Vec<Case>, String> {
     let manifest = text(folder, "manifest.tsv")?;
     manifest.lines().map(|line| case(folder, line)).collect()

@@ -1,7 +1,7 @@
 -- What a DateTime's range is in dates (2.1.1.5; 02, (i)): the bits that the grammar takes are those of a kind, a date of the years 1 to 9999 and a time
 -- of day, and these are the date and the time that are shown.
 use Prim.Native.Nat.{ℕ, _+_, _-_, _*_, _/_, _%_, _≤_, _<_}
-use mathlib.Core.Path.{_≡_, refl, sym, ap, _∙_}
+use mathlib.Core.Path.{_≡_, refl}
 use mathlib.Core.Logic.{_↔_}
 use native.Mathlib.Omega.{arith}
 use native.Mathlib.Decide.{decLe}
@@ -117,7 +117,7 @@ dated-shown x w = record {
 
 -- ---- the two ends
 
--- the first tick and the last one: midnight before the 1st of January of the year 1, and 9999-12-31 23:59:59.9999999
+-- the first tick and the last one: the midnight with which the year 1 begins, and 9999-12-31 23:59:59.9999999
 pub first-moment : Dated 0
 unfolding total daysOfMonth leapYear
 first-moment = record {
