@@ -1,12 +1,11 @@
-// Well-formed UTF-8 (Unicode, table 3-7), a byte at a time, and text of a known length at a place.
+// Well-formed UTF-8 (Unicode 5.0, table 3-7), a scalar at a time, and text of a known length at a place.
 use format::Field;
 use format::Refusal;
-use format::Utf8;
 ghost use mathlib.Core.Path.{_≡_};
-ghost use Prim.Native.Nat.{_≤_};
+ghost use Prim.Native.Nat.{_<_};
 ghost use lib.ListN.{length};
-ghost use Rattle.format.specs.Text.{needOf, loOf, hiOf, between, leadOf, stepOf, wellFormed, textAt};
-ghost use Rattle.text.specs.Run.{runFrom};
+ghost use Rattle.format.specs.Text.{needOf, wellFormed, textAt};
+ghost use Rattle.text.specs.Scalars.{hasAt, widthOf, widthAt};
 
 // How many bytes follow a first byte; 4 for a byte that is none.
 pub fn need_of(b: u8) -> u8
@@ -19,7 +18,7 @@ pub fn need_of(b: u8) -> u8
         return 4;
     }
     if b < 0xE0 {
-        return 1;
+        return 1; // row 1
     }
     if b < 0xF0 {
         return 2;
@@ -30,108 +29,107 @@ pub fn need_of(b: u8) -> u8
     4
 }
 
-// The least second byte after a first byte.
-fn lo_of(b: u8) -> u8
-    ensures { λ r. ⌜ r ≡ loOf b ⌝ }
+// Whether s has a byte at i, from lo to hi.
+fn has(s: &[u8], i: usize, lo: u8, hi: u8) -> bool
+    ensures { λ r. ⌜ r ≡ hasAt (now (s .entry)) i lo hi ⌝ }
 {
-    if b == 0xE0 {
-        return 0xA0;
+    if s.len() <= i {
+        return false;
     }
-    if b == 0xF0 {
-        return 0x90;
+    let b = s[i];
+    if b < lo {
+        return false;
     }
-    0x80
+    b <= hi
 }
 
-// The greatest second byte after a first byte.
-fn hi_of(b: u8) -> u8
-    ensures { λ r. ⌜ r ≡ hiOf b ⌝ }
+// 2 where the first byte at i is followed by a second from lo to hi, else 0.
+fn two(s: &[u8], i: usize, lo: u8, hi: u8) -> usize
+    requires { ⌜ i < length (now s) ⌝ }
+    ensures { λ r. ⌜ r ≡ widthOf (now (s .entry)) i 1 lo hi ⌝ }
 {
-    if b == 0xED {
-        return 0x9F;
+    if has(s, i + 1, lo, hi) {
+        return 2;
     }
-    if b == 0xF4 {
-        return 0x8F;
-    }
-    0xBF
+    0
 }
 
-// The state after a first byte; beyond mending where the byte is none.
-fn lead(b: u8) -> Utf8
-    ensures { λ r. ⌜ r ≡ leadOf b ⌝ }
+// 3 where the first byte at i is followed by a second from lo to hi and a third from 80 to BF, else 0.
+fn three(s: &[u8], i: usize, lo: u8, hi: u8) -> usize
+    requires { ⌜ i < length (now s) ⌝ }
+    ensures { λ r. ⌜ r ≡ widthOf (now (s .entry)) i 2 lo hi ⌝ }
 {
-    let need = need_of(b);
-    if need == 4 {
-        return Utf8 {
-            need: 4,
-            lo: 255,
-            hi: 0,
-        };
-    }
-    let lo = lo_of(b);
-    let hi = hi_of(b);
-    Utf8 { need, lo, hi }
-}
-
-// The state after one more byte. What is beyond mending stays so: no byte lies in its empty range.
-fn step(st: Utf8, b: u8) -> Utf8
-    ensures { λ r. ⌜ r ≡ stepOf st b ⌝ }
-{
-    let need = st.need;
-    if need == 0 {
-        return lead(b);
-    }
-    if b < st.lo {
-        return Utf8 {
-            need: 4,
-            lo: 255,
-            hi: 0,
-        };
-    }
-    if st.hi < b {
-        return Utf8 {
-            need: 4,
-            lo: 255,
-            hi: 0,
-        };
-    }
-    Utf8 {
-        need: need - 1,
-        lo: 0x80,
-        hi: 0xBF,
-    }
-}
-
-// How many bytes below 0x80 s begins with: each is a scalar by itself.
-fn plain(s: &[u8]) -> usize
-    ensures { λ r. ⌜ (r ≤ length (now (s .entry))) × (runFrom between (now (s .entry)) 0 ≡ runFrom between (now (s .entry)) r) ⌝ }
-{
-    let mut n: usize = 0;
-    while n < s.len() {
-        if s[n] >= 0x80 {
-            return n;
+    if has(s, i + 1, lo, hi) {
+        if has(s, i + 2, 0x80, 0xBF) {
+            return 3;
         }
-        n += 1;
     }
-    n
+    0
+}
+
+// 4 where the first byte at i is followed by a second from lo to hi, and a third and a fourth from 80 to BF, else 0.
+fn four(s: &[u8], i: usize, lo: u8, hi: u8) -> usize
+    requires { ⌜ i < length (now s) ⌝ }
+    ensures { λ r. ⌜ r ≡ widthOf (now (s .entry)) i 3 lo hi ⌝ }
+{
+    if has(s, i + 1, lo, hi) {
+        if has(s, i + 2, 0x80, 0xBF) {
+            if has(s, i + 3, 0x80, 0xBF) {
+                return 4;
+            }
+        }
+    }
+    0
+}
+
+// How many bytes the scalar at i has; 0 where none stands there. The rows of the table are asked in its order, each by its first byte; one byte is in
+// one row at most.
+//
+//     Unicode 5.0, table 3-7: well-formed UTF-8
+//     row  code points         first   second  third   fourth
+//     1    U+0000..U+007F      00..7F
+//     2    U+0080..U+07FF      C2..DF  80..BF
+//     3    U+0800..U+0FFF      E0      A0..BF  80..BF
+//     4    U+1000..U+CFFF      E1..EC  80..BF  80..BF
+//     5    U+D000..U+D7FF      ED      80..9F  80..BF
+//     6    U+E000..U+FFFF      EE..EF  80..BF  80..BF
+//     7    U+10000..U+3FFFF    F0      90..BF  80..BF  80..BF
+//     8    U+40000..U+FFFFF    F1..F3  80..BF  80..BF  80..BF
+//     9    U+100000..U+10FFFF  F4      80..8F  80..BF  80..BF
+fn width_at(s: &[u8], i: usize) -> usize
+    requires { ⌜ i < length (now s) ⌝ }
+    ensures { λ r. ⌜ r ≡ widthAt (now (s .entry)) i ⌝ }
+{
+    let first = s[i];
+    if first <= 0x7F {
+        return 1; // row 1
+    }
+    match first {
+        0xC2..=0xDF => two(s, i, 0x80, 0xBF), // row 2
+        0xE0 => three(s, i, 0xA0, 0xBF), // row 3
+        0xE1..=0xEC => three(s, i, 0x80, 0xBF), // row 4
+        0xED => three(s, i, 0x80, 0x9F), // row 5
+        0xEE..=0xEF => three(s, i, 0x80, 0xBF), // row 6
+        0xF0 => four(s, i, 0x90, 0xBF), // row 7
+        0xF1..=0xF3 => four(s, i, 0x80, 0xBF), // row 8
+        0xF4 => four(s, i, 0x80, 0x8F), // row 9
+        _ => 0,
+    }
 }
 
 // Whether all of s is text; a scalar that s breaks off is not.
 pub fn well_formed(s: &[u8]) -> bool
     ensures { λ r. ⌜ r ≡ wellFormed (now (s .entry)) ⌝ }
 {
-    let mut st = Utf8 {
-        need: 0,
-        lo: 0x80,
-        hi: 0xBF,
-    };
-    let mut i: usize = plain(s);
+    let mut i: usize = 0;
     while i < s.len() {
-        st = step(st, s[i]);
-        i += 1;
+        let n = width_at(s, i);
+        if n == 0 {
+            return false;
+        }
+        i += n;
     }
-    let need = st.need;
-    need == 0
+    true
 }
 
 // The n bytes of text at a place: bytes that are missing go before bad text.

@@ -7,7 +7,7 @@ use lib.Dec.{eqb}
 use Rattle.format.specs.Bytes.{pick}
 use Rattle.format.specs.Text.{loOf, hiOf, leadOf, broken, between, stepOf, after}
 use Rattle.format.specs.Unicode.{Scalar, fromThree, fromFour, encode}
-use Rattle.utf8.specs.Steps.{waits, by-lead, by-second, begins, not-broken, has-next}
+use Rattle.text.specs.Steps.{waits, by-lead, by-second, begins, not-broken, has-next}
 use Rattle.utf8.specs.Widths.{Tail, sumTwo, sumThree, sumFour, zeroTwo, zeroThree, zeroFour, one-byte, two-bytes, three-bytes, four-bytes}
 
 -- the scalar value, and what follows its bytes

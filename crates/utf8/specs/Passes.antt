@@ -7,7 +7,7 @@ use native.Mathlib.Decide.{decLt}
 use Rattle.format.specs.declared.Utf8.{Utf8}
 use Rattle.format.specs.Text.{needOf, loOf, hiOf, between, after}
 use Rattle.format.specs.Unicode.{Scalar, Scalars, fromThree, fromFour, encode, encoded}
-use Rattle.utf8.specs.Steps.{waits, by-second, need-none, need-one, need-two, need-three, lead, begins, along, next}
+use Rattle.text.specs.Steps.{waits, by-second, need-none, need-one, need-two, need-three, lead, begins, along, next}
 use Rattle.utf8.specs.Widths.{by-width, Tail, sumThree, sumFour, zeroThree, zeroFour}
 
 -- a second byte that its first allows

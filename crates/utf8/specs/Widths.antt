@@ -11,7 +11,7 @@ use Rattle.format.specs.Bytes.{pick}
 use Rattle.format.specs.Text.{needOf}
 use Rattle.fields.specs.Judged.{picked}
 use Rattle.format.specs.Unicode.{Scalar, one, two, three, four, fromTwo, fromThree, fromFour, encode}
-use Rattle.utf8.specs.Steps.{need-none, need-one, need-two, need-three}
+use Rattle.text.specs.Steps.{need-none, need-one, need-two, need-three}
 
 -- what holds of the bytes of each width
 pub by-width : (P : List ℕ → Type 0) (c : ℕ) → (c < fromTwo → P (one c)) → (fromTwo ≤ c → c < fromThree → P (two c))

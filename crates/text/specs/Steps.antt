@@ -88,7 +88,7 @@ break-on b = go (decLt b 255)
     go (yes h) = rw (lt-ltb b 255 h)
     go (no h) = rw (le-ltb b 255 (omega arith), lt-ltb 0 b (omega arith))
 
-stays-broken : (l : List ℕ) → after broken l ≡ broken
+pub stays-broken : (l : List ℕ) → after broken l ≡ broken
 unfolding after
 stays-broken [] = refl
 stays-broken (b ∷ l) = rw (break-on b) (stays-broken l)
@@ -106,11 +106,11 @@ pub record Next (k lo hi : ℕ) (l : List ℕ) : Type 0 where
   pub on : after (waits k 0x80 0xBF) rest .need ≡ 0
 
 module _ (k lo hi x : ℕ) where
-  too-low : x < lo → stepOf (waits (suc k) lo hi) x ≡ broken
+  pub too-low : x < lo → stepOf (waits (suc k) lo hi) x ≡ broken
   unfolding stepOf
   too-low h = rw (ne-eqb (suc k) 0 (omega arith), lt-ltb x lo h)
 
-  too-high : lo ≤ x → hi < x → stepOf (waits (suc k) lo hi) x ≡ broken
+  pub too-high : lo ≤ x → hi < x → stepOf (waits (suc k) lo hi) x ≡ broken
   unfolding stepOf
   too-high h g = rw (ne-eqb (suc k) 0 (omega arith), le-ltb x lo h, lt-ltb hi x g)
 
