@@ -448,27 +448,71 @@ fn prefixes() -> Vec<Case> {
     cases
 }
 
+/// Unicode 5.0, table 3-7: from where to where each byte of a scalar lies, row by row.
+const UTF8: [&[(u8, u8)]; 9] = [
+    &[(0x00, 0x7F)],
+    &[(0xC2, 0xDF), (0x80, 0xBF)],
+    &[(0xE0, 0xE0), (0xA0, 0xBF), (0x80, 0xBF)],
+    &[(0xE1, 0xEC), (0x80, 0xBF), (0x80, 0xBF)],
+    &[(0xED, 0xED), (0x80, 0x9F), (0x80, 0xBF)],
+    &[(0xEE, 0xEF), (0x80, 0xBF), (0x80, 0xBF)],
+    &[(0xF0, 0xF0), (0x90, 0xBF), (0x80, 0xBF), (0x80, 0xBF)],
+    &[(0xF1, 0xF3), (0x80, 0xBF), (0x80, 0xBF), (0x80, 0xBF)],
+    &[(0xF4, 0xF4), (0x80, 0x8F), (0x80, 0xBF), (0x80, 0xBF)],
+];
+
+/// One end of each column.
+fn ends(row: &[(u8, u8)], end: fn(&(u8, u8)) -> u8) -> Vec<u8> {
+    row.iter().map(end).collect()
+}
+
 fn texts() -> Vec<Case> {
     let string =
         |bytes: &[u8]| Stream::new().bytes(&[6]).int(1).bytes(&[bytes.len() as u8]).bytes(bytes);
-    let bad: [&[u8]; 11] = [
-        &[0xFF],
+    let mut cases = Vec::new();
+    for row in UTF8 {
+        let (least, most) = (ends(row, |column| column.0), ends(row, |column| column.1));
+        for bytes in [&least, &most] {
+            let stream = string(bytes).end();
+            let what = format!("text {bytes:02X?}");
+            cases.push(case(&what, stream.clone(), Accepted(3)).copied(stream));
+        }
+        for column in 1..row.len() {
+            let (mut below, mut above) = (least.clone(), most.clone());
+            below[column] -= 1;
+            above[column] += 1;
+            cases.push(case(&format!("text {below:02X?}"), string(&below).end(), Refused(8, 17)));
+            cases.push(case(&format!("text {above:02X?}"), string(&above).end(), Refused(8, 17)));
+        }
+        let cut = &most[..row.len() - 1];
+        if !cut.is_empty() {
+            cases.push(case(&format!("text {cut:02X?}"), string(cut).end(), Refused(8, 17)));
+        }
+    }
+    // First bytes that no row has, overlong forms, surrogates, code points that are none, and scalars cut by a letter and by the end.
+    let bad: [&[u8]; 17] = [
         &[0x80],
-        &[0xC3],
+        &[0xBF],
+        &[0xF5, 0x80, 0x80, 0x80],
+        &[0xFF],
         &[0xC0, 0x80],
+        &[0xC0, 0xAF],
+        &[0xC1, 0xBF],
         &[0xE0, 0x80, 0x80],
         &[0xE0, 0x9F, 0xBF],
-        &[0xED, 0xA0, 0x80],
-        &[0xF4, 0x90, 0x80, 0x80],
         &[0xF0, 0x80, 0x80, 0x80],
         &[0xF0, 0x8F, 0xBF, 0xBF],
+        &[0xED, 0xA0, 0x80],
+        &[0xED, 0xA0, 0xBD, 0xED, 0xB8, 0x80],
+        &[0xF4, 0x90, 0x80, 0x80],
+        &[0xC3],
         &[b'A', 0xE2, 0x82, b'A'],
+        &[0xD0, 0x96, 0xD0],
     ];
-    let mut cases: Vec<Case> = bad
-        .iter()
-        .map(|bytes| case(&format!("text {bytes:02X?}"), string(bytes).end(), Refused(8, 17)))
-        .collect();
-    for text in ["\0", "\u{ffff}", "\u{10000}", "\u{10ffff}", "\u{d7ff}\u{e000}", "\u{80}\u{800}"] {
+    for bytes in bad {
+        cases.push(case(&format!("text {bytes:02X?}"), string(bytes).end(), Refused(8, 17)));
+    }
+    for text in ["\u{e9}", "\u{80}\u{800}", "\u{d7ff}\u{e000}", "j\u{e9}\u{20ac}\u{1f600}"] {
         let stream = Stream::new().string(1, text).end();
         cases.push(case(&format!("text {text:?}"), stream.clone(), Accepted(3)).copied(stream));
     }

@@ -1,9 +1,12 @@
 //! The lists that are timed.
 
 use independent_reader::reader::{NULL, STREAM_LIMIT};
-use independent_reader::stream::Stream;
+use independent_reader::stream::{Member, Stream};
 
 const INT32: u8 = 8;
+
+/// The type byte of a member that is any object.
+const OBJECT: u8 = 2;
 
 /// The number of the first object in an array that is object 1.
 const FIRST_OBJECT: i32 = 2;
@@ -36,15 +39,29 @@ pub fn members(count: usize) -> Vec<u8> {
     (0..count).fold(start, fill).end().0
 }
 
-/// A string array full of part numbers. Every string is an object whose number
-/// is looked up.
+/// A string array full of part numbers.
 pub fn texts(count: usize) -> Vec<u8> {
+    strings(count, part)
+}
+
+/// A part number of 38 bytes.
+pub fn part(n: usize) -> String {
+    format!("gripper jaw {n:06}, hall 7, shelf {:04}", n % 9973)
+}
+
+/// A string array. Every string is an object whose number is looked up.
+pub fn strings(count: usize, text: impl Fn(usize) -> String) -> Vec<u8> {
     let start = Stream::new().strings(1, count as i32);
-    let fill = |stream: Stream, n: usize| {
-        let text = format!("gripper jaw {n:06}, hall 7, shelf {:04}", n % 9973);
-        stream.string(FIRST_OBJECT + n as i32, &text)
-    };
+    let fill = |stream: Stream, n: usize| stream.string(FIRST_OBJECT + n as i32, &text(n));
     (0..count).fold(start, fill).end().0
+}
+
+/// An object whose members have the texts for names, and no values. Nothing is
+/// looked up but its own number.
+pub fn names(count: usize, text: impl Fn(usize) -> String) -> Vec<u8> {
+    let names: Vec<String> = (0..count).map(text).collect();
+    let members: Vec<Member> = names.iter().map(|name| (&name[..], OBJECT, &[][..])).collect();
+    Stream::new().system(1, "Part", &members).long_nulls(count as i32).end().0
 }
 
 /// A string array whose first half holds short part numbers and whose second

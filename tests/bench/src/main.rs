@@ -2,7 +2,11 @@
 //! the fast ones of this folder, in one run on the same lists, and writes the
 //! tables of DOCS/BENCHMARKS.md and the picture DOCS/growth.svg. LIST is a real
 //! list; TAKEN says where and when.
+//!
+//! `bench beside DOCS TAKEN BEFORE AFTER`: times two builds of the proved jobs,
+//! shared objects, on lists of texts, and writes the table of texts.
 
+mod beside;
 mod document;
 mod growth;
 mod lists;
@@ -13,13 +17,19 @@ use growth::Series;
 use std::path::Path;
 use timing::{Subject, Times, MOST_TURNS, TIME_FOR_TURNS};
 
+const USE: &str = "bench DOCS LIST TAKEN, or bench beside DOCS TAKEN BEFORE AFTER";
+
 fn main() -> Result<(), String> {
     let words: Vec<String> = std::env::args().skip(1).collect();
-    let [docs, list, taken] = &words[..] else {
-        return Err("bench DOCS LIST TAKEN".to_string());
-    };
+    match &words.iter().map(String::as_str).collect::<Vec<_>>()[..] {
+        [docs, list, taken] => peers(Path::new(docs), list, taken),
+        ["beside", docs, taken, before, after] => builds(Path::new(docs), taken, [before, after]),
+        _ => Err(USE.to_string()),
+    }
+}
+
+fn peers(docs: &Path, list: &str, taken: &str) -> Result<(), String> {
     let real = std::fs::read(list).map_err(|error| format!("{list}: {error}"))?;
-    let docs = Path::new(docs);
     let mut page = document::Page::open(&docs.join("BENCHMARKS.md"))?;
     page.write("taken", &taken_line(taken))?;
     page.write("speed", &speed(real))?;
@@ -28,6 +38,14 @@ fn main() -> Result<(), String> {
     page.save()?;
     let drawn = picture::drawn(&series);
     std::fs::write(docs.join("growth.svg"), drawn).map_err(|error| error.to_string())
+}
+
+fn builds(docs: &Path, taken: &str, [before, after]: [&str; 2]) -> Result<(), String> {
+    let (before, after) = (beside::Library::open(before)?, beside::Library::open(after)?);
+    let mut page = document::Page::open(&docs.join("BENCHMARKS.md"))?;
+    let table = beside::table(&before, &after);
+    page.write("texts", &format!("{}\n{table}", taken_line(taken)))?;
+    page.save()
 }
 
 fn taken_line(taken: &str) -> String {

@@ -1,0 +1,150 @@
+//! Times two builds of the proved jobs beside each other on lists of texts, turn
+//! by turn in one run.
+
+use crate::lists;
+use crate::timing::{self, Turns};
+use independent_reader::reader::ROW_WORDS;
+use std::ffi::{c_char, c_int, c_void, CString};
+
+type Read = unsafe extern "C" fn(*const u8, usize, *mut u32, usize, *mut u64, *mut u64) -> u32;
+
+type TextView =
+    unsafe extern "C" fn(*const u8, usize, *const u32, usize, u64, *mut u64, *mut u64) -> u32;
+
+extern "C" {
+    fn dlopen(path: *const c_char, mode: c_int) -> *mut c_void;
+    fn dlsym(library: *mut c_void, name: *const c_char) -> *mut c_void;
+}
+
+/// All that a library needs is found as it is opened, and stays its own.
+const NOW_AND_LOCAL: c_int = 2;
+
+/// The jobs of one build, a shared object.
+pub struct Library {
+    read: Read,
+    text_view: TextView,
+}
+
+impl Library {
+    pub fn open(path: &str) -> Result<Library, String> {
+        let name = CString::new(path).map_err(|error| error.to_string())?;
+        let library = unsafe { dlopen(name.as_ptr(), NOW_AND_LOCAL) };
+        if library.is_null() {
+            return Err(format!("{path} does not open"));
+        }
+        let job = |name: &str| {
+            let known = CString::new(name).map_err(|error| error.to_string())?;
+            let job = unsafe { dlsym(library, known.as_ptr()) };
+            if job.is_null() {
+                Err(format!("{path} has no {name}"))
+            } else {
+                Ok(job)
+            }
+        };
+        // The C forms, as strelinga.h has them.
+        let read = unsafe { std::mem::transmute::<*mut c_void, Read>(job("strelinga_read")?) };
+        let text_view = job("strelinga_text_view")?;
+        let text_view = unsafe { std::mem::transmute::<*mut c_void, TextView>(text_view) };
+        Ok(Library { read, text_view })
+    }
+
+    /// The rows of a list.
+    fn read(&self, stream: &[u8], table: &mut [u32]) -> usize {
+        let (mut place, mut rows) = (0, 0);
+        let (start, words) = (table.as_mut_ptr(), table.len());
+        let number = unsafe {
+            (self.read)(stream.as_ptr(), stream.len(), start, words, &mut place, &mut rows)
+        };
+        assert_eq!(number, 0, "refused at {place}");
+        rows as usize
+    }
+
+    /// The bytes of the texts that a table's rows show.
+    fn viewed(&self, stream: &[u8], table: &[u32]) -> u64 {
+        let view = |row: usize| {
+            let (mut from, mut size) = (0, 0);
+            let (start, words) = (table.as_ptr(), table.len());
+            let (bytes, row) = (stream.len(), row as u64);
+            unsafe {
+                (self.text_view)(stream.as_ptr(), bytes, start, words, row, &mut from, &mut size)
+            };
+            size
+        };
+        (0..table.len() / ROW_WORDS).map(view).sum()
+    }
+}
+
+const TEXTS: usize = 20_000;
+
+type Text = fn(usize) -> String;
+
+/// Part numbers as they come, and texts whose scalars have two, three and four
+/// bytes each; 36 to 39 bytes.
+const KINDS: [(&str, Text); 5] = [
+    ("ASCII", lists::part),
+    ("Cyrillic letters", |n| scalars(0x410, 64, 19, n)),
+    ("Cyrillic words and digits", |n| format!("губка {n:06}, цех 7, стел {}", n % 10)),
+    ("three bytes each", |n| scalars(0x4E00, 2000, 13, n)),
+    ("four bytes each", |n| scalars(0x1F600, 64, 9, n)),
+];
+
+/// Scalars among the `count` from `first` on.
+fn scalars(first: u32, count: u32, length: u32, n: usize) -> String {
+    let scalar = |k: u32| char::from_u32(first + (n as u32 * 5 + k * 7) % count);
+    (0..length).map(|k| scalar(k).expect("a scalar value")).collect()
+}
+
+pub fn table(before: &Library, after: &Library) -> String {
+    let mut lines = String::from(
+        "| texts | job | before | after | after in before | before, ns a text | after, ns a text |\n\
+         |---|---|---:|---:|---:|---:|---:|\n",
+    );
+    for (kind, text) in KINDS {
+        eprintln!("{kind}");
+        let strings = lists::strings(TEXTS, text);
+        let names = lists::names(TEXTS, text);
+        let (mut one, mut other) = (filled(after, &strings), filled(after, &names));
+        let reading = turns(before, after, |library| library.read(&strings, &mut one) as u64);
+        lines += &line(kind, "read, each an object", reading);
+        let reading = turns(before, after, |library| library.read(&names, &mut other) as u64);
+        lines += &line(kind, "read, names of members", reading);
+        let viewing = turns(before, after, |library| library.viewed(&strings, &one));
+        lines += &line(kind, "text view of each", viewing);
+    }
+    lines
+}
+
+/// The table of a list, just large enough.
+fn filled(library: &Library, stream: &[u8]) -> Vec<u32> {
+    let mut table = vec![0; (TEXTS + 8) * ROW_WORDS];
+    let rows = library.read(stream, &mut table);
+    table.truncate(rows * ROW_WORDS);
+    table
+}
+
+/// The best turn of each, one after the other; what they answer is the same.
+fn turns(before: &Library, after: &Library, mut job: impl FnMut(&Library) -> u64) -> [f64; 2] {
+    let mut both = [Turns::default(), Turns::default()];
+    while both.iter().any(Turns::more) {
+        let answers = [before, after].map(|library| job(library));
+        assert_eq!(answers[0], answers[1], "the builds differ");
+        for (turns, library) in both.iter_mut().zip([before, after]) {
+            turns.turn(|| {
+                job(library);
+            });
+        }
+    }
+    both.map(|turns| turns.best)
+}
+
+fn line(kind: &str, job: &str, [before, after]: [f64; 2]) -> String {
+    let a_text = |seconds: f64| timing::short(seconds * 1e9 / TEXTS as f64);
+    format!(
+        "| {kind} | {job} | {} | {} | {:.2} | {} | {} |\n",
+        timing::shown(before),
+        timing::shown(after),
+        after / before,
+        a_text(before),
+        a_text(after)
+    )
+}
