@@ -1,6 +1,6 @@
 -- The rows of Unicode 5.0, table 3-7, as `format`'s definitions have them: how many bytes follow a first byte, and from where to where the next lies.
 use Prim.Native.Nat.{ℕ, suc, _+_, _≤_, _<_}
-use mathlib.Core.Path.{_≡_, refl, sym}
+use mathlib.Core.Path.{_≡_, refl}
 use mathlib.Core.List.{List}
 use native.Mathlib.Omega.{arith}
 use native.Mathlib.Numerals.{add-one}
@@ -23,6 +23,7 @@ module _ (b : ℕ) where
   unfolding loOf hiOf
   usual e (e0, (ed, (f0, f4))) = (e, (rw (ne-eqb b 0xE0 e0, ne-eqb b 0xF0 f0), rw (ne-eqb b 0xED ed, ne-eqb b 0xF4 f4)))
 
+  -- no byte follows, and the bounds are not looked at
   pub row-1 : b ≤ 0x7F → Row b 0 0x80 0xBF
   row-1 u = usual (need-none b (omega arith)) (omega arith)
 

@@ -7,28 +7,6 @@ ghost use lib.ListN.{length};
 ghost use Rattle.format.specs.Text.{needOf, wellFormed, textAt};
 ghost use Rattle.text.specs.Scalars.{hasAt, widthOf, widthAt};
 
-// How many bytes follow a first byte; 4 for a byte that is none.
-pub fn need_of(b: u8) -> u8
-    ensures { λ r. ⌜ r ≡ needOf b ⌝ }
-{
-    if b < 0x80 {
-        return 0;
-    }
-    if b < 0xC2 {
-        return 4;
-    }
-    if b < 0xE0 {
-        return 1; // row 1
-    }
-    if b < 0xF0 {
-        return 2;
-    }
-    if b < 0xF5 {
-        return 3;
-    }
-    4
-}
-
 // Whether s has a byte at i, from lo to hi.
 fn has(s: &[u8], i: usize, lo: u8, hi: u8) -> bool
     ensures { λ r. ⌜ r ≡ hasAt (now (s .entry)) i lo hi ⌝ }
@@ -82,8 +60,7 @@ fn four(s: &[u8], i: usize, lo: u8, hi: u8) -> usize
     0
 }
 
-// How many bytes the scalar at i has; 0 where none stands there. The rows of the table are asked in its order, each by its first byte; one byte is in
-// one row at most.
+// How many bytes the scalar at i has; 0 where none stands there. The rows stand in the order of the table; no first byte is in two of them.
 //
 //     Unicode 5.0, table 3-7: well-formed UTF-8
 //     row  code points         first   second  third   fourth
@@ -148,4 +125,26 @@ pub fn text_at(s: &[u8], at: usize, n: usize) -> Field
     } else {
         Field::Fault(Refusal::BadText)
     }
+}
+
+// How many bytes follow a first byte; 4 for a byte that is none. For the length of a Char; the text check does not ask it.
+pub fn need_of(b: u8) -> u8
+    ensures { λ r. ⌜ r ≡ needOf b ⌝ }
+{
+    if b < 0x80 {
+        return 0;
+    }
+    if b < 0xC2 {
+        return 4;
+    }
+    if b < 0xE0 {
+        return 1;
+    }
+    if b < 0xF0 {
+        return 2;
+    }
+    if b < 0xF5 {
+        return 3;
+    }
+    4
 }

@@ -1,5 +1,4 @@
 -- Each return is one case of `of-two`: what `has` ensures decides it.
-use mathlib.Core.Path.{sym, _∙_}
 use borrow.Author.Needs.{needs}
 use Rattle.text.specs.Scalars.{of-two}
 use Rattle.text.proofs.two.Statement.{statement}
