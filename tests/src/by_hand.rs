@@ -512,6 +512,15 @@ fn texts() -> Vec<Case> {
     for bytes in bad {
         cases.push(case(&format!("text {bytes:02X?}"), string(bytes).end(), Refused(8, 17)));
     }
+    // A byte by itself, and a scalar, at each place among letters that may be passed several at a time.
+    for place in 0..=8 {
+        let mut bytes = [b'j'; 9];
+        bytes[place] = 0x80;
+        cases.push(case(&format!("80 at {place}"), string(&bytes).end(), Refused(8, 17)));
+        let text = format!("{}\u{e9}{}", &"jjjjjjjj"[..place], &"jjjjjjjj"[place..]);
+        let stream = Stream::new().string(1, &text).end();
+        cases.push(case(&format!("text {text}"), stream.clone(), Accepted(3)).copied(stream));
+    }
     for text in ["\u{e9}", "\u{80}\u{800}", "\u{d7ff}\u{e000}", "j\u{e9}\u{20ac}\u{1f600}"] {
         let stream = Stream::new().string(1, text).end();
         cases.push(case(&format!("text {text:?}"), stream.clone(), Accepted(3)).copied(stream));

@@ -55,9 +55,9 @@ mod tests {
     }
 
     #[test]
-    fn all_639_have_the_outcome_noted() {
+    fn all_657_have_the_outcome_noted() {
         let cases = cases().unwrap();
-        assert_eq!(cases.len(), 639);
+        assert_eq!(cases.len(), 657);
         let mut unknown = 0;
         for (case, line) in cases.iter().zip(NOTED.lines()) {
             let (_, noted) = line.rsplit_once('\t').unwrap();
@@ -83,6 +83,6 @@ mod tests {
         let by_hand = by_hand::cases();
         let there =
             |case: &&by_hand::Case| noted.contains(&(case.stream.clone(), case.words, case.out));
-        assert_eq!((noted.len(), by_hand.iter().filter(there).count()), (639, 519));
+        assert_eq!((noted.len(), by_hand.iter().filter(there).count()), (657, 537));
     }
 }

@@ -17,7 +17,7 @@ use Rattle.fields.specs.Judged.{told, other}
 use Rattle.text.specs.Laws.{need-bound}
 use Rattle.text.specs.Steps.{waits, lead, begins, along, next, not-broken, has-next}
 use Rattle.text.specs.Scalars.{endsAt, widthAt}
-use Rattle.text.specs.Rows.{breaks-first, from-first}
+use Rattle.text.specs.Rows.{row-1, breaks-first, from-first, by-row-1}
 
 -- of the bytes that are waited for, as many as the first byte says are enough
 enough : (k lo hi : ℕ) (l : List ℕ) → after (waits k lo hi) l .need ≡ 0 → after (waits k lo hi) (take k l) .need ≡ 0
@@ -90,7 +90,20 @@ scalar-on s i n e z h =
     let v = goes-on s i h (decLt (needOf (getD s i 0)) 4) (eqb-true (after between (part s i w) .need) 0 (t .0)) in
     rw (← t .1) (v .0, ap (λ (m : ℕ). eqb m 0) (v .1))
 
--- without one
+-- after a byte of row 1, and after four
+plain-on : (s : List ℕ) (i : ℕ) → i < length s → getD s i 0 ≤ 0x7F → wellFormed (drop i s) ≡ wellFormed (drop (i + 1) s)
+plain-on s i h u = scalar-on s i 1 (by-row-1 s i h (row-1 (getD s i 0) u)) (omega arith) h .1
+
+pub plain-four : (s : List ℕ) (i : ℕ) → i + 4 ≤ length s → getD s i 0 ≤ 0x7F → getD s (i + 1) 0 ≤ 0x7F → getD s (i + 2) 0 ≤ 0x7F → getD s (i + 3) 0 ≤ 0x7F
+    → wellFormed (drop i s) ≡ wellFormed (drop (i + 4) s)
+plain-four s i h a b c d =
+    let two : i + 1 + 1 ≡ i + 2 = omega arith in
+    let three : i + 2 + 1 ≡ i + 3 = omega arith in
+    let four : i + 3 + 1 ≡ i + 4 = omega arith in
+    plain-on s i (omega arith) a
+    ∙ (rw two at (plain-on s (i + 1) (omega arith) b) ∙ (rw three at (plain-on s (i + 2) (omega arith) c) ∙ rw four at (plain-on s (i + 3) (omega arith) d)))
+
+-- without a scalar
 pub scalar-none : (s : List ℕ) (i n : ℕ) → n ≡ widthAt s i → n ≡ 0 → i < length s → wellFormed (drop i s) ≡ false
 unfolding widthAt endsAt wellFormed
 scalar-none s i n e z h =

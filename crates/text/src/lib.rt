@@ -2,8 +2,8 @@
 use format::Field;
 use format::Refusal;
 ghost use mathlib.Core.Path.{_≡_};
-ghost use Prim.Native.Nat.{_<_};
-ghost use lib.ListN.{length};
+ghost use Prim.Native.Nat.{_≤_, _<_};
+ghost use lib.ListN.{length, drop};
 ghost use Rattle.format.specs.Text.{needOf, wellFormed, textAt};
 ghost use Rattle.text.specs.Scalars.{hasAt, widthOf, widthAt};
 
@@ -78,10 +78,8 @@ fn width_at(s: &[u8], i: usize) -> usize
     ensures { λ r. ⌜ r ≡ widthAt (now (s .entry)) i ⌝ }
 {
     let first = s[i];
-    if first <= 0x7F {
-        return 1; // row 1
-    }
     match first {
+        0x00..=0x7F => 1, // row 1
         0xC2..=0xDF => two(s, i, 0x80, 0xBF), // row 2
         0xE0 => three(s, i, 0xA0, 0xBF), // row 3
         0xE1..=0xEC => three(s, i, 0x80, 0xBF), // row 4
@@ -94,11 +92,34 @@ fn width_at(s: &[u8], i: usize) -> usize
     }
 }
 
+// How many bytes of row 1 s begins with, counted in fours: most texts have hardly any others, and this is the quick way through them.
+fn plain(s: &[u8]) -> usize
+    ensures { λ r. ⌜ (r ≤ length (now (s .entry))) × (wellFormed (now (s .entry)) ≡ wellFormed (drop r (now (s .entry)))) ⌝ }
+{
+    let mut n: usize = 0;
+    while 4 <= s.len() - n {
+        if s[n] > 0x7F {
+            return n;
+        }
+        if s[n + 1] > 0x7F {
+            return n;
+        }
+        if s[n + 2] > 0x7F {
+            return n;
+        }
+        if s[n + 3] > 0x7F {
+            return n;
+        }
+        n += 4;
+    }
+    n
+}
+
 // Whether all of s is text; a scalar that s breaks off is not.
 pub fn well_formed(s: &[u8]) -> bool
     ensures { λ r. ⌜ r ≡ wellFormed (now (s .entry)) ⌝ }
 {
-    let mut i: usize = 0;
+    let mut i: usize = plain(s);
     while i < s.len() {
         let n = width_at(s, i);
         if n == 0 {

@@ -1,5 +1,7 @@
 //! Times two builds of the proved jobs beside each other on lists of texts, turn
-//! by turn in one run.
+//! by turn in one run. How fast a short loop is depends on where in memory it
+//! stands, so each build is there several times, laid out at other places, and
+//! its best turn counts.
 
 use crate::lists;
 use crate::timing::{self, Turns};
@@ -19,14 +21,36 @@ extern "C" {
 /// All that a library needs is found as it is opened, and stays its own.
 const NOW_AND_LOCAL: c_int = 2;
 
-/// The jobs of one build, a shared object.
-pub struct Library {
+/// One build, several times.
+pub struct Build(Vec<Library>);
+
+impl Build {
+    /// The shared objects of a folder.
+    pub fn open(folder: &str) -> Result<Build, String> {
+        let entries = std::fs::read_dir(folder).map_err(|error| format!("{folder}: {error}"))?;
+        let mut paths = Vec::new();
+        for entry in entries {
+            let path = entry.map_err(|error| error.to_string())?.path();
+            paths.push(path.to_str().ok_or(format!("{path:?} is no text"))?.to_string());
+        }
+        let libraries: Result<Vec<_>, _> = paths.iter().map(|path| Library::open(path)).collect();
+        let libraries = libraries?;
+        if libraries.is_empty() {
+            Err(format!("{folder} is empty"))
+        } else {
+            Ok(Build(libraries))
+        }
+    }
+}
+
+/// The jobs of a shared object.
+struct Library {
     read: Read,
     text_view: TextView,
 }
 
 impl Library {
-    pub fn open(path: &str) -> Result<Library, String> {
+    fn open(path: &str) -> Result<Library, String> {
         let name = CString::new(path).map_err(|error| error.to_string())?;
         let library = unsafe { dlopen(name.as_ptr(), NOW_AND_LOCAL) };
         if library.is_null() {
@@ -94,7 +118,7 @@ fn scalars(first: u32, count: u32, length: u32, n: usize) -> String {
     (0..length).map(|k| scalar(k).expect("a scalar value")).collect()
 }
 
-pub fn table(before: &Library, after: &Library) -> String {
+pub fn table(before: &Build, after: &Build) -> String {
     let mut lines = String::from(
         "| texts | job | before | after | after in before | before, ns a text | after, ns a text |\n\
          |---|---|---:|---:|---:|---:|---:|\n",
@@ -103,7 +127,7 @@ pub fn table(before: &Library, after: &Library) -> String {
         eprintln!("{kind}");
         let strings = lists::strings(TEXTS, text);
         let names = lists::names(TEXTS, text);
-        let (mut one, mut other) = (filled(after, &strings), filled(after, &names));
+        let (mut one, mut other) = (filled(&after.0[0], &strings), filled(&after.0[0], &names));
         let reading = turns(before, after, |library| library.read(&strings, &mut one) as u64);
         lines += &line(kind, "read, each an object", reading);
         let reading = turns(before, after, |library| library.read(&names, &mut other) as u64);
@@ -122,23 +146,27 @@ fn filled(library: &Library, stream: &[u8]) -> Vec<u32> {
     table
 }
 
-/// The best turn of each, one after the other; what they answer is the same.
-fn turns(before: &Library, after: &Library, mut job: impl FnMut(&Library) -> u64) -> [f64; 2] {
-    let mut both = [Turns::default(), Turns::default()];
-    while both.iter().any(Turns::more) {
-        let answers = [before, after].map(|library| job(library));
-        assert_eq!(answers[0], answers[1], "the builds differ");
-        for (turns, library) in both.iter_mut().zip([before, after]) {
+/// The best turn of each build, one after the other; what they answer is the same.
+fn turns(before: &Build, after: &Build, mut job: impl FnMut(&Library) -> u64) -> [f64; 2] {
+    let all = || [before, after].into_iter().flat_map(|build| &build.0);
+    let first = job(&before.0[0]);
+    for library in all() {
+        assert_eq!(job(library), first, "the builds differ");
+    }
+    let mut turns: Vec<Turns> = all().map(|_| Turns::default()).collect();
+    while turns.iter().any(Turns::more) {
+        for (turns, library) in turns.iter_mut().zip(all()) {
             turns.turn(|| {
                 job(library);
             });
         }
     }
-    both.map(|turns| turns.best)
+    let (before, after) = turns.split_at(before.0.len());
+    [before, after].map(|turns| turns.iter().map(|turns| turns.best).fold(f64::MAX, f64::min))
 }
 
 fn line(kind: &str, job: &str, [before, after]: [f64; 2]) -> String {
-    let a_text = |seconds: f64| timing::short(seconds * 1e9 / TEXTS as f64);
+    let a_text = |seconds: f64| format!("{:.1}", seconds * 1e9 / TEXTS as f64);
     format!(
         "| {kind} | {job} | {} | {} | {:.2} | {} | {} |\n",
         timing::shown(before),

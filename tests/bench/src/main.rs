@@ -4,7 +4,8 @@
 //! list; TAKEN says where and when.
 //!
 //! `bench beside DOCS TAKEN BEFORE AFTER`: times two builds of the proved jobs,
-//! shared objects, on lists of texts, and writes the table of texts.
+//! each a folder of shared objects, on lists of texts, and writes the table of
+//! texts.
 
 mod beside;
 mod document;
@@ -41,7 +42,7 @@ fn peers(docs: &Path, list: &str, taken: &str) -> Result<(), String> {
 }
 
 fn builds(docs: &Path, taken: &str, [before, after]: [&str; 2]) -> Result<(), String> {
-    let (before, after) = (beside::Library::open(before)?, beside::Library::open(after)?);
+    let (before, after) = (beside::Build::open(before)?, beside::Build::open(after)?);
     let mut page = document::Page::open(&docs.join("BENCHMARKS.md"))?;
     let table = beside::table(&before, &after);
     page.write("texts", &format!("{}\n{table}", taken_line(taken)))?;

@@ -1,6 +1,6 @@
 -- The invariant: all of s is text exactly when what is left of it from i on is. The measure: the bytes left.
 use Prim.Native.Nat.{_≤_, _-_}
-use mathlib.Core.Path.{_≡_, refl, sym, _∙_}
+use mathlib.Core.Path.{_≡_, sym, _∙_}
 use borrow.Author.Needs.{needs}
 use native.Mathlib.Omega.{arith}
 use lib.ListN.{length, drop}
@@ -21,7 +21,8 @@ well-formed-spec =
     (tie.spec
     Inv-loop
     μ-loop
-    (λ c. (omega arith, refl))
+    (λ c κs. search needs)
+    (λ c. c .plain .ensures)
     (λ c κs. search needs)
     (λ c. sym (c .before .before .before .loop .inv .1 ∙ scalar-none _ _ _ (c .before .width-at .ensures) (c .if1 .taken) (omega arith)))
     (λ c. let w = scalar-on _ _ _ (c .before .width-at .ensures) (c .if1 .left) (omega arith) in omega (arith, w .0))

@@ -1,4 +1,4 @@
--- Each return is one row of the table, or none: row 1, the rows of one first byte, the rows of a range, and what lies before and behind them.
+-- Each return is one row of the table, or none: first the rows of one first byte, then those of a range, then what lies between and behind them.
 use mathlib.Core.Path.{_∙_}
 use native.Mathlib.Omega.{arith}
 use borrow.Author.Needs.{needs}
@@ -11,7 +11,6 @@ width-at-spec =
     tie.close
     (tie.spec
     (λ c. search needs)
-    (λ c. by-row-1 _ _ (omega arith) (row-1 _ (omega arith)))
     (λ c κs. search needs)
     (λ c κs. search needs)
     (λ c κs. search needs)
@@ -24,6 +23,7 @@ width-at-spec =
     (λ c. c .three2 .ensures ∙ by-row _ _ (omega arith) (row-5 _ (omega arith)) (omega arith))
     (λ c. c .four .ensures ∙ by-row _ _ (omega arith) (row-7 _ (omega arith)) (omega arith))
     (λ c. c .four2 .ensures ∙ by-row _ _ (omega arith) (row-9 _ (omega arith)) (omega arith))
+    (λ c. by-row-1 _ _ (omega arith) (row-1 _ (omega arith)))
     (λ c. c .two .ensures ∙ by-row _ _ (omega arith) (row-2 _ (omega arith) (omega arith)) (omega arith))
     (λ c. c .three3 .ensures ∙ by-row _ _ (omega arith) (row-4 _ (omega arith) (omega arith)) (omega arith))
     (λ c. c .three4 .ensures ∙ by-row _ _ (omega arith) (row-6 _ (omega arith) (omega arith)) (omega arith))
