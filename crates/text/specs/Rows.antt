@@ -18,7 +18,7 @@ abbrev pub Row : ℕ → ℕ → ℕ → ℕ → Type 0
 Row b k lo hi = (needOf b ≡ k) × ((loOf b ≡ lo) × (hiOf b ≡ hi))
 
 module _ (b : ℕ) where
-  -- all but four rows have 80 to BF in their second column
+  -- in all but four rows the second byte lies from 80 to BF
   usual : {k : ℕ} → needOf b ≡ k → (b ≡ 0xE0 → ⊥) × ((b ≡ 0xED → ⊥) × ((b ≡ 0xF0 → ⊥) × (b ≡ 0xF4 → ⊥))) → Row b k 0x80 0xBF
   unfolding loOf hiOf
   usual e (e0, (ed, (f0, f4))) = (e, (rw (ne-eqb b 0xE0 e0, ne-eqb b 0xF0 f0), rw (ne-eqb b 0xED ed, ne-eqb b 0xF4 f4)))

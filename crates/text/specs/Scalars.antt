@@ -58,7 +58,7 @@ module _ (s : List ℕ) (i k lo hi : ℕ) where
   in-bounds h g true e = goes-on h g (leb-true (getD s i 0) hi e)
   in-bounds h g false e = breaks h (too-high k lo hi (getD s i 0) g (leb-false (getD s i 0) hi e))
 
-  pub ends-next : Next (hasAt s i lo hi)
+  ends-next : Next (hasAt s i lo hi)
   unfolding hasAt
   ends-next =
       let b : ℕ = getD s i 0 in

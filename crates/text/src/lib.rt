@@ -92,7 +92,8 @@ fn width_at(s: &[u8], i: usize) -> usize
     }
 }
 
-// How many bytes of row 1 s begins with, counted in fours: most texts have hardly any others, and this is the quick way through them.
+// How many bytes of row 1 s begins with, rounded down to a multiple of four: most texts have hardly any others, and this is the quick way through
+// them.
 fn plain(s: &[u8]) -> usize
     ensures { λ r. ⌜ (r ≤ length (now (s .entry))) × (wellFormed (now (s .entry)) ≡ wellFormed (drop r (now (s .entry)))) ⌝ }
 {

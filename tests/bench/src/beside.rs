@@ -4,7 +4,7 @@
 //! its best turn counts.
 
 use crate::lists;
-use crate::timing::{self, Turns};
+use crate::timing;
 use independent_reader::reader::ROW_WORDS;
 use std::ffi::{c_char, c_int, c_void, CString};
 
@@ -118,21 +118,24 @@ fn scalars(first: u32, count: u32, length: u32, n: usize) -> String {
     (0..length).map(|k| scalar(k).expect("a scalar value")).collect()
 }
 
-pub fn table(before: &Build, after: &Build) -> String {
+/// The earlier build, the same once more, and the present one: how much the
+/// first two differ is how much is chance.
+pub fn table(builds: &[Build; 3]) -> String {
     let mut lines = String::from(
-        "| texts | job | before | after | after in before | before, ns a text | after, ns a text |\n\
-         |---|---|---:|---:|---:|---:|---:|\n",
+        "| texts | job | before | before, once more | after | once more: times as long | after: times as long | before, ns a text | after, ns a text |\n\
+         |---|---|---:|---:|---:|---:|---:|---:|---:|\n",
     );
+    let present = &builds[2].0[0];
     for (kind, text) in KINDS {
         eprintln!("{kind}");
         let strings = lists::strings(TEXTS, text);
         let names = lists::names(TEXTS, text);
-        let (mut one, mut other) = (filled(&after.0[0], &strings), filled(&after.0[0], &names));
-        let reading = turns(before, after, |library| library.read(&strings, &mut one) as u64);
+        let (mut one, mut other) = (filled(present, &strings), filled(present, &names));
+        let reading = best(builds, |library| library.read(&strings, &mut one) as u64);
         lines += &line(kind, "read, each an object", reading);
-        let reading = turns(before, after, |library| library.read(&names, &mut other) as u64);
+        let reading = best(builds, |library| library.read(&names, &mut other) as u64);
         lines += &line(kind, "read, names of members", reading);
-        let viewing = turns(before, after, |library| library.viewed(&strings, &one));
+        let viewing = best(builds, |library| library.viewed(&strings, &one));
         lines += &line(kind, "text view of each", viewing);
     }
     lines
@@ -146,33 +149,29 @@ fn filled(library: &Library, stream: &[u8]) -> Vec<u32> {
     table
 }
 
-/// The best turn of each build, one after the other; what they answer is the same.
-fn turns(before: &Build, after: &Build, mut job: impl FnMut(&Library) -> u64) -> [f64; 2] {
-    let all = || [before, after].into_iter().flat_map(|build| &build.0);
-    let first = job(&before.0[0]);
-    for library in all() {
-        assert_eq!(job(library), first, "the builds differ");
-    }
-    let mut turns: Vec<Turns> = all().map(|_| Turns::default()).collect();
-    while turns.iter().any(Turns::more) {
-        for (turns, library) in turns.iter_mut().zip(all()) {
-            turns.turn(|| {
-                job(library);
-            });
+pub const TURNS: usize = 30;
+
+/// The best turn of each build; what they answer is the same.
+fn best(builds: &[Build; 3], mut job: impl FnMut(&Library) -> u64) -> [f64; 3] {
+    let answer = job(&builds[2].0[0]);
+    let mut best = [f64::MAX; 3];
+    for _ in 0..TURNS {
+        for (best, build) in best.iter_mut().zip(builds) {
+            for library in &build.0 {
+                let taken = timing::turn(|| assert_eq!(job(library), answer, "the builds differ"));
+                *best = best.min(taken);
+            }
         }
     }
-    let (before, after) = turns.split_at(before.0.len());
-    [before, after].map(|turns| turns.iter().map(|turns| turns.best).fold(f64::MAX, f64::min))
+    best
 }
 
-fn line(kind: &str, job: &str, [before, after]: [f64; 2]) -> String {
+fn line(kind: &str, job: &str, [before, again, after]: [f64; 3]) -> String {
     let a_text = |seconds: f64| format!("{:.1}", seconds * 1e9 / TEXTS as f64);
+    let [first, second, third] = [before, again, after].map(timing::shown);
+    let (chance, change) = (again / before, after / before);
+    let (first_each, third_each) = (a_text(before), a_text(after));
     format!(
-        "| {kind} | {job} | {} | {} | {:.2} | {} | {} |\n",
-        timing::shown(before),
-        timing::shown(after),
-        after / before,
-        a_text(before),
-        a_text(after)
+        "| {kind} | {job} | {first} | {second} | {third} | {chance:.2} | {change:.2} | {first_each} | {third_each} |\n"
     )
 }

@@ -1,11 +1,11 @@
 //! `bench DOCS LIST TAKEN`: times the proved reader and tidier beside their peer,
-//! the fast ones of this folder, in one run on the same lists, and writes the
-//! tables of DOCS/BENCHMARKS.md and the picture DOCS/growth.svg. LIST is a real
+//! the fast ones of this folder, in one run on the same lists, and writes all
+//! tables but one of DOCS/BENCHMARKS.md and the picture DOCS/growth.svg. LIST is a real
 //! list; TAKEN says where and when.
 //!
-//! `bench beside DOCS TAKEN BEFORE AFTER`: times two builds of the proved jobs,
-//! each a folder of shared objects, on lists of texts, and writes the table of
-//! texts.
+//! `bench beside DOCS TAKEN BEFORE AGAIN AFTER`: times two builds of the proved
+//! jobs, the first of them twice, on lists of texts, and writes the table of
+//! texts. Each is a folder of shared objects.
 
 mod beside;
 mod document;
@@ -18,13 +18,15 @@ use growth::Series;
 use std::path::Path;
 use timing::{Subject, Times, MOST_TURNS, TIME_FOR_TURNS};
 
-const USE: &str = "bench DOCS LIST TAKEN, or bench beside DOCS TAKEN BEFORE AFTER";
+const USE: &str = "bench DOCS LIST TAKEN, or bench beside DOCS TAKEN BEFORE AGAIN AFTER";
 
 fn main() -> Result<(), String> {
     let words: Vec<String> = std::env::args().skip(1).collect();
     match &words.iter().map(String::as_str).collect::<Vec<_>>()[..] {
         [docs, list, taken] => peers(Path::new(docs), list, taken),
-        ["beside", docs, taken, before, after] => builds(Path::new(docs), taken, [before, after]),
+        ["beside", docs, taken, before, again, after] => {
+            builds(Path::new(docs), taken, [before, again, after])
+        }
         _ => Err(USE.to_string()),
     }
 }
@@ -41,11 +43,13 @@ fn peers(docs: &Path, list: &str, taken: &str) -> Result<(), String> {
     std::fs::write(docs.join("growth.svg"), drawn).map_err(|error| error.to_string())
 }
 
-fn builds(docs: &Path, taken: &str, [before, after]: [&str; 2]) -> Result<(), String> {
-    let (before, after) = (beside::Build::open(before)?, beside::Build::open(after)?);
+fn builds(docs: &Path, taken: &str, folders: [&str; 3]) -> Result<(), String> {
+    let [before, again, after] = folders.map(beside::Build::open);
+    let table = beside::table(&[before?, again?, after?]);
     let mut page = document::Page::open(&docs.join("BENCHMARKS.md"))?;
-    let table = beside::table(&before, &after);
-    page.write("texts", &format!("{}\n{table}", taken_line(taken)))?;
+    let turns = beside::TURNS;
+    let taken = format!("Taken on {taken}. Processor time of one process; the best of {turns} turns of each of the four copies counts.\n");
+    page.write("texts", &format!("{taken}\n{table}"))?;
     page.save()
 }
 

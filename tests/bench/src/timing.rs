@@ -84,39 +84,23 @@ fn sizes(stream: &[u8]) -> (usize, usize) {
 }
 
 fn best(mut turn: impl FnMut()) -> f64 {
-    let mut turns = Turns::default();
-    while turns.more() {
-        turns.turn(&mut turn);
+    let (mut best, mut all) = (f64::MAX, 0.0);
+    for _ in 0..MOST_TURNS {
+        if all > TIME_FOR_TURNS {
+            break;
+        }
+        let taken = self::turn(&mut turn);
+        best = best.min(taken);
+        all += taken;
     }
-    turns.best
+    best
 }
 
-/// Turns of one job: the best of them, how many they were and how long they took.
-pub struct Turns {
-    pub best: f64,
-    count: usize,
-    all: f64,
-}
-
-impl Default for Turns {
-    fn default() -> Turns {
-        Turns { best: f64::MAX, count: 0, all: 0.0 }
-    }
-}
-
-impl Turns {
-    pub fn more(&self) -> bool {
-        self.count < MOST_TURNS && self.all <= TIME_FOR_TURNS
-    }
-
-    pub fn turn(&mut self, turn: impl FnOnce()) {
-        let start = processor_seconds();
-        turn();
-        let taken = processor_seconds() - start;
-        self.best = self.best.min(taken);
-        self.count += 1;
-        self.all += taken;
-    }
+/// How long one turn takes.
+pub fn turn(turn: impl FnOnce()) -> f64 {
+    let start = processor_seconds();
+    turn();
+    processor_seconds() - start
 }
 
 #[repr(C)]
