@@ -5,7 +5,7 @@ use mathlib.Core.List.{List, _++_}
 use lib.ListN.{getD}
 use borrow.Author.Tests.{ne-eqb}
 use Rattle.format.specs.declared.Row.{Row}
-use Rattle.format.specs.Says.{afterInfo}
+use Rattle.format.specs.Types.{afterInfo}
 use Rattle.put.specs.Out.{between, textOut, headOut, byIdOut, headerOut}
 use Rattle.marks.specs.Marks.{rowAt, itemType}
 use Rattle.pieces.specs.Laws.{record-as}

@@ -59,7 +59,7 @@ pub fn put_array(out: &mut [u8], s: &[u8], table: &[u32], n: usize, r: Row) -> u
 {
     let p = marks::item_type(s, r);
     let kind = codes::byte_at(s, p);
-    let e = marks::after_info(s, kind, p + 1);
+    let e = spans::after_info(s, kind, p + 1);
     let a = libraries_out::put_need_info(out, s, table, n, kind, e);
     let from = put::least(a, out.len());
     let b = put_body(&mut out[from..], s, table, n, p, e, r);

@@ -12,7 +12,7 @@ use Rattle.format.specs.declared.Refusal.the-variants as R
 use Rattle.format.specs.declared.Row.{Row}
 use Rattle.format.specs.Numbers.{le, u32At, u64At, leBytes}
 use Rattle.format.specs.Prefix.{prefixIn, groupsOf}
-use Rattle.format.specs.Text.{needOf, loOf, hiOf, leadOf, stepOf, after, wellFormed, textAt, stringAt}
+use Rattle.format.specs.Text.{needOf, loOf, hiOf, leadOf, stepOf, after, wellFormed, textAt, stringAt, spanAt}
 use Rattle.format.specs.Values.{dateTimeAt, valueAt}
 use Rattle.format.specs.Types.{primitiveOf, codeAt, nameAt, moved, passed, passedOf}
 use Rattle.format.specs.Rows.{rowsOf, findFrom, objectRow, linkOf, linked}
@@ -113,7 +113,7 @@ none-past-date = no-reading pastDate R.BadValue 26 (computed-dates .1)
 -- ---- what is said
 
 pub same-sevens : SayTheSame case2 (rowsOf 3 (stringRows 1)) sevens (rowsOf 3 (stringRows 7))
-unfolding rowsOf says nodesFrom nodesOf spread whatFrom orderOf objectsIn stringAt textAt wellFormed after stepOf leadOf hiOf loOf needOf groupsOf prefixIn leBytes le hexOnto
+unfolding rowsOf says nodesFrom nodesOf spread whatFrom orderOf objectsIn spanAt groupsOf prefixIn leBytes le hexOnto
 same-sevens = refl
 
 -- one string is not an array with three nulls

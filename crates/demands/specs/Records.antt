@@ -14,13 +14,13 @@ use Rattle.format.specs.declared.Row.{Row}
 use Rattle.format.specs.Bytes.{pick, part}
 use Rattle.format.specs.Numbers.{leBytes}
 use Rattle.format.specs.Text.{stringBytes}
-use Rattle.format.specs.Types.{codeNumber, nameAt, placeOr}
-use Rattle.format.specs.Values.{times}
+use Rattle.format.specs.Types.{codeNumber, afterText, afterInfo}
 use Rattle.format.specs.Rows.{objectRow, withLink, linkOf, linked}
 use Rattle.format.specs.Contents.{Detail, primitive, text, object, system, class, objects, texts, primitives, Member, Rec, header, classById, systemClass, libraryClass, string, array, typedPrimitive, reference, null, nulls, manyNulls, end, library, primitiveArray, objectArray, stringArray, value, typeByte, infoBytes, namesBytes, typesBytes, infosBytes, classBytes, numbersBytes, enc, encs}
 use Rattle.format.specs.Grammar.{Positive, Name, Shape, Ranked, single, jagged, rectangular, Entry, Cur, cur, size, rowOf, Object, system-class, library-class, class-by-id, Body, hollow, filled, Slots, full, member-value, an-object, a-string, a-typed-primitive, a-reference, a-null, a-run, a-long-run, a-library, Array, of-objects, of-strings, of-primitives, of-any, of-values, Objects, the-end, one-object, one-string, one-array, one-library, Reading}
-use Rattle.format.specs.Says.{textFrom, afterText, numberFrom, codeFrom, numbersFrom, afterInfo}
+use Rattle.format.specs.Says.{textFrom, afterTexts, numberFrom, codeFrom, numbersFrom}
 use Rattle.num.specs.Le.{length-leBytes}
+use Rattle.spans.specs.Judged.{names-after}
 use Rattle.laws.specs.Fields.{positive-bits, length-numbers-bytes}
 use Rattle.laws.specs.Links.{rows-are}
 use Rattle.places.specs.Details.{detailIn}
@@ -34,7 +34,7 @@ use Rattle.demands.specs.Readings.{reading-unique}
 abbrev pub membersHere : List ℕ → Row → List (Member ℕ)
 membersHere s r =
     let names = afterText s (r .offset + 5) + 4 in
-    let types = placeOr names (times (nameAt s) (r .count) names) in
+    let types = afterTexts s (r .count) names in
     membersIn s (r .count) names types (types + r .count)
 
 abbrev pub arrayHere : List ℕ → Row → Rec
@@ -243,7 +243,7 @@ class-here s k at e i w n ms q g gs d =
     rest-there s (namesBytes ms) (types ++ q) a b refl d2 ∙ append-assoc (typesBytes ms) (infosBytes ms) q in
     let d4 : drop (b + length ms) s ≡ infosBytes ms ++ q =
     rest-there s (typesBytes ms) (infosBytes ms ++ q) b (b + length ms) (ap (λ (x : ℕ). b + x) (sym (length-types ms))) d3 in
-    (t .0, rw (t .1, names-there s ms (types ++ q) a gs d2) (members-here s ms (types ++ q) (infosBytes ms ++ q) q a b (b + length ms) gs d2 d3 d4))
+    (t .0, rw (t .1, names-after s (length ms) a b (names-there s ms (types ++ q) a gs d2)) (members-here s ms (types ++ q) (infosBytes ms ++ q) q a b (b + length ms) gs d2 d3 d4))
 
 rank-bits : {type rank : ℕ} → Ranked type rank → rank < 4294967296
 rank-bits single = omega arith

@@ -17,7 +17,7 @@ use Rattle.format.specs.declared.Row.{Row}
 use Rattle.format.specs.Bytes.{pick, laid}
 use Rattle.format.specs.Numbers.{le, u32At, leBytes}
 use Rattle.format.specs.Prefix.{prefixIn, groupsOf}
-use Rattle.format.specs.Text.{needOf, loOf, hiOf, leadOf, stepOf, after, wellFormed, textAt, stringAt}
+use Rattle.format.specs.Text.{needOf, loOf, hiOf, leadOf, stepOf, after, wellFormed, textAt, stringAt, spanAt}
 use Rattle.format.specs.Types.{nameAt, moved, passed, passedOf}
 use Rattle.format.specs.Rows.{roomOf, rowsOf, findFrom, objectRow, linkOf, linked}
 use Rattle.format.specs.Records.{allowed, kindOf, kindAt, headerAt, stringRecordAt, headingAt}
@@ -99,13 +99,13 @@ reads-three = accepted-exactly (twoStrings 3) bytes-three 38 (two 3) .0 (two-tak
 
 -- they say the same
 pub same-two : SayTheSame (twoStrings 2) (two 2) (twoStrings 3) (two 3)
-unfolding rowsOf says nodesFrom nodesOf spread whatFrom orderOf objectsIn stringAt textAt wellFormed after stepOf leadOf hiOf loOf needOf groupsOf prefixIn leBytes le hexOnto
+unfolding rowsOf says nodesFrom nodesOf spread whatFrom orderOf objectsIn spanAt groupsOf prefixIn leBytes le hexOnto
 same-two = refl
 
 -- the copies are as long as 01 says, and far within the stream limit
 lengths : ((length (tidyOf (says case2 rows2)) ≡ 28) × ((length (tidyOf (says sevens rows27)) ≡ 28) × (length (tidyOf (says run7 rows7)) ≡ 29)))
     × ((length (tidyOf (says (twoStrings 2) (two 2))) ≡ 38) × (length (tidyOf (says (twoStrings 3) (two 3))) ≡ 38))
-unfolding rowsOf tidyOf tidyRecords squeeze waiting written runOf pack afterWhat recordsOf encs enc says nodesFrom nodesOf spread whatFrom orderOf objectsIn stringAt textAt wellFormed after stepOf leadOf hiOf loOf needOf groupsOf prefixIn leBytes le hexOnto
+unfolding rowsOf tidyOf tidyRecords squeeze waiting written runOf pack afterWhat recordsOf encs enc says nodesFrom nodesOf spread whatFrom orderOf objectsIn spanAt groupsOf prefixIn leBytes le hexOnto
 lengths = ((refl, (refl, refl)), (refl, refl))
 
 small-2 : Within reads-2
@@ -333,7 +333,7 @@ tidyFirstOnly s = tidyFrom s (readOf s (length s))
 unchanged : ((firstBy (map (recFrom (twoStrings 2)) (two 2)) ≡ twoStrings 2) × (firstBy (map (recFrom (twoStrings 3)) (two 3)) ≡ twoStrings 3))
     × ((tidyBy (idsOf (map (recFrom (twoStrings 2)) (two 2))) (says (twoStrings 2) (two 2)) ≡ twoStrings 2)
     × (tidyBy (idsOf (map (recFrom (twoStrings 3)) (two 3))) (says (twoStrings 3) (two 3)) ≡ twoStrings 3))
-unfolding rowsOf recFrom tidyRecords squeeze waiting written runOf pack afterWhat recordsOf encs enc says nodesFrom nodesOf spread whatFrom orderOf objectsIn stringAt textAt wellFormed after stepOf leadOf hiOf loOf needOf groupsOf prefixIn leBytes le hexOnto
+unfolding rowsOf recFrom tidyRecords squeeze waiting written runOf pack afterWhat recordsOf encs enc says nodesFrom nodesOf spread whatFrom orderOf objectsIn spanAt groupsOf prefixIn leBytes le hexOnto
 unchanged = ((refl, refl), (refl, refl))
 
 -- a job that leaves the two lists as they are

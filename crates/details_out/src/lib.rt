@@ -44,7 +44,7 @@ fn put_infos(out: &mut [u8], s: &[u8], table: &[u32], n: usize, r: Row) -> usize
     let mut i: usize = 0;
     while i < count {
         let kind = codes::byte_at(s, kinds + i);
-        let e = marks::after_info(s, kind, p);
+        let e = spans::after_info(s, kind, p);
         let from = put::least(at, out.len());
         let b = put_info(&mut out[from..], s, table, n, kind, p, e);
         at = put::add_up(at, b);

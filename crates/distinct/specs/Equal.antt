@@ -8,7 +8,7 @@ use lib.Dec.{eqb}
 use lib.ListN.{getD}
 use borrow.Author.Tests.{eq-eqb, ne-eqb}
 use Rattle.format.specs.declared.Row.{Row}
-use Rattle.format.specs.Says.{afterInfo}
+use Rattle.format.specs.Types.{afterInfo}
 use Rattle.marks.specs.Marks.{libraryAt, sameBetween, sameInfo, sameInfos, infosPlace, sameOwn, sameDetails, sameClassRow}
 
 module _ (s : List ℕ) (rows : List Row) where

@@ -63,8 +63,8 @@ fn same_infos(s: &[u8], table: &[u32], n: usize, count: u32, types: u32, a: usiz
     let mut q = b;
     while left > 0 {
         let kind = codes::byte_at(s, t);
-        let x = marks::after_info(s, kind, p);
-        let y = marks::after_info(s, kind, q);
+        let x = spans::after_info(s, kind, p);
+        let y = spans::after_info(s, kind, q);
         if !same_info(s, table, n, kind, p, x, q, y) {
             return false;
         }

@@ -12,17 +12,19 @@ use Rattle.format.specs.declared.Number32.{Number32}
 use Rattle.format.specs.declared.Number32.the-variants as N32
 use Rattle.format.specs.declared.Number64.{Number64}
 use Rattle.format.specs.declared.Number64.the-variants as N64
+use Rattle.format.specs.declared.Setting.the-variants as Q
 use Rattle.format.specs.declared.Prefix.{Prefix}
 use Rattle.format.specs.declared.Prefix.the-variants as P
 use Rattle.format.specs.declared.Text.{Text}
 use Rattle.format.specs.declared.Text.the-variants as T
+use Rattle.format.specs.declared.Span.{Span}
 use Rattle.format.specs.declared.Field.{Field}
 use Rattle.format.specs.declared.Field.the-variants as F
 use Rattle.format.specs.Bytes.{pick, sameBytes}
 use Rattle.format.specs.Replies.{numberOf}
 use Rattle.format.specs.Numbers.{le, u16At, u32At, u64At, leBytes}
 use Rattle.format.specs.Prefix.{prefixIn, prefixAt, groupsOf, prefixBytes}
-use Rattle.format.specs.Text.{needOf, loOf, hiOf, leadOf, stepOf, after, wellFormed, textAt, stringAt}
+use Rattle.format.specs.Text.{needOf, loOf, hiOf, leadOf, stepOf, after, wellFormed, textAt, stringAt, spanAt}
 use Rattle.format.specs.Values.{bytesAt, booleanAt, scalarAt, charAt, wholeDigit, fractionDigit, digit, decimalByte, decimalAfter, decimal, decimalText, decimalAt, dateTimeAt, valueAt, times, itemsAt}
 use Rattle.format.specs.Types.{codeNumber, primitiveOf, codeAt, coded, typeByteAt, nameAt, libraryIdAt, infoAt, slotOf}
 use Rattle.format.specs.View.{recordText, rowText, textView}
@@ -50,6 +52,9 @@ shownPrefix (P.Fault f) = numberOf f ∷ []
 abbrev shownText : Text → List ℕ
 shownText (T.Part from end) = from ∷ end ∷ []
 shownText (T.Fault f) = numberOf f ∷ []
+
+abbrev shownSpan : Span → List ℕ
+shownSpan x = x .from ∷ x .to ∷ []
 
 abbrev shownField : Field → List ℕ
 shownField (F.End next) = 0 ∷ next ∷ []
@@ -103,9 +108,12 @@ badValue = 11 ∷ []
 abbrev badId : List ℕ
 badId = 12 ∷ []
 
--- a prefix of n bytes
+-- a prefix of n bytes, strict and lenient
 abbrev prefix : ℕ → ℕ → List ℕ
-prefix n x = shownPrefix (prefixAt (hex n x) 0)
+prefix n x = shownPrefix (prefixAt Q.Strict (hex n x) 0)
+
+abbrev lenient : ℕ → ℕ → List ℕ
+lenient n x = shownPrefix (prefixAt Q.Lenient (hex n x) 0)
 
 -- a string whose text is these n bytes: taken whole, or refused
 abbrev string : ℕ → ℕ → List ℕ
@@ -176,6 +184,16 @@ fields =
     ∷ gives (prefix 5 0x8080808000) badLength
     ∷ gives (prefix 5 0x8080808080) badLength
     ∷ gives (prefix 4 0x80808080) cutShort
+    -- lenient: any form of at most five bytes, up to 31 bits; a sixth byte is never read
+    ∷ gives (lenient 2 0x8000) (0 ∷ 2 ∷ [])
+    ∷ gives (lenient 2 0x8400) (4 ∷ 2 ∷ [])
+    ∷ gives (lenient 5 0x8480808000) (4 ∷ 5 ∷ [])
+    ∷ gives (lenient 5 0xFFFFFFFF07) (2147483647 ∷ 5 ∷ [])
+    ∷ gives (lenient 5 0x8480808008) badLength
+    ∷ gives (lenient 5 0x8480808080) badLength
+    ∷ gives (lenient 6 0x848080808000) badLength
+    ∷ gives (lenient 4 0x84808080) cutShort
+    ∷ gives (lenient 1 0x80) cutShort
     ∷ gives (prefixBytes 127) (0x7F ∷ [])
     ∷ gives (prefixBytes 128) (0x80 ∷ 1 ∷ [])
     ∷ gives (prefixBytes 2147483647) (hex 5 0xFFFFFFFF07)
@@ -199,6 +217,12 @@ fields =
     ∷ gives (string 4 0xF5808080) badText
     ∷ gives (string 2 0xE0A0) badText
     ∷ gives (shownText (stringAt (hex 3 0x034142) 0)) cutShort
+    -- strings that were judged before: any prefix and any text, and nothing where the text is not all there
+    ∷ gives (shownSpan (spanAt (hex 3 0x024142) 0)) (1 ∷ 3 ∷ [])
+    ∷ gives (shownSpan (spanAt (hex 8 0x0082808080004142) 1)) (6 ∷ 8 ∷ [])
+    ∷ gives (shownSpan (spanAt (hex 2 0x01FF) 0)) (1 ∷ 2 ∷ [])
+    ∷ gives (shownSpan (spanAt (hex 3 0x034142) 0)) (0 ∷ 0 ∷ [])
+    ∷ gives (shownSpan (spanAt (hex 2 0x8480) 1)) (1 ∷ 1 ∷ [])
     -- Boolean, Char, Decimal, DateTime
     ∷ gives (value 1 1 0x00) (ends 1)
     ∷ gives (value 1 1 0x01) (ends 1)
@@ -270,5 +294,5 @@ failing k [] = []
 failing k (e ∷ es) = pick (sameBytes (e .found) (e .wanted)) [] (k ∷ []) ++ failing (suc k) es
 
 pub field-examples : None (failing 0 fields)
-unfolding fields failing each textView rowText recordText slotOf infoAt libraryIdAt nameAt typeByteAt codeAt primitiveOf itemsAt times valueAt dateTimeAt decimalAt decimalText decimal decimalAfter decimalByte digit fractionDigit wholeDigit charAt scalarAt booleanAt bytesAt stringAt textAt wellFormed after stepOf leadOf hiOf loOf needOf groupsOf prefixIn leBytes u64At u32At u16At le sameBytes hexOnto
+unfolding fields failing each textView rowText recordText slotOf infoAt libraryIdAt nameAt typeByteAt codeAt primitiveOf itemsAt times valueAt dateTimeAt decimalAt decimalText decimal decimalAfter decimalByte digit fractionDigit wholeDigit charAt scalarAt booleanAt bytesAt spanAt stringAt textAt wellFormed after stepOf leadOf hiOf loOf needOf groupsOf prefixIn leBytes u64At u32At u16At le sameBytes hexOnto
 field-examples = tt

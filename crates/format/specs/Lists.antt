@@ -8,16 +8,16 @@ use lib.ListN.{length, getD}
 use Rattle.format.specs.Bytes.{sameBytes, laid}
 use Rattle.format.specs.Numbers.{le, u32At, u64At, leBytes}
 use Rattle.format.specs.Prefix.{prefixIn, groupsOf}
-use Rattle.format.specs.Text.{needOf, loOf, hiOf, leadOf, stepOf, after, wellFormed, textAt, stringAt}
+use Rattle.format.specs.Text.{needOf, loOf, hiOf, leadOf, stepOf, after, wellFormed, textAt, stringAt, spanAt}
 use Rattle.format.specs.Values.{times}
-use Rattle.format.specs.Types.{primitiveOf, codeAt, typeByteAt, nameAt, libraryIdAt, infoAt, slotOf, typedAt, moved, passed, passedOf}
+use Rattle.format.specs.Types.{primitiveOf, codeAt, typeByteAt, nameAt, libraryIdAt, infoAt, slotOf, typedAt, afterInfo, moved, passed, passedOf}
 use Rattle.format.specs.Rows.{words, findFrom, objectRow, classRow, libraryRow, linkOf, linked}
 use Rattle.format.specs.Records.{allowed, kindOf, kindAt, ownLibraryAt, headerAt, stringRecordAt, referenceAt, nullsAt, longNullsAt, libraryAt, infoKnown, infosAt, membersAt, classAt, classByIdAt, slotArrayAt, headingAt}
 use Rattle.format.specs.Machine.{close, filled, opened, add, object, nullRun, ending, act, recordStep, step, finish, run, Outcome, accepted, refused, readOf, readAnswer, tableWords}
 use Rattle.format.specs.View.{recordText, rowText, rowQuestion, textView}
 use Rattle.format.specs.Contents.{Detail, text, Member, typeByte, Rec, header, classById, systemClass, libraryClass, string, reference, null, nulls, end, library, objectArray, enc, encs}
 use Rattle.format.specs.Contents.{object as anything}
-use Rattle.format.specs.Says.{numbersFrom, libraryName, detailFrom, membersFrom, classFrom, arrayFrom, objectsIn, orderOf, whatFrom, spread, nodesOf, nodesFrom, What, anObject, aString, anArray, aPrimitive, aReference, aNull, aPrimitiveArray, anObjectArray, aStringArray, aValue, Node, Model, says}
+use Rattle.format.specs.Says.{numbersFrom, afterTexts, libraryName, detailFrom, membersFrom, classFrom, arrayFrom, objectsIn, orderOf, whatFrom, spread, nodesOf, nodesFrom, What, anObject, aString, anArray, aPrimitive, aReference, aNull, aPrimitiveArray, anObjectArray, aStringArray, aValue, Node, Model, says}
 use Rattle.format.specs.Tidy.{sameDetail, sameMembers, sameClass, numberIn, entered, allEntered, libraryRecords, recordsOf, afterWhat, pack, runOf, written, waiting, squeeze, tidyRecords, tidyOf, tidyAnswer, tidyOutput, tidyTable}
 use Rattle.format.specs.Examples.{Example, entry, hexOnto, hex, accepts, writes, textsFrom, holds, failing, None}
 
@@ -91,7 +91,7 @@ lists =
     ∷ []
 
 pub list-examples : None (failing 0 lists)
-unfolding lists holds failing tidyTable tidyOutput tidyAnswer tidyOf tidyRecords squeeze waiting written runOf pack afterWhat recordsOf libraryRecords allEntered entered numberIn sameClass sameMembers sameDetail says nodesFrom nodesOf spread whatFrom orderOf objectsIn arrayFrom classFrom membersFrom detailFrom libraryName numbersFrom encs enc tableWords readAnswer readOf run finish step recordStep act ending nullRun object add opened filled close headingAt slotArrayAt classByIdAt classAt membersAt infosAt infoKnown libraryAt longNullsAt nullsAt referenceAt stringRecordAt headerAt ownLibraryAt kindAt kindOf allowed linked linkOf libraryRow classRow objectRow findFrom words passedOf passed moved typedAt slotOf infoAt libraryIdAt nameAt typeByteAt codeAt primitiveOf times stringAt textAt wellFormed after stepOf leadOf hiOf loOf needOf groupsOf prefixIn leBytes u64At u32At le laid sameBytes hexOnto textsFrom rowQuestion textView rowText recordText
+unfolding lists holds failing tidyTable tidyOutput tidyAnswer tidyOf tidyRecords squeeze waiting written runOf pack afterWhat recordsOf libraryRecords allEntered entered numberIn sameClass sameMembers sameDetail says nodesFrom nodesOf spread whatFrom orderOf objectsIn arrayFrom classFrom membersFrom detailFrom libraryName afterTexts numbersFrom encs enc tableWords readAnswer readOf run finish step recordStep act ending nullRun object add opened filled close headingAt slotArrayAt classByIdAt classAt membersAt infosAt infoKnown libraryAt longNullsAt nullsAt referenceAt stringRecordAt headerAt ownLibraryAt kindAt kindOf allowed linked linkOf libraryRow classRow objectRow findFrom words passedOf passed moved afterInfo typedAt slotOf infoAt libraryIdAt nameAt typeByteAt codeAt primitiveOf times spanAt stringAt textAt wellFormed after stepOf leadOf hiOf loOf needOf groupsOf prefixIn leBytes u64At u32At le laid sameBytes hexOnto textsFrom rowQuestion textView rowText recordText
 list-examples = tt
 
 -- ---- saying the same
@@ -111,7 +111,7 @@ threeNulls rs = header 1 1 ∷ objectArray 1 3 ∷ (rs ++ (end ∷ []))
 -- neither ids nor the header's other id nor the packing of nulls is said
 pub same-lists : (said (inSlot 4294967295 4 6 2 9 text 2) ≡ said (inSlot 0 8 3 7 1 text 7))
     × ((said (threeNulls (nulls 3 ∷ [])) ≡ said (threeNulls (null ∷ nulls 0 ∷ nulls 2 ∷ []))))
-unfolding said says nodesFrom nodesOf spread whatFrom orderOf objectsIn classFrom membersFrom detailFrom libraryName encs enc readOf run finish step recordStep act ending nullRun object add opened filled close headingAt slotArrayAt classAt membersAt infosAt infoKnown libraryAt nullsAt referenceAt stringRecordAt headerAt ownLibraryAt kindAt kindOf allowed linked linkOf libraryRow classRow objectRow findFrom passedOf passed moved typedAt slotOf infoAt libraryIdAt nameAt typeByteAt times stringAt textAt wellFormed after stepOf leadOf hiOf loOf needOf groupsOf prefixIn leBytes u32At le hexOnto
+unfolding said says nodesFrom nodesOf spread whatFrom orderOf objectsIn classFrom membersFrom detailFrom libraryName afterTexts encs enc readOf run finish step recordStep act ending nullRun object add opened filled close headingAt slotArrayAt classAt membersAt infosAt infoKnown libraryAt nullsAt referenceAt stringRecordAt headerAt ownLibraryAt kindAt kindOf allowed linked linkOf libraryRow classRow objectRow findFrom passedOf passed moved afterInfo typedAt slotOf infoAt libraryIdAt nameAt typeByteAt times spanAt stringAt textAt wellFormed after stepOf leadOf hiOf loOf needOf groupsOf prefixIn leBytes u32At le hexOnto
 same-lists = (refl, refl)
 
 -- the types of a class's members, and the target of a reference
@@ -137,7 +137,7 @@ toldBy (n ∷ ns) = told (n .what) ++ toldBy ns
 
 -- a member's type is said, and so is the target of a reference, by its order
 pub other-lists : (said (inSlot 1 4 6 2 9 text 2) ≡ said (inSlot 1 4 6 2 9 anything 2) → ⊥) × (said (inSlot 1 4 6 2 9 text 2) ≡ said (inSlot 1 4 6 2 9 text 6) → ⊥)
-unfolding toldBy said says nodesFrom nodesOf spread whatFrom orderOf objectsIn classFrom membersFrom detailFrom libraryName encs enc readOf run finish step recordStep act ending nullRun object add opened filled close headingAt slotArrayAt classAt membersAt infosAt infoKnown libraryAt nullsAt referenceAt stringRecordAt headerAt ownLibraryAt kindAt kindOf allowed linked linkOf libraryRow classRow objectRow findFrom passedOf passed moved typedAt slotOf infoAt libraryIdAt nameAt typeByteAt times stringAt textAt wellFormed after stepOf leadOf hiOf loOf needOf groupsOf prefixIn leBytes u32At le hexOnto
+unfolding toldBy said says nodesFrom nodesOf spread whatFrom orderOf objectsIn classFrom membersFrom detailFrom libraryName afterTexts encs enc readOf run finish step recordStep act ending nullRun object add opened filled close headingAt slotArrayAt classAt membersAt infosAt infoKnown libraryAt nullsAt referenceAt stringRecordAt headerAt ownLibraryAt kindAt kindOf allowed linked linkOf libraryRow classRow objectRow findFrom passedOf passed moved afterInfo typedAt slotOf infoAt libraryIdAt nameAt typeByteAt times spanAt stringAt textAt wellFormed after stepOf leadOf hiOf loOf needOf groupsOf prefixIn leBytes u32At le hexOnto
 other-lists = (
   λ e. let types : _≡_ {A = ℕ} 1 2 = ap (λ (m : Model). getD (toldBy (m .nodes)) 0 0) e in omega arith,
   λ e. let targets : _≡_ {A = ℕ} 3 2 = ap (λ (m : Model). getD (toldBy (m .nodes)) 1 0) e in omega arith,

@@ -8,15 +8,12 @@ use mathlib.Core.List.{List, [], _∷_, _++_}
 use lib.ListN.{length, getD, take}
 use lib.Dec.{ltb, leb, eqb}
 use Rattle.format.specs.declared.PrimitiveCode.{PrimitiveCode}
-use Rattle.format.specs.declared.Text.the-variants as T
 use Rattle.format.specs.declared.Row.{Row}
 use Rattle.format.specs.Bytes.{pick, part}
 use Rattle.format.specs.Numbers.{le}
-use Rattle.format.specs.Text.{stringAt}
-use Rattle.format.specs.Types.{coded, primitiveOf, nameAt, infoAt, placeOr}
-use Rattle.format.specs.Values.{times}
+use Rattle.format.specs.Text.{spanAt}
+use Rattle.format.specs.Types.{coded, primitiveOf, afterText, afterInfo}
 use Rattle.format.specs.Rows.{blank, isObject, libraryRow}
-use Rattle.format.specs.View.{bytesOf}
 use Rattle.format.specs.Contents.{Detail, primitive, text, object, system, class, objects, texts, primitives, Member}
 
 -- ---- what is said
@@ -59,12 +56,14 @@ pub record Model : Type 0 where
 
 -- ---- what stands at a place of an accepted stream
 
--- the text of the string at a place, and the place after it
+-- the text of the string at a place
 abbrev pub textFrom : List ℕ → ℕ → List ℕ
-textFrom s at = bytesOf s (stringAt s at)
+textFrom s at = part s (spanAt s at .from) (spanAt s at .to - spanAt s at .from)
 
-abbrev pub afterText : List ℕ → ℕ → ℕ
-afterText s at = placeOr at (nameAt s at)
+-- the place after n strings
+unfoldable pub afterTexts : List ℕ → ℕ → ℕ → ℕ
+afterTexts s zero at = at
+afterTexts s (suc n) at = afterTexts s n (afterText s at)
 
 abbrev pub numberFrom : List ℕ → ℕ → ℕ
 numberFrom s at = le (part s at 4)
@@ -92,10 +91,6 @@ detailFrom s rows type at =
     (pick (eqb type 6) texts
     (primitives (codeFrom s at))))))))
 
--- the place after a detail
-abbrev pub afterInfo : List ℕ → ℕ → ℕ → ℕ
-afterInfo s type at = placeOr at (infoAt s type at)
-
 -- n members: their names, type bytes and details each at their own place
 unfoldable pub membersFrom : List ℕ → List Row → ℕ → ℕ → ℕ → ℕ → List (Member (List ℕ))
 membersFrom s rows zero names types infos = []
@@ -107,7 +102,7 @@ membersFrom s rows (suc n) names types infos =
 unfoldable pub classFrom : List ℕ → List Row → Row → Class
 classFrom s rows r =
     let names = afterText s (r .offset + 5) + 4 in
-    let types = placeOr names (times (nameAt s) (r .count) names) in
+    let types = afterTexts s (r .count) names in
     record {
       name = textFrom s (r .offset + 5);
       from = pick (eqb (r .kind) 5) (theLibrary (libraryName s rows (numberFrom s (r .end - 4)))) theSystem;

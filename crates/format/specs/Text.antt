@@ -6,10 +6,12 @@ use lib.ListN.{length}
 use lib.Dec.{ltb, leb, eqb}
 use Rattle.format.specs.declared.Utf8.{Utf8}
 use Rattle.format.specs.declared.Refusal.the-variants as R
+use Rattle.format.specs.declared.Setting.the-variants as Q
 use Rattle.format.specs.declared.Prefix.{Prefix}
 use Rattle.format.specs.declared.Prefix.the-variants as P
 use Rattle.format.specs.declared.Text.{Text}
 use Rattle.format.specs.declared.Text.the-variants as T
+use Rattle.format.specs.declared.Span.{Span}
 use Rattle.format.specs.declared.Field.{Field}
 use Rattle.format.specs.declared.Field.the-variants as F
 use Rattle.format.specs.Bytes.{pick, part}
@@ -67,8 +69,18 @@ afterPrefix s (P.Length n next) = textFrom next (textAt s next n)
 afterPrefix s (P.Fault f) = T.Fault f
 
 unfoldable pub stringAt : List ℕ → ℕ → Text
-stringAt s at = afterPrefix s (prefixAt s at)
+stringAt s at = afterPrefix s (prefixAt Q.Strict s at)
 
 -- how a string is written
 abbrev pub stringBytes : List ℕ → List ℕ
 stringBytes t = prefixBytes (length t) ++ t
+
+-- ---- strings that were judged before
+
+abbrev pub spanFrom : List ℕ → ℕ → Prefix → Span
+spanFrom s at (P.Length n next) = pick (leb (next + n) (length s)) (record { from = next; to = next + n }) (record { from = at; to = at })
+spanFrom s at (P.Fault f) = record { from = at; to = at }
+
+-- where the text of a string that was judged before stands: neither the form of its prefix nor its text is judged again
+unfoldable pub spanAt : List ℕ → ℕ → Span
+spanAt s at = spanFrom s at (prefixAt Q.Lenient s at)

@@ -22,7 +22,7 @@ use Rattle.format.specs.declared.Passed.{Passed}
 use Rattle.format.specs.declared.Passed.the-variants as O
 use Rattle.format.specs.Bytes.{pick}
 use Rattle.format.specs.Numbers.{u32At, negative}
-use Rattle.format.specs.Text.{stringAt}
+use Rattle.format.specs.Text.{stringAt, spanAt}
 use Rattle.format.specs.Values.{onEnd}
 
 -- ---- primitive codes
@@ -137,15 +137,25 @@ alike slot infos = record { slot = slot; types = 0; infos = infos }
 abbrev pub past : ℕ → ℕ → ℕ
 past n p = pick (ltb p n) (p + 1) p
 
-abbrev pub placeOr : ℕ → Field → ℕ
-placeOr p (F.End next) = next
-placeOr p (F.Fault f) = p
+-- the places after a string, after a number and after a detail that were judged before
+abbrev pub afterText : List ℕ → ℕ → ℕ
+afterText s at = spanAt s at .to
+
+abbrev pub afterNumber : List ℕ → ℕ → ℕ
+afterNumber s at = pick (leb (at + 4) (length s)) (at + 4) at
+
+unfoldable pub afterInfo : List ℕ → ℕ → ℕ → ℕ
+afterInfo s type at =
+    pick (eqb type 0 || eqb type 7) (past (length s) at)
+    (pick (eqb type 3) (afterText s at)
+    (pick (eqb type 4) (afterNumber s (afterText s at))
+    at))
 
 -- the type of the slot after this one
 unfoldable pub moved : List ℕ → Typed → Typed
 moved s t =
     pick (eqb (t .types) 0) t
-    (typedAt s (past (length s) (t .types)) (placeOr (t .infos) (infoAt s (getD s (t .types) 0) (t .infos))))
+    (typedAt s (past (length s) (t .types)) (afterInfo s (getD s (t .types) 0) (t .infos)))
 
 abbrev pub isPrimitive : SlotType → Bool
 isPrimitive (S.Primitive c) = true

@@ -7,6 +7,7 @@ use lib.Dec.{ltb, leb, eqb}
 use Rattle.format.specs.declared.Refusal.the-variants as R
 use Rattle.format.specs.declared.PrimitiveCode.{PrimitiveCode}
 use Rattle.format.specs.declared.PrimitiveCode.the-variants as C
+use Rattle.format.specs.declared.Setting.the-variants as Q
 use Rattle.format.specs.declared.Prefix.{Prefix}
 use Rattle.format.specs.declared.Prefix.the-variants as P
 use Rattle.format.specs.declared.Number64.{Number64}
@@ -94,7 +95,7 @@ decimalFrom s (P.Length n next) = decimalText s next n
 decimalFrom s (P.Fault f) = F.Fault f
 
 unfoldable pub decimalAt : List ℕ → ℕ → Field
-decimalAt s at = decimalFrom s (prefixAt s at)
+decimalAt s at = decimalFrom s (prefixAt Q.Strict s at)
 
 -- ---- DateTime (2.1.1.5; 02, (i)): the top two bits are the kind, 0 to 2; the low 62 bits are ticks without a sign, up to the last of the year 9999
 

@@ -164,6 +164,12 @@ pub enum Number64 {
     Short,
 }
 
+// How length prefixes are judged: strict takes the shortest form alone, lenient any form of at most five bytes.
+pub enum Setting {
+    Strict,
+    Lenient,
+}
+
 // A length prefix: its number, and the place after its bytes.
 pub enum Prefix {
     Length(u32, usize),
@@ -174,6 +180,12 @@ pub enum Prefix {
 pub enum Text {
     Part(usize, usize),
     Fault(Refusal),
+}
+
+// Where the text of a string begins and ends.
+pub struct Span {
+    pub from: usize,
+    pub to: usize,
 }
 
 // Any other field: the place after it.

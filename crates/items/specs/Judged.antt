@@ -9,6 +9,7 @@ use lib.ListN.{length, getD}
 use lib.Dec.{ltb, leb, eqb}
 use borrow.Author.Tests.{eqb-false, lt-ltb, le-ltb, le-leb, lt-leb}
 use Rattle.format.specs.declared.Refusal.the-variants as R
+use Rattle.format.specs.declared.Setting.the-variants as Q
 use Rattle.format.specs.declared.Prefix.{Prefix}
 use Rattle.format.specs.declared.Prefix.the-variants as P
 use Rattle.format.specs.declared.Number64.the-variants as N64
@@ -95,9 +96,9 @@ module _ (s : List ℕ) (p e : ℕ) where
 
 pub decimal-told : (s : List ℕ) (p e : ℕ) → decimalAt s p ≡ F.End e → (n : ℕ) × (a : ℕ) × Counted decimal R.BadValue s p n a e
 unfolding decimalAt decimalText judgedAt
-decimal-told s p e q = go (prefixAt s p) refl q
+decimal-told s p e q = go (prefixAt Q.Strict s p) refl q
   where
-    go : (r : Prefix) → prefixAt s p ≡ r → decimalFrom s r ≡ F.End e → (n : ℕ) × (a : ℕ) × Counted decimal R.BadValue s p n a e
+    go : (r : Prefix) → prefixAt Q.Strict s p ≡ r → decimalFrom s r ≡ F.End e → (n : ℕ) × (a : ℕ) × Counted decimal R.BadValue s p n a e
     go (P.Length n a) h q = (n, a, record { says = h; ends = q })
     go (P.Fault f) h q = absurd (no-end f e q)
 

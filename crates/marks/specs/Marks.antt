@@ -8,10 +8,9 @@ use lib.ListN.{length, getD, set}
 use lib.Dec.{eqb}
 use Rattle.format.specs.declared.Row.{Row}
 use Rattle.format.specs.Bytes.{pick, samePart}
-use Rattle.format.specs.Types.{nameAt, placeOr}
-use Rattle.format.specs.Values.{times}
+use Rattle.format.specs.Types.{afterText, afterInfo}
 use Rattle.format.specs.Rows.{blank, isObject, isClass, findFrom, libraryRow, withLink}
-use Rattle.format.specs.Says.{afterText, numberFrom, afterInfo}
+use Rattle.format.specs.Says.{afterTexts, numberFrom}
 
 -- ---- rows
 
@@ -78,7 +77,7 @@ firstLibrary s rows r = findFrom (sameName s r) 0 rows
 unfoldable pub typesPlace : List ℕ → Row → ℕ
 typesPlace s r =
     let names = afterText s (r .offset + 5) + 4 in
-    placeOr names (times (nameAt s) (r .count) names)
+    afterTexts s (r .count) names
 
 abbrev pub placeRow : List ℕ → List Row → ℕ → Row → List Row
 placeRow s rows i r =

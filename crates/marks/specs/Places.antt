@@ -8,17 +8,12 @@ use native.Mathlib.Omega.{arith}
 use native.Mathlib.Decide.{decLt}
 use lib.ListN.{length, getD, take, drop-of-length-le, List·getD-eq-default}
 use borrow.Author.Tests.{eq-eqb, ne-eqb}
-use Rattle.format.specs.declared.Refusal.{Refusal}
-use Rattle.format.specs.declared.Field.{Field}
-use Rattle.format.specs.declared.Field.the-variants as F
 use Rattle.format.specs.declared.Row.{Row}
 use Rattle.format.specs.Bytes.{part, samePart}
 use Rattle.format.specs.Numbers.{le}
-use Rattle.format.specs.Values.{times}
-use Rattle.format.specs.Types.{nameAt, placeOr}
-use Rattle.format.specs.Says.{afterText, numberFrom}
+use Rattle.format.specs.Types.{afterText}
+use Rattle.format.specs.Says.{afterTexts, numberFrom}
 use Rattle.fields.specs.Parts.{part-cons}
-use Rattle.types.specs.Keeps.{name-moves}
 use Rattle.marks.specs.Marks.{sameTail, sameName, sameBetween, typesPlace, itemType}
 
 -- ---- four bytes
@@ -72,22 +67,9 @@ item-below s r b h =
     let p : ℕ = r .offset + 6 in
     omega (arith, number-bytes s p, b p, b (p + 1), b (p + 2), b (p + 3))
 
--- a string ends within the stream, or where it begins
-pub text-within : (s : List ℕ) (p m : ℕ) → p ≤ m → length s ≤ m → afterText s p ≤ m
-text-within s p m h g = go (nameAt s p) refl
-  where
-    go : (f : Field) → nameAt s p ≡ f → placeOr p f ≤ m
-    go (F.End e) q = let w = name-moves s p e q in omega (arith, w .1)
-    go (F.Fault f) q = h
-
-module _ (s : List ℕ) (r : Row) (a : ℕ) (x : a ≡ afterText s (r .offset + 5)) where
-  pub types-end : (f : Field) (e : ℕ) → f ≡ times (nameAt s) (r .count) (a + 4) → f ≡ F.End e → e ≡ typesPlace s r
-  unfolding typesPlace
-  types-end f e q z = rw (← x, ← q, z)
-
-  pub types-fault : (f : Field) (why : Refusal) → f ≡ times (nameAt s) (r .count) (a + 4) → f ≡ F.Fault why → a + 4 ≡ typesPlace s r
-  unfolding typesPlace
-  types-fault f why q z = rw (← x, ← q, z)
+pub types-is : (s : List ℕ) (r : Row) (a e : ℕ) → a ≡ afterText s (r .offset + 5) → e ≡ afterTexts s (r .count) (a + 4) → e ≡ typesPlace s r
+unfolding typesPlace
+types-is s r a e x y = rw (← x) y
 
 -- ---- parts that are the same
 

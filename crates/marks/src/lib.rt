@@ -1,6 +1,5 @@
 // The words of rows that tidying marks, and what stands at the places that rows name: the parts from which marks are made and by which the copy is
 // written. `specs/Marks.antt` says what the marks are.
-use format::Field;
 use format::LibraryNo;
 use format::ObjectNo;
 use format::Row;
@@ -8,7 +7,7 @@ ghost use mathlib.Core.Path.{_≡_};
 ghost use Prim.Native.Nat.{_+_, _-_, _*_, _≤_};
 ghost use lib.ListN.{set};
 ghost use Rattle.format.specs.Rows.{roomOf, rowsOf, withLink};
-ghost use Rattle.format.specs.Says.{afterText, numberFrom, afterInfo};
+ghost use Rattle.format.specs.Says.{numberFrom};
 ghost use Rattle.marks.specs.Marks.{rowAt, withId, withSlot, withCount, word, sameTail, sameName, typesPlace, libraryAt, sameBetween, infosPlace, itemType, isFirst};
 
 // ---- numbers
@@ -176,26 +175,6 @@ pub fn put_named(table: &mut [u32], n: usize, i: usize, r: Row)
 
 // ---- what stands at a place
 
-// The place after the string at a place.
-pub fn after_text(s: &[u8], p: usize) -> usize
-    ensures { λ r. ⌜ r ≡ afterText (now (s .entry)) p ⌝ }
-{
-    match types::name_at(s, p) {
-        Field::End(next) => next,
-        Field::Fault(_) => p,
-    }
-}
-
-// The place after a detail.
-pub fn after_info(s: &[u8], kind: u8, p: usize) -> usize
-    ensures { λ r. ⌜ r ≡ afterInfo (now (s .entry)) kind p ⌝ }
-{
-    match types::info_at(s, kind, p) {
-        Field::End(next) => next,
-        Field::Fault(_) => p,
-    }
-}
-
 // The number of the four bytes at a place, of those that are there.
 pub fn number_from(s: &[u8], p: usize) -> u32
     ensures { λ r. ⌜ r ≡ numberFrom (now (s .entry)) p ⌝ }
@@ -223,11 +202,9 @@ pub fn item_type(s: &[u8], r: Row) -> usize
 pub fn types_place(s: &[u8], r: Row) -> usize
     ensures { λ q. ⌜ q ≡ typesPlace (now (s .entry)) r ⌝ }
 {
-    let names = after_text(s, (r.offset as usize) + 5) + 4;
-    match types::names_at(s, r.count, names) {
-        Field::End(next) => next,
-        Field::Fault(_) => names,
-    }
+    let names = spans::after_text(s, (r.offset as usize) + 5) + 4;
+    let types = spans::after_texts(s, r.count, names);
+    types
 }
 
 // The first row, plus 1, of the library whose number stands at a place.

@@ -15,6 +15,7 @@ use Rattle.format.specs.Says.{textFrom}
 use Rattle.fields.specs.Parts.{length-part, part-add}
 use Rattle.num.specs.Le.{Bytes}
 use Rattle.strings.specs.Laws.{string-moves, string-only, string-converse}
+use Rattle.spans.specs.Judged.{string-text}
 use Rattle.same.specs.Laws.{SameParts, same-parts, parts-same, same-eq}
 use Rattle.laws.specs.Tests.{bool-ext, pick-of, pick-true, true-same}
 use Rattle.marks.specs.Marks.{sameBetween}
@@ -71,9 +72,6 @@ module _ (s : List ℕ) where
 
   -- ---- strings
 
-  pub text-part : (p a e : ℕ) → stringAt s p ≡ T.Part a e → textFrom s p ≡ part s a (e - a)
-  text-part p a e h = rw h
-
   -- equal bytes are one string
   pub string-shift : (p q a e : ℕ) → stringAt s p ≡ T.Part a e → SameParts s p q (e - p)
       → (stringAt s q ≡ T.Part (q + (a - p)) (q + (e - p))) × (textFrom s p ≡ textFrom s q)
@@ -84,7 +82,7 @@ module _ (s : List ℕ) where
       let i : p + (a - p) ≡ a = omega arith in
       let j : q + (e - p) - (q + (a - p)) ≡ e - a = omega arith in
       let v = parts-last p q (a - p) (e - a) (rw k at w) in
-      (f, text-part p a e h ∙ ((rw i at (v .equal)) ∙ sym (text-part q (q + (a - p)) (q + (e - p)) f ∙ rw j)))
+      (f, string-text s p a e h ∙ ((rw i at (v .equal)) ∙ sym (string-text s q (q + (a - p)) (q + (e - p)) f ∙ rw j)))
 
   module _ (bytes : Bytes s) where
     string-bytes : (p a e : ℕ) → stringAt s p ≡ T.Part a e → part s p (e - p) ≡ stringBytes (textFrom s p)
@@ -93,7 +91,7 @@ module _ (s : List ℕ) where
         let b = stringBytes (part s a (e - a)) in
         let c = string-converse s bytes p a e h in
         let l : length b ≡ e - p = omega (arith, ap length c ∙ length-append b (drop e s), length-drop p s, length-drop e s) in
-        ap (take (e - p)) c ∙ (take-at b (drop e s) (e - p) l ∙ ap stringBytes (sym (text-part p a e h)))
+        ap (take (e - p)) c ∙ (take-at b (drop e s) (e - p) l ∙ ap stringBytes (sym (string-text s p a e h)))
 
     -- one text is the same bytes
     pub string-same : (p q a e b f : ℕ) → stringAt s p ≡ T.Part a e → stringAt s q ≡ T.Part b f → textFrom s p ≡ textFrom s q

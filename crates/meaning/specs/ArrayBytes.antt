@@ -9,10 +9,10 @@ use Rattle.format.specs.declared.Field.the-variants as F
 use Rattle.format.specs.declared.Row.{Row}
 use Rattle.format.specs.Bytes.{pick}
 use Rattle.format.specs.Numbers.{leBytes}
-use Rattle.format.specs.Types.{typeByteAt}
+use Rattle.format.specs.Types.{typeByteAt, afterInfo}
 use Rattle.format.specs.Records.{infoKnown}
 use Rattle.format.specs.Contents.{Detail, typeByte, infoBytes, numbersBytes, array, enc}
-use Rattle.format.specs.Says.{anArray, numberFrom, numbersFrom, detailFrom, afterInfo, arrayFrom}
+use Rattle.format.specs.Says.{anArray, numberFrom, numbersFrom, detailFrom, arrayFrom}
 use Rattle.format.specs.Tidy.{Libraries, detailNeeds, detailBy}
 use Rattle.fields.specs.Parts.{part-to, part-through}
 use Rattle.num.specs.Le.{Bytes}

@@ -15,20 +15,22 @@ use Rattle.format.specs.Numbers.{leBytes, u32At}
 use Rattle.format.specs.Prefix.{prefixBytes}
 use Rattle.format.specs.Text.{wellFormed, stringBytes}
 use Rattle.format.specs.Values.{onEnd, times}
-use Rattle.format.specs.Types.{codeNumber, codeAt, typeByteAt, nameAt, libraryIdAt, infoAt}
+use Rattle.format.specs.Types.{codeNumber, codeAt, typeByteAt, nameAt, libraryIdAt, infoAt, afterText, afterInfo}
 use Rattle.format.specs.Records.{knownLibrary, infoKnown, infosAt}
 use Rattle.format.specs.Contents.{Detail, primitive, text, object, system, class, objects, texts, primitives, typeByte, infoBytes, infosBytes}
-use Rattle.format.specs.Says.{textFrom, afterText, numberFrom, codeFrom, detailFrom, afterInfo, membersFrom}
+use Rattle.format.specs.Says.{textFrom, numberFrom, codeFrom, detailFrom, membersFrom}
 use Rattle.format.specs.Tidy.{numberIn, Libraries, detailNeeds, membersNeed, detailBy, membersBy}
 use Rattle.fields.specs.Parts.{length-part, part-cons}
 use Rattle.fields.specs.Judged.{judged-taken}
 use Rattle.fields.specs.Sequence.{through}
 use Rattle.num.specs.Le.{Bytes, bytes-part, leBytes-le}
 use Rattle.num.specs.Read.{u32-says}
+use Rattle.prefix.specs.Laws.{lenient-alike}
 use Rattle.strings.specs.Laws.{string-told, string-moves, string-converse}
 use Rattle.codes.specs.Codes.{number-primitive}
 use Rattle.types.specs.Keeps.{code-told, type-told, name-told, name-moves, library-told}
 use Rattle.laws.specs.Fields.{by-type}
+use Rattle.spans.specs.Judged.{string-text, name-after, info-after}
 use Rattle.class_info.specs.Moves.{known-moves, info-plain}
 use Rattle.put.specs.Out.{between, textOut}
 use Rattle.pieces.specs.Copy.{libraryNumber, infoOut, infosOut}
@@ -54,7 +56,7 @@ module _ (s : List ℕ) (byte : Bytes s) where
   text-kept p e t =
       let a = t .from in
       let m = string-moves s p a e (t .text) in
-      rw (t .text) (between-is s (stringBytes (part s a (e - a))) p e (omega arith) (m .2) (string-converse s byte p a e (t .text)))
+      rw (string-text s p a e (t .text)) (between-is s (stringBytes (part s a (e - a))) p e (omega arith) (m .2) (string-converse s byte p a e (t .text)))
 
   -- and with its prefix written anew
   pub text-is : (p e : ℕ) → StringStands s p e → textOut s p e ≡ stringBytes (textFrom s p)
@@ -66,7 +68,7 @@ module _ (s : List ℕ) (byte : Bytes s) where
       let k = judged-taken wellFormed R.BadText s a (w .0) e (w .1 .ends) in
       let l : length (part s a (e - a)) ≡ e - a = length-part s a (e - a) (omega arith) in
       let n : w .0 ≡ length (part s a (e - a)) = omega arith in
-      rw (t .text, w .1 .says) (ap (λ (k : ℕ). prefixBytes k ++ part s a (e - a)) n)
+      rw (string-text s p a e (t .text), lenient-alike s p (w .0) a (w .1 .says)) (ap (λ (k : ℕ). prefixBytes k ++ part s a (e - a)) n)
 
   -- any four bytes are a number
   pub number-there : (p : ℕ) → p + 4 ≤ length s → between s p (p + 4) ≡ leBytes 4 (numberFrom s p)
@@ -130,7 +132,7 @@ class-info s rows p e q =
 
 module _ (s : List ℕ) (rows : List Row) where
   pub info-place : (type p e : ℕ) → infoKnown s rows type p ≡ F.End e → afterInfo s type p ≡ e
-  info-place type p e q = rw (info-plain s rows type p e q)
+  info-place type p e q = info-after s type p e (info-plain s rows type p e q)
 
   pub type-is : (type p : ℕ) → type ≤ 7 → typeByte (detailFrom s rows type p) ≡ type
   unfolding detailFrom
@@ -138,7 +140,7 @@ module _ (s : List ℕ) (rows : List Row) where
 
   pub class-detail : (p e : ℕ) → ClassInfo s p e → detailFrom s rows 4 p ≡ class (textFrom s p) (nameAtField s rows (e - 4))
   unfolding detailFrom nameAtField
-  class-detail p e c = rw (c .named)
+  class-detail p e c = rw (name-after s p (e - 4) (c .named))
 
   -- the libraries that a detail needs
   pub needs-is : (type p e : ℕ) → type ≤ 7 → infoKnown s rows type p ≡ F.End e

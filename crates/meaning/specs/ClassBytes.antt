@@ -12,14 +12,15 @@ use Rattle.format.specs.Bytes.{pick, sameBytes}
 use Rattle.format.specs.Numbers.{leBytes, u32At}
 use Rattle.format.specs.Text.{stringBytes}
 use Rattle.format.specs.Values.{times}
-use Rattle.format.specs.Types.{nameAt, typeByteAt, placeOr}
+use Rattle.format.specs.Types.{nameAt, typeByteAt, afterText, afterInfo}
 use Rattle.format.specs.Contents.{Member, namesBytes, typesBytes, infosBytes, classBytes, enc}
-use Rattle.format.specs.Says.{From, theSystem, theLibrary, Class, textFrom, afterText, numberFrom, libraryName, detailFrom, afterInfo, membersFrom, classFrom}
+use Rattle.format.specs.Says.{From, theSystem, theLibrary, Class, textFrom, numberFrom, libraryName, detailFrom, membersFrom, classFrom}
 use Rattle.format.specs.Tidy.{numberIn, Libraries, membersNeed, fromNeeds, classNeeds, membersBy, classBy}
 use Rattle.fields.specs.Parts.{part-to, part-through}
 use Rattle.fields.specs.Sequence.{through}
 use Rattle.num.specs.Le.{Bytes}
 use Rattle.types.specs.Keeps.{type-told, name-moves, names-within, types-end}
+use Rattle.spans.specs.Judged.{name-after, names-after}
 use Rattle.put.specs.Out.{between, headOut}
 use Rattle.pieces.specs.Copy.{libraryNumber, infosOut, classOut, detailsOut}
 use Rattle.meaning.specs.Stands.{OwnStands, of-system, of-library, ClassStands}
@@ -59,7 +60,7 @@ module _ (s : List ℕ) (byte : Bytes s) (rows : List Row) (ls : Libraries) wher
   names-is zero names types infos e q = between-none s names e (cc)
   names-is (suc n) names types infos e q =
       let x = through (times (nameAt s) n) (nameAt s names) e q in
-      let d : afterText s names ≡ x .0 = ap (placeOr names) (x .1) in
+      let d : afterText s names ≡ x .0 = name-after s names (x .0) (x .1) in
       let r : times (nameAt s) n (afterText s names) ≡ F.End e = ap (times (nameAt s) n) d ∙ x .2 in
       go (afterText s names) (x .1 ∙ ap F.End (sym d)) r
       ∙ ap (λ (l : List ℕ). stringBytes (textFrom s names) ++ l) (names-is n (afterText s names) (types + 1) (afterInfo s (getD s types 0) infos) e r)
@@ -75,7 +76,7 @@ module _ (s : List ℕ) (byte : Bytes s) (rows : List Row) (ls : Libraries) wher
 module _ (s : List ℕ) (rows : List Row) (r : Row) (c : ClassStands s rows r) where
   pub members-from : classFrom s rows r .members ≡ membersFrom s rows (r .count) (c .name-end + 4) (c .types) (c .types + r .count)
   unfolding classFrom
-  members-from = rw (c .named, c .names)
+  members-from = rw (name-after s (r .offset + 5) (c .name-end) (c .named), names-after s (r .count) (c .name-end + 4) (c .types) (c .names))
 
   module _ (byte : Bytes s) (ls : Libraries) where
     -- name, member count, names and type bytes

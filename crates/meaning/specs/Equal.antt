@@ -29,6 +29,7 @@ use Rattle.same.specs.Laws.{SameParts, same-eq}
 use Rattle.lookups.specs.Find.{find-hit}
 use Rattle.laws.specs.Tests.{bool-ext, both-of, both-true, apart, pick-of, pick-true, true-same, class-of, class-eq, true-class, class-refl}
 use Rattle.laws.specs.Firsts.{find-alike, find-some}
+use Rattle.spans.specs.Judged.{name-after, names-after}
 use Rattle.marks.specs.Marks.{withId, withSlot, libraryAt, sameBetween, sameInfos, infosPlace, sameOwn, sameDetails, sameClassRow, firstClass}
 use Rattle.meaning.specs.Stands.{OwnStands, of-system, of-library, ClassStands, Stands}
 use Rattle.meaning.specs.Marked.{Placed, nameAtField, classFirst}
@@ -192,7 +193,8 @@ said s rows r c =
 
 pub class-from : (s : List ℕ) (rows : List Row) (r : Row) (c : ClassStands s rows r) → classFrom s rows r ≡ said s rows r c
 unfolding classFrom
-class-from s rows r c = rw (c .named, c .names)
+class-from s rows r c =
+    rw (name-after s (r .offset + 5) (c .name-end) (c .named), names-after s (r .count) (c .name-end + 4) (c .types) (c .names))
 
 -- the row that class row i leads to: the first row of its class
 pub record ClassFirst (s : List ℕ) (rows ps : List Row) (i : ℕ) : Type 0 where

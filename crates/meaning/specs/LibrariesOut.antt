@@ -10,7 +10,7 @@ use borrow.Author.Tests.{eqb-true}
 use Rattle.format.specs.declared.Row.{Row}
 use Rattle.format.specs.Bytes.{pick, sameBytes}
 use Rattle.format.specs.Contents.{Rec, library, enc, encs}
-use Rattle.format.specs.Says.{afterInfo}
+use Rattle.format.specs.Types.{afterInfo}
 use Rattle.format.specs.Tidy.{numberIn, Libraries, entered, allEntered, libraryRecords}
 use Rattle.same.specs.Laws.{same-refl}
 use Rattle.laws.specs.Numbers.{Counted, all-counted, number-new, entered-new}

@@ -9,7 +9,8 @@ use lib.Dec.{eqb}
 use Rattle.format.specs.declared.Row.{Row}
 use Rattle.format.specs.Bytes.{pick, sameBytes}
 use Rattle.format.specs.Rows.{blank, isObject, isClass, findFrom, withLink}
-use Rattle.format.specs.Says.{Class, textFrom, numberFrom, libraryName, afterInfo, classFrom, orderOf}
+use Rattle.format.specs.Types.{afterInfo}
+use Rattle.format.specs.Says.{Class, textFrom, numberFrom, libraryName, classFrom, orderOf}
 use Rattle.format.specs.Tidy.{sameClass}
 use Rattle.marks.specs.Marks.{withId, withSlot, withCount, word, firstLibrary, typesPlace, infosPlace, itemType, firstClass, isFirst}
 

@@ -1,6 +1,6 @@
 -- Members: names that are alike, and types with their details that pass the test of the marks where they are equal.
 use Prim.Native.Nat.{ℕ, zero, suc, _+_, _-_, _≤_, _<_}
-use mathlib.Core.Path.{_≡_, refl, sym, ap, subst, _∙_}
+use mathlib.Core.Path.{_≡_, refl, sym, ap, ap₂, subst, _∙_}
 use mathlib.Core.Bool.{true}
 use mathlib.Core.List.{List, [], _∷_, map}
 use native.Mathlib.Omega.{arith}
@@ -10,17 +10,18 @@ use Rattle.format.specs.declared.Coded.{Coded}
 use Rattle.format.specs.declared.Field.the-variants as F
 use Rattle.format.specs.declared.Row.{Row}
 use Rattle.format.specs.Bytes.{sameBytes}
-use Rattle.format.specs.Types.{codeNumber, coded, primitiveOf, codeAt, typeByteAt, nameAt, infoAt, placeOr}
+use Rattle.format.specs.Types.{codeNumber, coded, primitiveOf, codeAt, typeByteAt, nameAt, infoAt, afterText, afterInfo}
 use Rattle.format.specs.Values.{times}
 use Rattle.format.specs.Records.{infoKnown, infosAt}
 use Rattle.format.specs.Contents.{Detail, primitive, text, object, system, class, objects, texts, primitives, Member, typeByte}
-use Rattle.format.specs.Says.{textFrom, afterText, numberFrom, codeFrom, libraryName, detailFrom, afterInfo, membersFrom}
+use Rattle.format.specs.Says.{textFrom, numberFrom, codeFrom, libraryName, detailFrom, membersFrom}
 use Rattle.fields.specs.Parts.{part-cons}
 use Rattle.fields.specs.Sequence.{through}
 use Rattle.num.specs.Le.{Bytes}
 use Rattle.codes.specs.Ends.{name-end}
 use Rattle.codes.specs.Codes.{number-primitive}
 use Rattle.types.specs.Keeps.{code-told, type-told, name-told, name-moves}
+use Rattle.spans.specs.Judged.{name-after}
 use Rattle.class_info.specs.Moves.{names-there, info-plain, info-known-moves}
 use Rattle.same.specs.Laws.{SameParts, same-eq}
 use Rattle.laws.specs.Tests.{both-of, both-true, pick-of, pick-true, true-same}
@@ -90,9 +91,6 @@ module _ (s : List ℕ) where
       let e = w .equal in
       cc
 
-  after-text : (p e : ℕ) → nameAt s p ≡ F.End e → afterText s p ≡ e
-  after-text p e h = ap (placeOr p) h
-
   -- n names whose bytes are alike
   pub names-shift : (n p q e f : ℕ) → p ≤ length s → times (nameAt s) n p ≡ F.End e → times (nameAt s) n q ≡ F.End f → SameParts s p q (e - p)
       → (f ≡ q + (e - p)) × (namesFrom s n p ≡ namesFrom s n q)
@@ -116,10 +114,11 @@ module _ (s : List ℕ) where
       let a : p + (m - p) ≡ m = omega arith in
       let w3 : SameParts s m (q + (m - p)) (e - m) = rw a at (parts-last s p q (m - p) (e - m) w2) in
       let y2 : times (nameAt s) n (q + (m - p)) ≡ F.End f = rw o at (v .2) in
-      let r = names-shift n m (q + (m - p)) e f (i .1) (u .2) y2 w3 in
-      let c = z .1 in
-      let d = r .1 in
-      (omega (arith, r .0), rw (after-text p m (u .1), after-text q (q + (m - p)) g) cc)
+      let r = names-shift n m (q + (m - p)) e f (i .1) (u .2) y2 w3 in (
+        omega (arith, r .0),
+        ap₂ (λ (x : List ℕ) (l : List (List ℕ)). x ∷ l) (z .1)
+            (ap (namesFrom s n) (name-after s p m (u .1)) ∙ (r .1 ∙ ap (namesFrom s n) (sym (name-after s q (q + (m - p)) g)))),
+      )
 
   module _ (bytes : Bytes s) where
     -- n names that are alike
@@ -134,7 +133,7 @@ module _ (s : List ℕ) where
     names-same (suc n) p q e f h g x y l =
         let u = through (times (nameAt s) n) (nameAt s p) e x in
         let v = through (times (nameAt s) n) (nameAt s q) f y in
-        let l2 = rw (after-text p (u .0) (u .1), after-text q (v .0) (v .1)) at l in
+        let l2 = rw (name-after s p (u .0) (u .1), name-after s q (v .0) (v .1)) at l in
         names-step n p q (u .0) (v .0) e f (u .1) (v .1) (u .2) (v .2) (cc)
         (names-same n (u .0) (v .0) e f (name-moves s p (u .0) (u .1) .1) (name-moves s q (v .0) (v .1) .1) (u .2) (v .2) (cc))
       where
@@ -209,8 +208,8 @@ module _ (s : List ℕ) (rows ps : List Row) (st : Stands s rows) (pl : Placed s
       let libraries = same-library s rows ps st pl (x - 4) (y - 4) (u .0) (v .0) in
       let k = nameAtField s rows (x - 4) in
       let l = nameAtField s rows (y - 4) in
-      let c : detailFrom s rows 4 a ≡ class (textFrom s a) k = ap (λ (z : ℕ). class (textFrom s a) (libraryName s rows (numberFrom s z))) (after-text s a (x - 4) m) in
-      let d : detailFrom s rows 4 b ≡ class (textFrom s b) l = ap (λ (z : ℕ). class (textFrom s b) (libraryName s rows (numberFrom s z))) (after-text s b (y - 4) n) in
+      let c : detailFrom s rows 4 a ≡ class (textFrom s a) k = ap (λ (z : ℕ). class (textFrom s a) (libraryName s rows (numberFrom s z))) (name-after s a (x - 4) m) in
+      let d : detailFrom s rows 4 b ≡ class (textFrom s b) l = ap (λ (z : ℕ). class (textFrom s b) (libraryName s rows (numberFrom s z))) (name-after s b (y - 4) n) in
       let test = sameBetween s a (x - 4) b (y - 4) in
       let firsts = eqb (libraryAt s ps (x - 4)) (libraryAt s ps (y - 4)) in (
         (λ t.

@@ -13,16 +13,17 @@ use Rattle.format.specs.declared.Refusal.the-variants as R
 use Rattle.format.specs.declared.Field.the-variants as F
 use Rattle.format.specs.declared.Row.{Row}
 use Rattle.format.specs.Bytes.{pick, sameBytes, samePart}
-use Rattle.format.specs.Types.{nameAt, libraryIdAt, infoAt}
+use Rattle.format.specs.Types.{nameAt, libraryIdAt, infoAt, afterInfo}
 use Rattle.format.specs.Values.{onEnd}
 use Rattle.format.specs.Rows.{blank, isObject, isClass, findFrom, libraryRow, withLink}
 use Rattle.format.specs.Records.{knownLibrary, infoKnown, infosAt, ownLibraryAt}
-use Rattle.format.specs.Says.{textFrom, numberFrom, libraryName, afterInfo, isNulls, orderOf}
+use Rattle.format.specs.Says.{textFrom, numberFrom, libraryName, isNulls, orderOf}
 use Rattle.num.specs.Le.{Bytes}
 use Rattle.num.specs.Read.{u32-says}
 use Rattle.fields.specs.Judged.{no-end, picked}
 use Rattle.fields.specs.Sequence.{through}
 use Rattle.types.specs.Keeps.{library-told}
+use Rattle.spans.specs.Judged.{name-after, names-after}
 use Rattle.class_info.specs.Moves.{names-there, types-there, infos-moves}
 use Rattle.same.specs.Laws.{same-eq}
 use Rattle.lookups.specs.Find.{find-hit, library-at}
@@ -237,7 +238,8 @@ module _ (s : List ℕ) (rows : List Row) where
 module _ (s : List ℕ) (rows : List Row) (r : Row) (c : ClassStands s rows r) where
   pub types-place : typesPlace s r ≡ c .types
   unfolding typesPlace
-  types-place = rw (c .named, c .names)
+  types-place =
+      rw (name-after s (r .offset + 5) (c .name-end) (c .named)) (names-after s (r .count) (c .name-end + 4) (c .types) (c .names))
 
   pub class-places : (c .name-end + 4 ≤ c .types) × (c .types + r .count ≤ length s) × (c .types + r .count ≤ c .infos-end) × (c .infos-end ≤ length s)
   class-places =

@@ -13,7 +13,7 @@ use borrow.Author.Tests.{eqb-true, eqb-false, eq-eqb}
 use Rattle.format.specs.declared.Row.{Row}
 use Rattle.format.specs.Bytes.{pick}
 use Rattle.format.specs.Rows.{blank, isClass, withLink}
-use Rattle.format.specs.Says.{afterInfo}
+use Rattle.format.specs.Types.{afterInfo}
 use Rattle.marks.specs.Marks.{Pass, pass, sweep, word, withSlot, libraryAt, need, needInfo, needInfos, needClass, itemType, needArray, isFirst, needsRow, needOne, needed, infosPlace}
 use Rattle.meaning.specs.Marked.{infoFields, classFields, arrayFields, rowFields, fieldsFrom, All, none, both}
 use Rattle.meaning.specs.Passes.{looked, at-alike}

@@ -12,7 +12,8 @@ use borrow.Author.Tests.{eqb-true, eqb-false, eq-eqb, ne-eqb, leb-true, leb-fals
 use Rattle.format.specs.declared.Row.{Row}
 use Rattle.format.specs.Bytes.{pick}
 use Rattle.format.specs.Rows.{blank, isObject, isClass, findFrom, libraryRow, withLink}
-use Rattle.format.specs.Says.{objectsIn, orderOf, numberFrom, afterInfo}
+use Rattle.format.specs.Types.{afterInfo}
+use Rattle.format.specs.Says.{objectsIn, orderOf, numberFrom}
 use Rattle.laws.specs.Kinds.{class-is-object}
 use Rattle.laws.specs.Firsts.{find-alike}
 use Rattle.laws.specs.Orders.{order-next}

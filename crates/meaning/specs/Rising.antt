@@ -13,7 +13,8 @@ use Rattle.format.specs.declared.Row.{Row}
 use Rattle.format.specs.Bytes.{pick}
 use Rattle.format.specs.Rows.{blank, isObject, isClass}
 use Rattle.format.specs.Records.{infoKnown, infosAt}
-use Rattle.format.specs.Says.{numberFrom, afterInfo}
+use Rattle.format.specs.Types.{afterInfo}
+use Rattle.format.specs.Says.{numberFrom}
 use Rattle.format.specs.Contents.{library, enc}
 use Rattle.num.specs.Read.{u32-says}
 use Rattle.fields.specs.Judged.{picked}

@@ -9,6 +9,7 @@ use lib.ListN.{length, getD, set, length-take, length-drop, length-append, lengt
 use lib.Dec.{eqb, leb, ltb}
 use borrow.Author.Tests.{eqb-true}
 use Rattle.format.specs.declared.Row.{Row}
+use Rattle.format.specs.declared.Setting.the-variants as Q
 use Rattle.format.specs.declared.Prefix.{Prefix}
 use Rattle.format.specs.declared.Prefix.the-variants as P
 use Rattle.format.specs.Bytes.{pick, part}
@@ -17,7 +18,8 @@ use Rattle.format.specs.Prefix.{groupsOf, prefixAt, prefixBytes}
 use Rattle.format.specs.Contents.{Rec, enc, encs}
 use Rattle.format.specs.Tidy.{runOf}
 use Rattle.format.specs.Rows.{blank, isObject, isClass, withLink}
-use Rattle.format.specs.Says.{afterInfo, isNulls}
+use Rattle.format.specs.Types.{afterInfo}
+use Rattle.format.specs.Says.{isNulls}
 use Rattle.num.specs.Le.{length-leBytes}
 use Rattle.fields.specs.Judged.{picked}
 use Rattle.standing.specs.Members.{membersOf, membersIn}
@@ -82,7 +84,7 @@ module _ (s : List ℕ) (short : length s ≤ 16777216) where
 
   text-long : (p e : ℕ) → length (textOut s p e) ≤ 16777221
   unfolding textOut
-  text-long p e = go (prefixAt s p)
+  text-long p e = go (prefixAt Q.Lenient s p)
     where
       go : (x : Prefix) → length (textOver s p e x) ≤ 16777221
       go (P.Length n next) = joined (prefixBytes n) (part s next (e - next)) 5 16777216 (groups-few 4 n) (part-long next (e - next))

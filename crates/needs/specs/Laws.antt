@@ -8,7 +8,7 @@ use lib.ListN.{getD, set}
 use borrow.Author.Tests.{eq-eqb, ne-eqb}
 use Rattle.format.specs.declared.Row.{Row}
 use Rattle.format.specs.Rows.{blank, withLink}
-use Rattle.format.specs.Says.{afterInfo}
+use Rattle.format.specs.Types.{afterInfo}
 use Rattle.marks.specs.Marks.{rowAt, withSlot, word, Pass, pass, libraryAt, infosPlace, need, needInfo, needInfos, needOwn, needClass, itemType, needArray, isFirst, needOne}
 
 module _ (s : List ℕ) where

@@ -64,7 +64,7 @@ fn need_infos(
     let mut number = last;
     while left > 0 {
         let kind = codes::byte_at(s, t);
-        let end = marks::after_info(s, kind, p);
+        let end = spans::after_info(s, kind, p);
         number = need_info(s, table, n, kind, end, number);
         p = end;
         t += 1;
@@ -98,7 +98,7 @@ fn need_array(s: &[u8], table: &mut [u32], n: usize, r: Row, last: LibraryNo) ->
 {
     let p = marks::item_type(s, r);
     let kind = codes::byte_at(s, p);
-    need_info(s, table, n, kind, marks::after_info(s, kind, p + 1), last)
+    need_info(s, table, n, kind, spans::after_info(s, kind, p + 1), last)
 }
 
 // What row i needs: a class's first row the libraries of the class, a BinaryArray that of its items.

@@ -5,6 +5,7 @@ use mathlib.Core.List.{List}
 use native.Mathlib.Omega.{arith}
 use lib.ListN.{length, getD}
 use Rattle.format.specs.declared.Refusal.the-variants as R
+use Rattle.format.specs.declared.Setting.the-variants as Q
 use Rattle.format.specs.declared.Prefix.the-variants as P
 use Rattle.format.specs.declared.Text.the-variants as T
 use Rattle.format.specs.Prefix.{prefixAt}
@@ -28,14 +29,14 @@ module _ (s : List ℕ) where
   read-one : One s Read
   read-one k least p i l h f = record { enough = λ u. l; groups = last i h refl refl }
 
-  read-on : On s Read
+  read-on : On 1 s Read
   read-on k least p m e i l h t =
       let u = t .enough (omega arith) in
       record { enough = λ z. omega arith; groups = more m i h refl u (t .groups) }
 
-  groups-at : (p n e : ℕ) → prefixAt s p ≡ P.Length n e → Groups p n e
+  groups-at : (p n e : ℕ) → prefixAt Q.Strict s p ≡ P.Length n e → Groups p n e
   groups-at p n e q =
-      let t : Read 4 0 p n e = rw q at (every s Read read-one read-on 4 0 p) in
+      let t : Read 4 0 p n e = rw q at (every 1 s Read read-one read-on 4 0 p) in
       t .groups
 
   -- the n bytes of a text after a prefix of k bytes
@@ -70,7 +71,7 @@ module _ (s : List ℕ) where
     found (more m i h a l (more m2 i2 h2 a2 l2 (more m3 i3 h3 a3 l3 (more m4 i4 h4 a4 l4 t)))) = absurd (omega arith)
 
 -- n bytes after a prefix that says n
-pub prefix-found : (s : List ℕ) (p n e : ℕ) → n < 268435456 → e + n ≤ length s → prefixAt s p ≡ P.Length n e
+pub prefix-found : (s : List ℕ) (p n e : ℕ) → n < 268435456 → e + n ≤ length s → prefixAt Q.Strict s p ≡ P.Length n e
     → spanAt s p ≡ record { from = e; to = e + n }
 prefix-found s p n e small room q = found s p n e small room (groups-at s p n e q)
 

@@ -9,6 +9,7 @@ use borrow.Author.Tests.{ltb-true, leb-true, eqb-false}
 use Rattle.format.specs.declared.Refusal.the-variants as R
 use Rattle.format.specs.declared.PrimitiveCode.{PrimitiveCode}
 use Rattle.format.specs.declared.PrimitiveCode.the-variants as C
+use Rattle.format.specs.declared.Setting.the-variants as Q
 use Rattle.format.specs.declared.Prefix.{Prefix}
 use Rattle.format.specs.declared.Prefix.the-variants as P
 use Rattle.format.specs.declared.Number64.{Number64}
@@ -87,7 +88,7 @@ char-on s p e q =
 
 -- ---- Decimal
 
-decimal-told : (s : List ℕ) (p e : ℕ) (r : Prefix) → length s < 268435456 → prefixAt s p ≡ r → decimalFrom s r ≡ F.End e → afterString s p ≡ e
+decimal-told : (s : List ℕ) (p e : ℕ) (r : Prefix) → length s < 268435456 → prefixAt Q.Strict s p ≡ r → decimalFrom s r ≡ F.End e → afterString s p ≡ e
 unfolding decimalText judgedAt afterString
 decimal-told s p e (P.Length n next) h u q =
     let t = judged-taken decimal R.BadValue s next n e q in
@@ -98,7 +99,7 @@ decimal-told s p e (P.Fault f) h u q = absurd (no-end f e q)
 
 decimal-on : (s : List ℕ) (p e : ℕ) → length s < 268435456 → decimalAt s p ≡ F.End e → afterString s p ≡ e
 unfolding decimalAt
-decimal-on s p e h q = decimal-told s p e (prefixAt s p) h refl q
+decimal-on s p e h q = decimal-told s p e (prefixAt Q.Strict s p) h refl q
 
 -- ---- a value by its code
 

@@ -9,7 +9,8 @@ use Rattle.format.specs.declared.Row.{Row}
 use Rattle.format.specs.Bytes.{pick}
 use Rattle.format.specs.Numbers.{leBytes}
 use Rattle.format.specs.Rows.{isClass}
-use Rattle.format.specs.Says.{afterInfo, isNulls}
+use Rattle.format.specs.Types.{afterInfo}
+use Rattle.format.specs.Says.{isNulls}
 use Rattle.put.specs.Out.{between, textOut, headOut, byIdOut, headerOut, runOut}
 use Rattle.pieces.specs.declared.Gathered.{Gathered}
 use Rattle.marks.specs.Marks.{rowAt, word, libraryAt, infosPlace, itemType, isFirst}

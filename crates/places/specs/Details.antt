@@ -15,11 +15,11 @@ use Rattle.format.specs.Bytes.{pick, part}
 use Rattle.format.specs.Numbers.{le, leBytes}
 use Rattle.format.specs.Text.{stringBytes}
 use Rattle.format.specs.Values.{onEnd}
-use Rattle.format.specs.Types.{codeAt, nameAt, libraryIdAt, positive, infoAt, slotOf}
+use Rattle.format.specs.Types.{codeAt, nameAt, libraryIdAt, positive, infoAt, slotOf, afterText}
 use Rattle.format.specs.Rows.{libraryRow}
 use Rattle.format.specs.Records.{knownLibrary, ownLibraryAt, infoKnown}
 use Rattle.format.specs.Contents.{Detail, primitive, text, object, system, class, objects, texts, primitives, typeByte, infoBytes, slotFor}
-use Rattle.format.specs.Says.{textFrom, afterText, numberFrom, codeFrom}
+use Rattle.format.specs.Says.{textFrom, numberFrom, codeFrom}
 use Rattle.format.specs.Grammar.{LibraryId, GoodDetail}
 use Rattle.format.specs.Own.{positive-exactly}
 use Rattle.fields.specs.Judged.{no-end}

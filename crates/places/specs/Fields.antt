@@ -7,6 +7,7 @@ use mathlib.Core.List.{List, [], _∷_}
 use native.Mathlib.Omega.{arith}
 use lib.ListN.{length, getD, drop}
 use borrow.Author.Tests.{leb-false, lt-leb}
+use Rattle.format.specs.declared.Setting.the-variants as Q
 use Rattle.format.specs.declared.Refusal.the-variants as R
 use Rattle.format.specs.declared.PrimitiveCode.{PrimitiveCode}
 use Rattle.format.specs.declared.Coded.the-variants as D
@@ -17,14 +18,15 @@ use Rattle.format.specs.Bytes.{part}
 use Rattle.format.specs.Numbers.{leBytes, negative, u32At}
 use Rattle.format.specs.Prefix.{prefixBytes}
 use Rattle.format.specs.Text.{wellFormed, stringAt, stringBytes}
-use Rattle.format.specs.Types.{codeNumber, primitiveOf, codeAt, nameAt}
-use Rattle.format.specs.Says.{textFrom, afterText, numberFrom, codeFrom}
+use Rattle.format.specs.Types.{codeNumber, primitiveOf, codeAt, nameAt, afterText}
+use Rattle.format.specs.Says.{textFrom, numberFrom, codeFrom}
 use Rattle.format.specs.Grammar.{Name}
 use Rattle.fields.specs.Judged.{judged-taken}
 use Rattle.fields.specs.Parts.{length-part}
 use Rattle.num.specs.Le.{Bytes, bytes-part, length-leBytes, leBytes-le}
 use Rattle.num.specs.Read.{u32-says, u32-written, says-below}
 use Rattle.prefix.specs.Laws.{bound}
+use Rattle.spans.specs.Judged.{string-after, string-text}
 use Rattle.strings.specs.Laws.{string-told, string-moves, string-well, string-round, string-converse}
 use Rattle.codes.specs.Codes.{primitive-number, number-primitive}
 use Rattle.codes.specs.Ends.{code-end, name-end}
@@ -89,10 +91,10 @@ module _ (s t : List ℕ) (p e : ℕ) (n : Name t) (w : Stand s (stringBytes t) 
   name-text =
       let x = stand-split (prefixBytes (length t)) t w in
       let k = stand-size (x .1) in
-      rw (string-there, ← k) (stand-same (x .2))
+      string-text s p (p + length (prefixBytes (length t))) e string-there ∙ rw (← k) (stand-same (x .2))
 
   pub name-after : afterText s p ≡ e
-  name-after = rw name-there
+  name-after = string-after s p (p + length (prefixBytes (length t))) e string-there
 
 pub name-back : (s : List ℕ) (p e : ℕ) → Bytes s → nameAt s p ≡ F.End e
     → Name (textFrom s p) × Stand s (stringBytes (textFrom s p)) p e × (afterText s p ≡ e)
@@ -101,12 +103,13 @@ name-back s p e b q =
     let a = w .0 in
     let m = string-moves s p a e (w .1) in
     let c = string-told s p a e (w .1) in
-    let i = bound s p (c .0) a (c .1 .says) in
+    let i = bound Q.Strict s p (c .0) a (c .1 .says) in
     let j = judged-taken wellFormed R.BadText s a (c .0) e (c .1 .ends) in
-    let l = length-part s a (e - a) (omega arith) in (
-      record { good = utf8-exactly (textFrom s p) .0 (rw (w .1) (string-well s p a e (w .1))); short = rw (w .1, l) (omega (arith, j .ends)) },
-      rw (w .1) (record { bytes = string-converse s b p a e (w .1); onward = omega arith; room = m .2 }),
-      rw q,
+    let l = length-part s a (e - a) (omega arith) in
+    let x = string-text s p a e (w .1) in (
+      record { good = utf8-exactly (textFrom s p) .0 (rw x (string-well s p a e (w .1))); short = rw (x, l) (omega (arith, j .ends)) },
+      rw x (record { bytes = string-converse s b p a e (w .1); onward = omega arith; room = m .2 }),
+      string-after s p a e (w .1),
     )
 
 -- ---- codes

@@ -1,7 +1,7 @@
 -- The members of a class at their places (01, Records): all names, then all type bytes, then the details. Members that the grammar takes are
 -- those that end, read at a place they are those written there, and the types that an open object sees are those of the members.
 use Prim.Native.Nat.{ℕ, zero, suc, _+_, _≤_, _<_}
-use mathlib.Core.Path.{_≡_, refl, ap}
+use mathlib.Core.Path.{_≡_, refl, sym, ap, subst}
 use mathlib.Core.List.{List, [], _∷_}
 use native.Mathlib.Omega.{arith}
 use lib.ListN.{length, getD}
@@ -11,20 +11,21 @@ use Rattle.format.specs.declared.Field.the-variants as F
 use Rattle.format.specs.declared.Row.{Row}
 use Rattle.format.specs.Text.{stringBytes}
 use Rattle.format.specs.Values.{times}
-use Rattle.format.specs.Types.{typeByteAt, nameAt, typedAt}
+use Rattle.format.specs.Types.{typeByteAt, nameAt, typedAt, afterText, afterInfo}
 use Rattle.format.specs.Records.{infoKnown, infosAt}
 use Rattle.format.specs.Contents.{Member, typeByte, infoBytes, slotFor, namesBytes, typesBytes, infosBytes}
-use Rattle.format.specs.Says.{textFrom, afterText, afterInfo}
+use Rattle.format.specs.Says.{textFrom}
 use Rattle.format.specs.Grammar.{Entry, Members, no-more, member, typesOf}
 use Rattle.fields.specs.Sequence.{through}
 use Rattle.num.specs.Le.{Bytes}
 use Rattle.codes.specs.Ends.{type-end}
 use Rattle.types.specs.Keeps.{type-told, name-moves}
+use Rattle.spans.specs.Judged.{info-after}
 use Rattle.slots.specs.Slots.{moved-on}
 use Rattle.class_info.specs.Moves.{info-plain, info-known-moves}
 use Rattle.places.specs.Env.{envOf, slotsFrom}
 use Rattle.places.specs.Stand.{Stand, stand-size, stand-none, stand-byte, stand-then, stand-split, stand-inside, stand-here, stand-after}
-use Rattle.places.specs.Fields.{name-there, name-text, name-back}
+use Rattle.places.specs.Fields.{name-there, name-text, name-after, name-back}
 use Rattle.places.specs.Details.{detailIn, detail-there, detail-in, detail-byte, detail-slot, detail-back, byte-small}
 
 -- n members whose names, type bytes and details stand at these places
@@ -75,12 +76,16 @@ module _ (s : List ℕ) (rows : List Row) where
           let x = name-back s names m byte q in
           let d = detail-back s infos rows k (getD s types 0) g byte j u in
           let f : typeByte (detailIn s (getD s types 0) infos) ≡ getD s types 0 = detail-byte s infos (getD s types 0) g in
-          rw (q, info-plain s rows (getD s types 0) infos k u) (record {
+          let i = info-after s (getD s types 0) infos k (info-plain s rows (getD s types 0) infos k u) in
+          let here : Member ℕ = record { name = textFrom s names; type = detailIn s (getD s types 0) infos } in
+          subst (λ (z : ℕ). MembersAt (envOf s rows) s (here ∷ membersIn s n z (types + 1) (afterInfo s (getD s types 0) infos)) names types infos a b c)
+          (sym (x .2))
+          (rw i (record {
             good = member (x .0) (d .good) (more .good);
             names-stand = stand-then (x .1) (more .names-stand);
             types-stand = rw f (stand-then (stand-byte l) (more .types-stand));
             infos-stand = stand-then (d .stands) (more .infos-stand);
-          })
+          }))
 
   -- ---- what is written is read
 
@@ -116,7 +121,14 @@ module _ (s : List ℕ) (rows : List Row) where
             names-end = rw n (ends .names-end);
             types-end = rw t (ends .types-end);
             infos-end = rw (f, q) (ends .infos-end);
-            same = rw (f, name-text s (m .name) names i g u, detail-in s rows infos k (m .type) d w, n, info-plain s rows (typeByte (m .type)) infos k q, ends .same);
+            same = rw (
+              f,
+              name-text s (m .name) names i g u,
+              detail-in s rows infos k (m .type) d w,
+              name-after s (m .name) names i g u,
+              info-after s (typeByte (m .type)) infos k (info-plain s rows (typeByte (m .type)) infos k q),
+              ends .same,
+            );
           }
 
   -- ---- the types of an object's slots
@@ -135,6 +147,6 @@ module _ (s : List ℕ) (rows : List Row) where
           → slotsFrom s (typedAt s (types + 1) k) n ≡ typesOf (membersIn s n (afterText s names) (types + 1) k)
           → slotsFrom s (typedAt s types infos) (suc n) ≡ typesOf (membersIn s (suc n) names types infos)
       step k u g l more =
-          let i = info-plain s rows (getD s types 0) infos k u in
+          let i = info-after s (getD s types 0) infos k (info-plain s rows (getD s types 0) infos k u) in
           rw (moved-on s (typedAt s types infos) (λ z. omega arith), lt-ltb types (length s) l, i, detail-slot s infos (getD s types 0) g)
           (ap (λ (ts : List SlotType). slotFor (detailIn s (getD s types 0) infos) ∷ ts) more)

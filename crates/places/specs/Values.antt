@@ -7,6 +7,7 @@ use native.Mathlib.Omega.{arith}
 use lib.ListN.{length, getD, drop, length-append}
 use lib.Dec.{eqb}
 use borrow.Author.Tests.{leb-true, eqb-false}
+use Rattle.format.specs.declared.Setting.the-variants as Q
 use Rattle.format.specs.declared.Refusal.the-variants as R
 use Rattle.format.specs.declared.PrimitiveCode.{PrimitiveCode}
 use Rattle.format.specs.declared.PrimitiveCode.the-variants as C
@@ -133,7 +134,7 @@ decimal-back s p e b q =
     let j = judged-taken decimal R.BadValue s a n e (c .ends) in
     let l = length-part s a n (j .room) in
     let z : e - a ≡ n = omega arith in
-    exact (part s a n) (decimal-exactly (part s a n) .0 (j .good)) (rw l (bound s p n a (c .says)))
+    exact (part s a n) (decimal-exactly (part s a n) .0 (j .good)) (rw l (bound Q.Strict s p n a (c .says)))
     (part-through s p a e (omega arith) (m .1) ∙ rw (z, l, taken s b p n a (c .says)))
 
 date-back : (s : List ℕ) (p e : ℕ) → dateTimeAt s p ≡ F.End e → Value C.DateTime (part s p (e - p))

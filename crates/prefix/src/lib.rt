@@ -1,11 +1,12 @@
 // The length prefix of a text: reading it, its length, and writing it.
 use format::Prefix;
 use format::Refusal;
+use format::Setting;
 ghost use mathlib.Core.Path.{_≡_};
 ghost use Prim.Native.Nat.{_+_, _≤_, _<_, _%_, _^_};
 ghost use lib.ListN.{length};
 ghost use Rattle.format.specs.Bytes.{laid, Written};
-ghost use Rattle.format.specs.Prefix.{prefixIn, prefixAt, onto, groupsOf, prefixBytes};
+ghost use Rattle.format.specs.Prefix.{prefixIn, laterLeast, prefixAt, onto, groupsOf, prefixBytes};
 ghost use Rattle.prefix.specs.Laws.{Below};
 
 // ---- reading
@@ -28,11 +29,13 @@ fn onto_group(b: u8, rest: Prefix) -> Prefix
     }
 }
 
-// The groups from `at`: at most `k` bytes may follow the first, which is at least `least` if it is the last.
-fn groups(s: &[u8], at: usize, k: u8, least: u8) -> Prefix
+// The groups from `at`: at most `k` bytes may follow the first, which is at least `least` if it is the last; a later last one is at
+// least `later`.
+fn groups(s: &[u8], at: usize, k: u8, least: u8, later: u8) -> Prefix
     requires { ⌜ k ≤ 4 ⌝ }
     requires { ⌜ least ≤ 1 ⌝ }
-    ensures { λ r. ⌜ r ≡ prefixIn k least (now (s .entry)) at ⌝ }
+    requires { ⌜ later ≤ 1 ⌝ }
+    ensures { λ r. ⌜ r ≡ prefixIn k least later (now (s .entry)) at ⌝ }
 {
     if s.len() <= at {
         return Prefix::Fault(Refusal::CutShort);
@@ -50,13 +53,23 @@ fn groups(s: &[u8], at: usize, k: u8, least: u8) -> Prefix
     if b < 128 {
         return last_group(b, at + 1);
     }
-    onto_group(b, groups(s, at + 1, k - 1, 1))
+    onto_group(b, groups(s, at + 1, k - 1, later, later))
+}
+
+// The smallest last group in a later byte.
+fn later_least(setting: Setting) -> u8
+    ensures { λ r. ⌜ r ≡ laterLeast setting ⌝ }
+{
+    match setting {
+        Setting::Strict => 1,
+        Setting::Lenient => 0,
+    }
 }
 
 // The length prefix at a place. A prefix that the stream ends in is cut short, unless a byte before the end already shows that
 // its length is bad.
-pub fn prefix_at(s: &[u8], at: usize) -> Prefix
-    ensures { λ r. ⌜ r ≡ prefixAt (now (s .entry)) at ⌝ }
+pub fn prefix_at(s: &[u8], at: usize, setting: Setting) -> Prefix
+    ensures { λ r. ⌜ r ≡ prefixAt setting (now (s .entry)) at ⌝ }
 {
     if at < s.len() {
         let b = s[at];
@@ -64,7 +77,7 @@ pub fn prefix_at(s: &[u8], at: usize) -> Prefix
             return last_group(b, at + 1);
         }
     }
-    let r = groups(s, at, 4, 0);
+    let r = groups(s, at, 4, 0, later_least(setting));
     r
 }
 

@@ -1,6 +1,7 @@
 -- The bytes that the writers put out: parts of the stream, texts after the prefix of their length, numbers, and null runs.
 use Prim.Native.Nat.{ℕ, _-_}
 use mathlib.Core.List.{List, _∷_, _++_}
+use Rattle.format.specs.declared.Setting.the-variants as S
 use Rattle.format.specs.declared.Prefix.{Prefix}
 use Rattle.format.specs.declared.Prefix.the-variants as P
 use Rattle.format.specs.Bytes.{part}
@@ -19,7 +20,7 @@ textOver s p e (P.Length n next) = prefixBytes n ++ between s next e
 textOver s p e (P.Fault f) = between s p e
 
 unfoldable pub textOut : List ℕ → ℕ → ℕ → List ℕ
-textOut s p e = textOver s p e (prefixAt s p)
+textOut s p e = textOver s p e (prefixAt S.Lenient s p)
 
 -- a kind byte and a number
 abbrev pub headOut : ℕ → ℕ → List ℕ

@@ -7,6 +7,7 @@ use native.Mathlib.Decide.{decLt}
 use lib.ListN.{length, take, drop, set, length-drop, drop-of-length-le}
 use lib.Seq.{take-all, take-nil, take-length, sets-eq, length-take-le}
 use borrow.Author.Tests.{ne-eqb, le-leb, lt-leb}
+use Rattle.format.specs.declared.Setting.the-variants as S
 use Rattle.format.specs.declared.Prefix.the-variants as P
 use Rattle.format.specs.declared.Refusal.{Refusal}
 use Rattle.format.specs.Bytes.{laid}
@@ -110,7 +111,7 @@ pub header-is : (root : ℕ) → headerOut root ≡ (headOut 0 root ++ leBytes 4
 unfolding headerOut
 header-is root = sym (append-assoc (headOut 0 root) (leBytes 4 root) (leBytes 4 1 ++ leBytes 4 0))
 
-pub text-is : (s : List ℕ) (p e n next : ℕ) → prefixAt s p ≡ P.Length n next → textOut s p e ≡ prefixBytes n ++ between s next e
+pub text-is : (s : List ℕ) (p e n next : ℕ) → prefixAt S.Lenient s p ≡ P.Length n next → textOut s p e ≡ prefixBytes n ++ between s next e
 unfolding textOut
 text-is s p e n next z = rw z
 
@@ -118,7 +119,7 @@ pub by-id-is : (id first : ℕ) → byIdOut id first ≡ headOut 1 id ++ leBytes
 unfolding byIdOut
 by-id-is id first = refl
 
-pub text-fault : (s : List ℕ) (p e : ℕ) (f : Refusal) → prefixAt s p ≡ P.Fault f → textOut s p e ≡ between s p e
+pub text-fault : (s : List ℕ) (p e : ℕ) (f : Refusal) → prefixAt S.Lenient s p ≡ P.Fault f → textOut s p e ≡ between s p e
 unfolding textOut
 text-fault s p e f z = rw z
 

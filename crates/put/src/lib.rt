@@ -2,6 +2,7 @@
 // they are written.
 use format::LibraryNo;
 use format::Prefix;
+use format::Setting;
 ghost use mathlib.Core.Path.{_≡_};
 ghost use mathlib.Core.List.{[], _∷_};
 ghost use Prim.Native.Nat.{_+_};
@@ -95,7 +96,7 @@ pub fn put_part(out: &mut [u8], s: &[u8], a: usize, b: usize) -> usize
 pub fn put_text(out: &mut [u8], s: &[u8], p: usize, e: usize) -> usize
     ensures { λ r. ⌜ Filled (textOut (now (s .entry)) p e) (now (out .entry)) (now (out .exit)) r ⌝ }
 {
-    let length = prefix::prefix_at(s, p);
+    let length = prefix::prefix_at(s, p, Setting::Lenient);
     match length {
         Prefix::Length(n, next) => {
             let a = prefix::put_prefix(out, n);

@@ -35,7 +35,7 @@ unfolding valueAt bytesAt booleanAt charAt decimalAt dateTimeAt
 value-past s p h C.Boolean = rw (le-ltb p (length s) h)
 value-past s p h C.Byte = rw (lt-leb (p + 1) (length s) (omega arith))
 value-past s p h C.Char = rw (le-ltb p (length s) h)
-value-past s p h C.Decimal = rw (short 0 s p 4 h)
+value-past s p h C.Decimal = rw (short 0 1 s p 4 h)
 value-past s p h C.Double = rw (lt-leb (p + 8) (length s) (omega arith))
 value-past s p h C.Int16 = rw (lt-leb (p + 2) (length s) (omega arith))
 value-past s p h C.Int32 = rw (lt-leb (p + 4) (length s) (omega arith))

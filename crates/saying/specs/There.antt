@@ -17,16 +17,17 @@ use Rattle.format.specs.Bytes.{pick, part}
 use Rattle.format.specs.Numbers.{leBytes}
 use Rattle.format.specs.Prefix.{prefixBytes}
 use Rattle.format.specs.Text.{stringAt, stringBytes}
-use Rattle.format.specs.Types.{codeNumber, primitiveOf, codeAt, nameAt, infoAt}
+use Rattle.format.specs.Types.{codeNumber, primitiveOf, codeAt, nameAt, infoAt, afterText, afterInfo}
 use Rattle.format.specs.Values.{times}
 use Rattle.format.specs.Rows.{blank, withLink}
 use Rattle.format.specs.Contents.{Detail, primitive, text, object, system, class, objects, texts, primitives, Member, Rec, header, classById, systemClass, libraryClass, string, array, typedPrimitive, reference, null, nulls, manyNulls, end, library, primitiveArray, objectArray, stringArray, value, typeByte, infoBytes, slotFor, namesBytes, typesBytes, infosBytes, classBytes, numbersBytes, enc}
-use Rattle.format.specs.Says.{From, theSystem, theLibrary, Class, What, anObject, aString, anArray, aPrimitive, aReference, aPrimitiveArray, anObjectArray, aStringArray, aValue, Node, node, textFrom, afterText, numberFrom, codeFrom, numbersFrom, libraryName, detailFrom, afterInfo, membersFrom, classFrom, arrayFrom, orderOf, whatFrom, spread, isNulls, isSilent, nodesOf}
+use Rattle.format.specs.Says.{From, theSystem, theLibrary, Class, What, anObject, aString, anArray, aPrimitive, aReference, aPrimitiveArray, anObjectArray, aStringArray, aValue, Node, node, textFrom, numberFrom, codeFrom, numbersFrom, libraryName, detailFrom, membersFrom, classFrom, arrayFrom, orderOf, whatFrom, spread, isNulls, isSilent, nodesOf}
 use Rattle.format.specs.Grammar.{Positive, Name, GoodDetail, Members, no-more, member, Entry, typesOf, Lengths, no-length, length-of, Ranked, single, jagged, rectangular, Shape, rowOf, Array, of-objects, of-strings, of-primitives, of-any, of-values}
 use Rattle.num.specs.Le.{length-leBytes}
 use Rattle.num.specs.Read.{says-written, u32-written}
 use Rattle.strings.specs.Laws.{string-round}
 use Rattle.codes.specs.Codes.{primitive-number}
+use Rattle.spans.specs.Judged.{string-after, string-text, names-after, info-after}
 use Rattle.codes.specs.Ends.{code-end, name-end, library-end}
 use Rattle.format.specs.Own.{positive-exactly}
 use Rattle.laws.specs.Fields.{positive-bits, length-numbers-bytes}
@@ -79,10 +80,10 @@ module _ (s x q : List ℕ) (p : ℕ) (n : Name x) (d : drop p s ≡ stringBytes
       let b = prefixBytes (length x) in
       let l : length (stringBytes x) ≡ length b + length x = length-append b x in
       let r = rest-there s b (x ++ q) p (p + length b) refl (d ∙ append-assoc b x q) in
-      rw string-there (part-there s x q (p + length b) (p + length (stringBytes x)) (omega arith) r)
+      string-text s p (p + length b) (p + length (stringBytes x)) string-there ∙ part-there s x q (p + length b) (p + length (stringBytes x)) (omega arith) r
 
   pub text-there : (textFrom s p ≡ x) × (afterText s p ≡ p + length (stringBytes x)) × (drop (p + length (stringBytes x)) s ≡ q)
-  text-there = (text-is, rw name-there, rest-there s (stringBytes x) q p (p + length (stringBytes x)) refl d)
+  text-there = (text-is, string-after s p (p + length (prefixBytes (length x))) (p + length (stringBytes x)) string-there, rest-there s (stringBytes x) q p (p + length (stringBytes x)) refl d)
 
 -- ---- codes
 
@@ -154,7 +155,7 @@ module _ (s q : List ℕ) (p : ℕ) where
     pub detail-there : (d : Detail ℕ) → OwnDetail d → drop p s ≡ infoBytes d ++ q
         → (detailFrom s rows (typeByte d) p ≡ named (libraryName s rows) d) × (afterInfo s (typeByte d) p ≡ p + length (infoBytes d))
         × (drop (p + length (infoBytes d)) s ≡ q)
-    detail-there d g f = (detail-is d g f, rw (info-there d g f), rest-there s (infoBytes d) q p (p + length (infoBytes d)) refl f)
+    detail-there d g f = (detail-is d g f, info-after s (typeByte d) p (p + length (infoBytes d)) (info-there d g f), rest-there s (infoBytes d) q p (p + length (infoBytes d)) refl f)
 
 -- ---- members
 
@@ -347,7 +348,7 @@ module _ (s : List ℕ) (rows : List Row) (w : Row) (at : ℕ) where
       rest-there s (namesBytes ms) (types ++ q) a b refl d2 ∙ append-assoc (typesBytes ms) (infosBytes ms) q in
       let d4 : drop (b + length ms) s ≡ infosBytes ms ++ q =
       rest-there s (typesBytes ms) (infosBytes ms ++ q) b (b + length ms) (ap (λ (x : ℕ). b + x) (sym (length-types ms))) d3 in
-      rw (t .0, t .1, names-there s ms (types ++ q) a gs d2, f, members-there s rows ms (types ++ q) (infosBytes ms ++ q) q a b (b + length ms) gs d2 d3 d4)
+      rw (t .0, t .1, names-after s (length ms) a b (names-there s ms (types ++ q) a gs d2), f, members-there s rows ms (types ++ q) (infosBytes ms ++ q) q a b (b + length ms) gs d2 d3 d4)
 
   module _ (q : List ℕ) (i : ℕ) (n : List ℕ) (ms : List (Member ℕ)) (g : Name n) (gs : OwnMembers ms) where
     pub system-class-from : drop at s ≡ enc (systemClass i n ms) ++ q → RowOf (systemClass i n ms) at w

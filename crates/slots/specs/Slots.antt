@@ -8,14 +8,14 @@ use lib.ListN.{length, getD}
 use borrow.Author.Tests.{eq-eqb, ne-eqb}
 use Rattle.format.specs.declared.Typed.{Typed}
 use Rattle.format.specs.declared.Passed.the-variants as O
-use Rattle.format.specs.Types.{infoAt, typedAt, past, placeOr, moved, isPrimitive, passed, passedOf}
+use Rattle.format.specs.Types.{typedAt, past, afterInfo, moved, isPrimitive, passed, passedOf}
 
 module _ (s : List ℕ) (t : Typed) where
   pub moved-alike : t .types ≡ 0 → moved s t ≡ t
   unfolding moved
   moved-alike e = rw (eq-eqb (t .types) 0 e)
 
-  pub moved-on : (t .types ≡ 0 → ⊥) → moved s t ≡ typedAt s (past (length s) (t .types)) (placeOr (t .infos) (infoAt s (getD s (t .types) 0) (t .infos)))
+  pub moved-on : (t .types ≡ 0 → ⊥) → moved s t ≡ typedAt s (past (length s) (t .types)) (afterInfo s (getD s (t .types) 0) (t .infos))
   unfolding moved
   moved-on e = rw (ne-eqb (t .types) 0 e)
 

@@ -1,13 +1,11 @@
 // The types of the slots that follow a record, one after the other: where the next one stands, and what waits there.
-use format::Field;
 use format::Passed;
 use format::SlotType;
-use format::Text;
 use format::Typed;
 ghost use Prim.Native.Nat.{_≤_};
 ghost use mathlib.Core.Path.{_≡_};
 ghost use lib.ListN.{length};
-ghost use Rattle.format.specs.Types.{infoAt, slotOf, typedAt, past, placeOr, moved, isPrimitive, passedOf};
+ghost use Rattle.format.specs.Types.{slotOf, typedAt, past, afterInfo, moved, isPrimitive, passedOf};
 
 // ---- the types of slots
 
@@ -49,15 +47,12 @@ fn next_place(s: &[u8], p: u32) -> u32
     p
 }
 
-// The place after a detail; a bad one is not passed.
+// The place after a detail that was judged before.
 fn after_info(s: &[u8], kind: u8, p: u32) -> u32
     requires { ⌜ length (now s) ≤ 16777216 ⌝ }
-    ensures { λ r. ⌜ r ≡ placeOr p (infoAt (now (s .entry)) kind p) ⌝ }
+    ensures { λ r. ⌜ r ≡ afterInfo (now (s .entry)) kind p ⌝ }
 {
-    match types::info_at(s, kind, p as usize) {
-        Field::End(next) => next as u32,
-        Field::Fault(_) => p,
-    }
+    spans::after_info(s, kind, p as usize) as u32
 }
 
 // The type of the slot after this one.

@@ -9,6 +9,7 @@ use lib.ListN.{length, getD, drop, length-append, take-append-drop}
 use lib.Seq.{drop-drop}
 use Rattle.format.specs.declared.Refusal.{Refusal}
 use Rattle.format.specs.declared.Refusal.the-variants as R
+use Rattle.format.specs.declared.Setting.the-variants as S
 use Rattle.format.specs.declared.Prefix.{Prefix}
 use Rattle.format.specs.declared.Prefix.the-variants as P
 use Rattle.format.specs.declared.Field.{Field}
@@ -27,15 +28,15 @@ use Rattle.strings.specs.Counted.{Counted, counted-moves, counted-only}
 -- ---- the answers
 
 module _ (s : List ℕ) (p : ℕ) where
-  pub string-prefix : (f : Refusal) → prefixAt s p ≡ P.Fault f → stringAt s p ≡ T.Fault f
+  pub string-prefix : (f : Refusal) → prefixAt S.Strict s p ≡ P.Fault f → stringAt s p ≡ T.Fault f
   unfolding stringAt
   string-prefix f h = rw h
 
-  pub string-text : (n a : ℕ) (f : Refusal) → prefixAt s p ≡ P.Length n a → textAt s a n ≡ F.Fault f → stringAt s p ≡ T.Fault f
+  pub string-text : (n a : ℕ) (f : Refusal) → prefixAt S.Strict s p ≡ P.Length n a → textAt s a n ≡ F.Fault f → stringAt s p ≡ T.Fault f
   unfolding stringAt
   string-text n a f h g = rw (h, g)
 
-  pub string-part : (n a e : ℕ) → prefixAt s p ≡ P.Length n a → textAt s a n ≡ F.End e → stringAt s p ≡ T.Part a e
+  pub string-part : (n a e : ℕ) → prefixAt S.Strict s p ≡ P.Length n a → textAt s a n ≡ F.End e → stringAt s p ≡ T.Part a e
   unfolding stringAt
   string-part n a e h g = rw (h, g)
 
@@ -60,7 +61,7 @@ Prefixed s p n a e = Counted wellFormed R.BadText s p n a e
 pub string-told : (s : List ℕ) (p a e : ℕ) → stringAt s p ≡ T.Part a e → (n : ℕ) × Prefixed s p n a e
 unfolding stringAt textAt judgedAt
 string-told s p a e q =
-    let w = prefix-told s a e (prefixAt s p) q in
+    let w = prefix-told s a e (prefixAt S.Strict s p) q in
     (w .0, record { says = w .1; ends = w .2 })
 
 counted-part : (s : List ℕ) (p n a e : ℕ) → Prefixed s p n a e → stringAt s p ≡ T.Part a e
@@ -98,7 +99,7 @@ string-round s t rest p d g h =
     let b = prefixBytes (length t) in
     let d2 : drop p s ≡ b ++ (t ++ rest) = d ∙ append-assoc b t rest in
     let f = round-trip (length t) s (t ++ rest) p d2 h in
-    let m = moves s p (length t) (p + length b) f in
+    let m = moves S.Strict s p (length t) (p + length b) f in
     let w = stands-at s b (t ++ rest) p (length b) refl (omega arith) d2 in
     let x = stands-at s t rest (p + length b) (length t) refl (w .room) (w .after) in
     let k : p + length b + length t ≡ p + length (stringBytes t) = simp length-append (omega arith) in

@@ -1,6 +1,7 @@
 // The prefixed string at a place: its length prefix, then its text.
 use format::Field;
 use format::Prefix;
+use format::Setting;
 use format::Text;
 ghost use mathlib.Core.Path.{_≡_};
 ghost use Rattle.format.specs.Text.{stringAt};
@@ -9,7 +10,7 @@ ghost use Rattle.format.specs.Text.{stringAt};
 pub fn string_at(s: &[u8], at: usize) -> Text
     ensures { λ r. ⌜ r ≡ stringAt (now (s .entry)) at ⌝ }
 {
-    match prefix::prefix_at(s, at) {
+    match prefix::prefix_at(s, at, Setting::Strict) {
         Prefix::Length(n, next) => match text::text_at(s, next, n as usize) {
             Field::End(end) => Text::Part(next, end),
             Field::Fault(f) => Text::Fault(f),

@@ -3,6 +3,7 @@ use format::Field;
 use format::Number64;
 use format::Prefix;
 use format::Refusal;
+use format::Setting;
 ghost use mathlib.Core.Path.{_≡_};
 ghost use Rattle.format.specs.Values.{bytesAt, booleanAt, scalarAt, charAt, decimalText, decimalAt, dateTimeAt};
 
@@ -84,7 +85,7 @@ fn decimal_text(s: &[u8], at: usize, count: usize) -> Field
 pub fn decimal_at(s: &[u8], at: usize) -> Field
     ensures { λ r. ⌜ r ≡ decimalAt (now (s .entry)) at ⌝ }
 {
-    match prefix::prefix_at(s, at) {
+    match prefix::prefix_at(s, at, Setting::Strict) {
         Prefix::Length(n, next) => decimal_text(s, next, n as usize),
         Prefix::Fault(f) => Field::Fault(f),
     }
