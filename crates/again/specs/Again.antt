@@ -52,7 +52,7 @@ module _ (m : Model) (g : Good m) (small : length (tidyOf m) ≤ 16777216) where
   nodes-after : nodesFrom (tidyOf m) (tableOf m) (drop 1 (tableOf m)) ≡ m .nodes
   nodes-after =
       records-said (tidyOf m) (rawOf m) (tableOf m) (writtenOf m) (whichIn m) refl (g .total) (λ k a b. ordered k a b .1) (λ k a b. ordered k a b .0)
-      (written-legal m g small) (placed-all (shownOf m)) 17 (all-kept m g) tt knows-header bytes-there rows-there
+      (written-legal m g small) (placed-all (shownOf m)) 17 (all-kept m g) tt tt knows-header bytes-there rows-there
       ∙ round (g .total) (m .nodes) (g .nodes-fit)
 
   nodes-said : nodesFrom (tidyOf m) (tableOf m) (tableOf m) ≡ m .nodes

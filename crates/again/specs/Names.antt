@@ -11,7 +11,7 @@ use Rattle.format.specs.declared.SlotType.{SlotType}
 use Rattle.format.specs.declared.Row.{Row}
 use Rattle.format.specs.Bytes.{pick}
 use Rattle.format.specs.Rows.{blank, findFrom}
-use Rattle.format.specs.Contents.{Detail, primitive, text, object, system, class, objects, texts, primitives, Member, Rec, systemClass, libraryClass, enc}
+use Rattle.format.specs.Contents.{Prefixed, Detail, primitive, text, object, system, class, objects, texts, primitives, Member, Rec, systemClass, libraryClass, enc}
 use Rattle.format.specs.Grammar.{Entry, aClass, another, aLibrary, known, classed, classOf, GoodDetail, Members, no-more, member, of-objects, of-strings, of-primitives, of-any, of-values}
 use Rattle.format.specs.Says.{theSystem, theLibrary, From, Class, anArray, anObject, node, textFrom, libraryName, classFrom}
 use Rattle.format.specs.Tidy.{Progress}
@@ -19,7 +19,8 @@ use Rattle.laws.specs.Tests.{apart}
 use Rattle.format.specs.Meant.{named, namedAll, classOfAll}
 use Rattle.saying.specs.Numbers.{nameIn, classIn}
 use Rattle.saying.specs.Order.{item-there}
-use Rattle.saying.specs.There.{kindOf, RowOf, GoodRec, system-class-from, library-class-from, library-said}
+use Rattle.saying.specs.Good.{slotsOf}
+use Rattle.saying.specs.There.{slots-same, kindOf, RowOf, GoodRec, system-class-from, library-class-from, library-said}
 use Rattle.saying.specs.Known.{unknown-both, ofLibrary, fresh-more, library-row, other-library}
 use Rattle.saying.specs.Shown.{saidAt}
 use Rattle.saying.specs.Counts.{madeKnown}
@@ -31,38 +32,38 @@ use Rattle.again.specs.Own.{Own}
 -- ---- what is said by names that agree where libraries are known
 
 module _ (one other : ℕ → List ℕ) (es : List Entry) (agree : (l : ℕ) → known l es ≡ true → one l ≡ other l) where
-  detail-same : (d : Detail ℕ) → GoodDetail es d → named one d ≡ named other d
+  detail-same : (d : Detail Prefixed ℕ) → GoodDetail es d → named one d ≡ named other d
   detail-same (primitive c) g = refl
   detail-same text g = refl
   detail-same object g = refl
   detail-same (system n) g = refl
-  detail-same (class n l) g = ap (class n) (agree l (g .1 .there))
+  detail-same (class n l) g = ap (class (n .text)) (agree l (g .1 .there))
   detail-same objects g = refl
   detail-same texts g = refl
   detail-same (primitives c) g = refl
 
-  members-same : {ms : List (Member ℕ)} → Members es ms → namedAll one ms ≡ namedAll other ms
+  members-same : {ms : List (Member Prefixed ℕ)} → Members es ms → namedAll one ms ≡ namedAll other ms
   members-same no-more = refl
   members-same (member {m = m} {ms = ms} n g gs) =
-      ap (λ (d : Detail (List ℕ)). record { name = m .name; type = d } ∷ namedAll one ms) (detail-same (m .type) g)
-      ∙ ap (λ (x : List (Member (List ℕ))). record { name = m .name; type = named other (m .type) } ∷ x) (members-same gs)
+      ap (λ (d : Detail (List ℕ) (List ℕ)). record { name = m .name .text; type = d } ∷ namedAll one ms) (detail-same (m .type) g)
+      ∙ ap (λ (x : List (Member (List ℕ) (List ℕ))). record { name = m .name .text; type = named other (m .type) } ∷ x) (members-same gs)
 
-  class-same : (n : List ℕ) {ms : List (Member ℕ)} (x y : From) → Members es ms → x ≡ y → classOfAll one n x ms ≡ classOfAll other n y ms
+  class-same : (n : List ℕ) {ms : List (Member Prefixed ℕ)} (x y : From) → Members es ms → x ≡ y → classOfAll one n x ms ≡ classOfAll other n y ms
   class-same n {ms} x y gs e =
-      ap (λ (f : From). classOfAll one n f ms) e ∙ ap (λ (l : List (Member (List ℕ))). record { name = n; from = y; members = l }) (members-same gs)
+      ap (λ (f : From). classOfAll one n f ms) e ∙ ap (λ (l : List (Member (List ℕ) (List ℕ))). record { name = n; from = y; members = l }) (members-same gs)
 
   pub said-same : {total : ℕ} {r : Rec} {ts : List SlotType} (of : ℕ → Class) (order : ℕ → ℕ) (o n : ℕ) → Takes total es r ts
       → saidAt one of order o n r ≡ saidAt other of order o n r
   said-same of order o n (class-by-id a b c) = refl
-  said-same of order o n (system-class {n = x} a b c) = ap (λ (d : Class). node (anObject d) o n ∷ []) (class-same x theSystem theSystem (b .members) refl)
+  said-same of order o n (system-class {n = x} a b c) = ap (λ (d : Class). node (anObject d) o n ∷ []) (class-same (x .text) theSystem theSystem (b .members) refl)
   said-same of order o n (library-class {l = l} {n = x} a b c d) =
-      ap (λ (d : Class). node (anObject d) o n ∷ []) (class-same x (theLibrary (one l)) (theLibrary (other l)) (b .members) (ap theLibrary (agree l (c .there))))
+      ap (λ (d : Class). node (anObject d) o n ∷ []) (class-same (x .text) (theLibrary (one l)) (theLibrary (other l)) (b .members) (ap theLibrary (agree l (c .there))))
   said-same of order o n (a-string a b) = refl
   said-same of order o n (an-array a (of-objects b)) = refl
   said-same of order o n (an-array a (of-strings b)) = refl
   said-same of order o n (an-array a (of-primitives b c)) = refl
   said-same of order o n (an-array a (of-any {type = type} {ns = ns} {d = x} b c g e f)) =
-      ap (λ (d : Detail (List ℕ)). node (anArray type ns d []) o n ∷ []) (detail-same x g)
+      ap (λ (d : Detail (List ℕ) (List ℕ)). node (anArray type ns d []) o n ∷ []) (detail-same x g)
   said-same of order o n (an-array a (of-values b c d)) = refl
   said-same of order o n (a-primitive a) = refl
   said-same of order o n (a-reference a b) = refl
@@ -75,9 +76,13 @@ module _ (one other : ℕ → List ℕ) (es : List Entry) (agree : (l : ℕ) →
 -- ---- what is known
 
 module _ (s : List ℕ) (table : List Row) (v : Progress) where
+  -- the class of this number, with slots of these types, is told by this row
+  abbrev pub ClassIs : ℕ → ℕ → List SlotType → Type 0
+  ClassIs i row ts = (classFrom s table (getD table (row - 1) blank) ≡ classIn v i) × (slotsOf (classIn v i .members) ≡ ts)
+
   -- a class by its row, a library by its number
   abbrev Right : Entry → Type 0
-  Right (aClass i row ts) = classFrom s table (getD table (row - 1) blank) ≡ classIn v i
+  Right (aClass i row ts) = ClassIs i row ts
   Right (another i) = Unit {0}
   Right (aLibrary i) = libraryName s table i ≡ nameIn v i
 
@@ -99,17 +104,16 @@ module _ (s : List ℕ) (table : List Row) (v : Progress) where
       go true q e again = subst (λ (k : ℕ). libraryName s table k ≡ nameIn v k) (eqb-true i l q) (h .0)
       go false q e again = again e
 
-  pub class-right : (es : List Entry) → AllRight es → (k row : ℕ) (ts : List SlotType) → classOf k es ≡ classed row ts
-      → classFrom s table (getD table (row - 1) blank) ≡ classIn v k
+  pub class-right : (es : List Entry) → AllRight es → (k row : ℕ) (ts : List SlotType) → classOf k es ≡ classed row ts → ClassIs k row ts
   class-right [] h k row ts e = absurd (let z : _≡_ {A = ℕ} 0 1 = cc in omega arith)
   class-right (aClass i r us ∷ es) h k row ts e = go (eqb i k) refl e (class-right es (h .1) k row ts)
     where
       go : (t : Bool) → eqb i k ≡ t → pick t (classed r us) (classOf k es) ≡ classed row ts
-          → (classOf k es ≡ classed row ts → classFrom s table (getD table (row - 1) blank) ≡ classIn v k) → classFrom s table (getD table (row - 1) blank) ≡ classIn v k
+          → (classOf k es ≡ classed row ts → ClassIs k row ts) → ClassIs k row ts
       go true q e again =
           let a : r ≡ row = cc in
-          subst (λ (x : ℕ). classFrom s table (getD table (x - 1) blank) ≡ classIn v k) a
-          (subst (λ (j : ℕ). classFrom s table (getD table (r - 1) blank) ≡ classIn v j) (eqb-true i k q) (h .0))
+          let b : us ≡ ts = cc in
+          subst (λ (x : ℕ). ClassIs k x ts) a (subst (ClassIs k r) b (subst (λ (j : ℕ). ClassIs j r us) (eqb-true i k q) (h .0)))
       go false q e again = again e
   class-right (another i ∷ es) h k row ts e = class-right es (h .1) k row ts e
   class-right (aLibrary i ∷ es) h k row ts e = class-right es (h .1) k row ts e
@@ -137,11 +141,11 @@ module _ (s : List ℕ) (table : List Row) (v : Progress) where
     knows-another i n = knows-entry (another i) tt (λ j q. rw n)
 
     knows-class : (i : ℕ) (ts : List SlotType) (c : Class) → eqb (w .kind) 12 ≡ false → classFrom s table w ≡ c → c ≡ classIn v i
-        → Knows (suc row) (es ++ (aClass i (suc row) ts ∷ []))
-    knows-class i ts c n q f =
+        → slotsOf (c .members) ≡ ts → Knows (suc row) (es ++ (aClass i (suc row) ts ∷ []))
+    knows-class i ts c n q f g =
         let z : suc row - 1 ≡ row = omega arith in
         let y : getD table (suc row - 1) blank ≡ w = ap (λ (j : ℕ). getD table j blank) z ∙ item-there table is w row e blank in
-        knows-entry (aClass i (suc row) ts) (ap (classFrom s table) y ∙ (q ∙ f)) (λ j q. rw n)
+        knows-entry (aClass i (suc row) ts) (ap (classFrom s table) y ∙ (q ∙ f), ap (λ (d : Class). slotsOf (d .members)) (sym f) ∙ g) (λ j q. rw n)
 
     knows-library : (i : ℕ) → w .kind ≡ 12 → w .id ≡ i → known i es ≡ false → textFrom s (w .offset + 5) ≡ nameIn v i → Knows (suc row) (es ++ (aLibrary i ∷ []))
     unfolding libraryName
@@ -164,11 +168,12 @@ module _ (s : List ℕ) (table : List Row) (v : Progress) where
       knows-more {total} (system-class {i = i} {n = x} {ms = ms} a b c) o d f n =
           let g : GoodRec (systemClass i x ms) = own-contents {total = total} (system-class a b c) in
           knows-class i _ _ (no-library f refl) (system-class-from s table w at q i x ms (g .0) (g .1) d f)
-          (class-same (libraryName s table) (nameIn v) es agrees x theSystem theSystem (b .members) refl ∙ o)
+          (class-same (libraryName s table) (nameIn v) es agrees (x .text) theSystem theSystem (b .members) refl ∙ o) (slots-same (libraryName s table) ms)
       knows-more {total} (library-class {i = i} {l = l} {n = x} {ms = ms} a b c e) o d f n =
           let g : GoodRec (libraryClass i x ms l) = own-contents {total = total} (library-class a b c e) in
           knows-class i _ _ (no-library f refl) (library-class-from s table w at q i x ms (g .0) (g .1) l (g .2) d f)
-          (class-same (libraryName s table) (nameIn v) es agrees x (theLibrary (libraryName s table l)) (theLibrary (nameIn v l)) (b .members) (ap theLibrary (agrees l (c .there))) ∙ o)
+          (class-same (libraryName s table) (nameIn v) es agrees (x .text) (theLibrary (libraryName s table l)) (theLibrary (nameIn v l)) (b .members) (ap theLibrary (agrees l (c .there))) ∙ o)
+          (slots-same (libraryName s table) ms)
       knows-more (a-string {i = i} a b) o d f n = knows-another i (no-library f refl)
       knows-more (an-array a (of-objects {i = i} b)) o d f n = knows-another i (no-library f refl)
       knows-more (an-array a (of-strings {i = i} b)) o d f n = knows-another i (no-library f refl)

@@ -205,9 +205,9 @@ module _ (which : ℕ → ℕ) (none : which 0 ≡ 0) where
       (h .0, G.a-library q a b c (same-row es at (library i t) x y ∙ ap (λ (m : ℕ). rowOf 12 at (library i t) i m 0 0 0) none) (h .1), h .2)
   record-nests total count at row o n rs is (a-value g) (top-object e) x y w h = apart e
   record-nests total count at row o n rs is (a-value g) (in-object q e d) x y w h = apart e
-  record-nests total count at row {es = es} o n rs is (a-value {v = v} g) (in-value {o = p} {n = m} {us = us} {fs = fs} f) x y w h =
-      let z = none-new (place p (m + 1) us ∷ fs) (at + size (value v)) (suc row) es rs is h in
-      (z .0, G.member-value f (same-row es at (value v) x y) (z .1), z .2)
+  record-nests total count at row {es = es} o n rs is (a-value {c = c} {v = v} g) (in-value {o = p} {n = m} {us = us} {fs = fs} f) x y w h =
+      let z = none-new (place p (m + 1) us ∷ fs) (at + size (value c v)) (suc row) es rs is h in
+      (z .0, G.member-value f (same-row es at (value c v) x y) (z .1), z .2)
 
   -- ---- all records
 

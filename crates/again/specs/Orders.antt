@@ -44,7 +44,7 @@ number-is (library i x) n o e = apart o
 number-is (primitiveArray i m c vs) n o e = only i n e
 number-is (objectArray i m) n o e = only i n e
 number-is (stringArray i m) n o e = only i n e
-number-is (value v) n o e = apart o
+number-is (value c v) n o e = apart o
 
 pub legal-le : {total count row : ℕ} {fs : List Place} {es : List Entry} {xs : List Shown} → Legal total count row fs es xs → count ≤ total
 legal-le (all-shown e) = omega arith

@@ -6,13 +6,12 @@ use mathlib.Core.Bool.{Bool}
 use mathlib.Core.List.{List, [], _∷_, _++_, map}
 use native.Mathlib.Omega.{arith}
 use lib.ListN.{length, length-append}
-use lib.Dec.{ltb, leb, eqb}
+use lib.Dec.{leb, eqb}
 use borrow.Author.Tests.{eq-eqb, ne-eqb}
 use Rattle.format.specs.declared.PrimitiveCode.{PrimitiveCode}
 use Rattle.format.specs.Bytes.{pick, sameBytes}
-use Rattle.format.specs.Prefix.{groupsOf, prefixBytes}
-use Rattle.format.specs.Contents.{Rec, header, classById, systemClass, libraryClass, string, array, typedPrimitive, reference, null, nulls, manyNulls, end, library, primitiveArray, objectArray, stringArray, value, enc, encs}
-use Rattle.format.specs.Grammar.{Value, number, boolean, scalar, exact, moment, size}
+use Rattle.format.specs.Contents.{Prefixed, shortest, hasPrefix, bytesIn, Rec, header, classById, systemClass, libraryClass, string, array, typedPrimitive, reference, null, nulls, manyNulls, end, library, primitiveArray, objectArray, stringArray, value, enc, encs}
+use Rattle.format.specs.Grammar.{Content, number, boolean, scalar, exact, moment, PrefixIf, Value, size}
 use Rattle.format.specs.Own.{sized-exactly}
 use Rattle.format.specs.Says.{From, theSystem, theLibrary, Class, What, anObject, aString, anArray, aPrimitive, aReference, aNull, aPrimitiveArray, anObjectArray, aStringArray, aValue, Node}
 use Rattle.format.specs.Tidy.{sameClass, numberIn, Progress, Libraries, libraryRecords, entered, allEntered, classNeeds, detailNeeds, classBy, objectBy, afterObject, recordsOf, afterWhat, runOf}
@@ -24,6 +23,8 @@ use Rattle.laws.specs.Runs.{Sort, a-null, plain, sort-of}
 use Rattle.utf8.specs.Widths.{some-bytes}
 use Rattle.format.specs.Meant.{classOfAll}
 use Rattle.saying.specs.Said.{saidBy}
+use Rattle.saying.specs.Prefixes.{value-by}
+use Rattle.saying.specs.There.{length-bytes}
 use Rattle.saying.specs.Good.{Place, Allowed, in-value, countOf, openAfter, Fits, a-node}
 use Rattle.saying.specs.Numbers.{within-counted, Listed, listed-counted, number-back, entered-listed, all-have, each-so, Numbered, numbered-what, Later, later-nodes, nameIn, classIn, name-back, class-back}
 use Rattle.saying.specs.Shown.{Shown, shown, allShown, packed, Wait, noWait, runShown, oneMore, squeezed, recsOf, squeezed-null, squeezed-records}
@@ -85,8 +86,8 @@ module _ (P : Rec → Type 0) where
 abbrev pub Own : Progress → Rec → Type 0
 Own v (header r h) = Unit {0}
 Own v (classById i k) = Unit {0}
-Own v (systemClass i n ms) = classOfAll (nameIn v) n theSystem ms ≡ classIn v i
-Own v (libraryClass i n ms l) = classOfAll (nameIn v) n (theLibrary (nameIn v l)) ms ≡ classIn v i
+Own v (systemClass i n ms) = classOfAll (nameIn v) (n .text) theSystem ms ≡ classIn v i
+Own v (libraryClass i n ms l) = classOfAll (nameIn v) (n .text) (theLibrary (nameIn v l)) ms ≡ classIn v i
 Own v (string i x) = Unit {0}
 Own v (array i t ns d vs) = Unit {0}
 Own v (typedPrimitive c x) = Unit {0}
@@ -95,29 +96,28 @@ Own v null = Unit {0}
 Own v (nulls k) = Unit {0}
 Own v (manyNulls k) = Unit {0}
 Own v end = Unit {0}
-Own v (library i n) = nameIn v i ≡ n
+Own v (library i n) = nameIn v i ≡ n .text
 Own v (primitiveArray i n c vs) = Unit {0}
 Own v (objectArray i n) = Unit {0}
 Own v (stringArray i n) = Unit {0}
-Own v (value x) = Unit {0}
+Own v (value c x) = Unit {0}
 
 abbrev pub Kept : Progress → Rec → Type 0
 Kept v r = Own v r × (0 < size r)
 
-prefix-some : (k n : ℕ) → 0 < length (groupsOf k n)
-unfolding groupsOf
-prefix-some zero n = omega arith
-prefix-some (suc k) n = picked (λ (b : List ℕ). 0 < length b) (ltb n 128) (λ e. omega arith) (λ e. omega arith)
+-- a Decimal has a byte or more in its prefix, any other value in its content
+content-some : {c : PrimitiveCode} {x : List ℕ} (w n : ℕ) → Content c x → PrefixIf (hasPrefix c) w n → 0 < w + length x
+content-some w n (number {c = c} {n = m} a b) p = let s = sized-exactly c m .1 a in omega arith
+content-some w n (boolean a) p = omega arith
+content-some w n (scalar c i q) p = let s = some-bytes c in let l = ap length q in omega arith
+content-some w n (exact a b) p = let s = p .some in omega arith
+content-some w n (moment a b) p = omega arith
 
-value-some : {c : PrimitiveCode} {x : List ℕ} → Value c x → 0 < length x
-value-some (number {c = c} {n = n} a b) = let s = sized-exactly c n .1 a in omega arith
-value-some (boolean a) = omega arith
-value-some (scalar c i q) = let s = some-bytes c in let l = ap length q in omega arith
-value-some (exact {v = v} t a b e) =
-    let z = prefix-some 4 (length t) in
-    let l : length v ≡ length (prefixBytes (length t)) + length t = ap length e ∙ length-append (prefixBytes (length t)) t in
+value-some : {c : PrimitiveCode} {x : Prefixed} → Value c x → 0 < length (bytesIn x)
+value-some {x = x} g =
+    let s = content-some (x .width) (length (x .text)) (g .content) (g .prefix) in
+    let l = length-bytes x in
     omega arith
-value-some (moment a b) = omega arith
 
 module _ (v : Progress) (good : Numbered v) where
   kept-libraries : (names : List (List ℕ)) (ls : Libraries) → Listed ls
@@ -125,17 +125,17 @@ module _ (v : Progress) (good : Numbered v) where
   unfolding libraryRecords allEntered enc
   kept-libraries [] ls w stay = tt
   kept-libraries (x ∷ names) ls w stay =
-      all-append (Kept v) (pick (eqb (numberIn (sameBytes x) ls) 0) (library (suc (length ls)) x ∷ []) []) (libraryRecords names (entered x ls))
+      all-append (Kept v) (pick (eqb (numberIn (sameBytes x) ls) 0) (library (suc (length ls)) (shortest x) ∷ []) []) (libraryRecords names (entered x ls))
       (go (numberIn (sameBytes x) ls) refl) (kept-libraries names (entered x ls) (entered-listed x ls w) stay)
     where
-      go : (m : ℕ) → numberIn (sameBytes x) ls ≡ m → All (Kept v) (pick (eqb (numberIn (sameBytes x) ls) 0) (library (suc (length ls)) x ∷ []) [])
+      go : (m : ℕ) → numberIn (sameBytes x) ls ≡ m → All (Kept v) (pick (eqb (numberIn (sameBytes x) ls) 0) (library (suc (length ls)) (shortest x) ∷ []) [])
       go zero e =
           let a : numberIn (sameBytes x) (entered x ls) ≡ suc (length ls) =
           ap (numberIn (sameBytes x)) (entered-new x ls e) ∙ number-new (sameBytes x) ls (length ls) x (listed-counted ls w) (same-refl x) e in
           let b = stay (sameBytes x) (length ls) (all-more names (entered x ls) (sameBytes x) (length ls) a) in
           let c : nameIn v (suc (length ls)) ≡ x =
           number-back (sameBytes x) [] x 0 (length (v .libraries)) (length ls) (v .libraries) (good .libraries-rise) (λ y z. sym (same-eq x y z)) b in
-          let d : 0 < size (library (suc (length ls)) x) = omega arith in
+          let d : 0 < size (library (suc (length ls)) (shortest x)) = omega arith in
           rw (eq-eqb (numberIn (sameBytes x) ls) 0 e) ((c, d), tt)
       go (suc m) e = rw (ne-eqb (numberIn (sameBytes x) ls) 0 (λ z. omega arith)) tt
 
@@ -173,7 +173,7 @@ module _ (v : Progress) (good : Numbered v) where
   kept-node p fs (aPrimitiveArray n c vs) h a l = ((tt, omega arith), tt)
   kept-node p fs (anObjectArray n) h a l = ((tt, omega arith), tt)
   kept-node p fs (aStringArray n) h a l = ((tt, omega arith), tt)
-  kept-node p fs (aValue w) h (in-value g) l = ((tt, value-some g), tt)
+  kept-node p fs (aValue c w) h (in-value g) l = ((tt, value-some (value-by g)), tt)
 
   pub kept : (total count : ℕ) (fs : List Place) (ns : List Node) (p : Progress) (w : Wait) → Fits total count fs ns → Numbered p → afterNodes p ns ≡ v
       → All (Kept v) (recsOf (squeezed w (packed p ns)))

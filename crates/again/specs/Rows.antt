@@ -35,7 +35,7 @@ numberOf (library i n) = i
 numberOf (primitiveArray i n c vs) = i
 numberOf (objectArray i n) = i
 numberOf (stringArray i n) = i
-numberOf (value v) = 0
+numberOf (value c v) = 0
 
 abbrev pub classRowOf : Classed → ℕ
 classRowOf (classed r ts) = r
@@ -63,7 +63,7 @@ linkFor es (library i n) = 0
 linkFor es (primitiveArray i n c vs) = 0
 linkFor es (objectArray i n) = 0
 linkFor es (stringArray i n) = 0
-linkFor es (value v) = 0
+linkFor es (value c v) = 0
 
 abbrev pub countFor : List Entry → Rec → ℕ
 countFor es (header r h) = 0
@@ -82,7 +82,7 @@ countFor es (library i n) = 0
 countFor es (primitiveArray i n c vs) = n
 countFor es (objectArray i n) = n
 countFor es (stringArray i n) = n
-countFor es (value v) = 0
+countFor es (value c v) = 0
 
 -- ---- all rows; which: the number of an object's row plus 1, by the object's order
 

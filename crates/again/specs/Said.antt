@@ -5,24 +5,27 @@ use mathlib.Core.Bool.{Bool, true, false}
 use mathlib.Core.List.{List, [], _∷_, _++_, map}
 use native.Mathlib.Omega.{arith}
 use lib.ListN.{getD, take, drop}
+use Rattle.format.specs.declared.PrimitiveCode.{PrimitiveCode}
 use Rattle.format.specs.declared.SlotType.{SlotType}
 use Rattle.format.specs.declared.Row.{Row}
 use Rattle.format.specs.Bytes.{pick}
 use Rattle.format.specs.Rows.{blank, isObject, objectRow, linkOf}
-use Rattle.format.specs.Contents.{Rec, header, classById, systemClass, libraryClass, string, array, typedPrimitive, reference, null, nulls, manyNulls, end, library, primitiveArray, objectArray, stringArray, value, enc, encs}
-use Rattle.format.specs.Grammar.{Entry, Classed, size, of-objects, of-strings, of-primitives, of-any, of-values}
-use Rattle.format.specs.Says.{Node, libraryName, classFrom, objectsIn, orderOf, nodesOf, nodesFrom}
+use Rattle.format.specs.Contents.{Prefixed, Rec, header, classById, systemClass, libraryClass, string, array, typedPrimitive, reference, null, nulls, manyNulls, end, library, primitiveArray, objectArray, stringArray, value, enc, encs}
+use Rattle.format.specs.Grammar.{Entry, Classed, classed, classOf, size, of-objects, of-strings, of-primitives, of-any, of-values}
+use Rattle.format.specs.Says.{Node, libraryName, classFrom, codeIn, valueCode, objectsIn, orderOf, nodesOf, nodesFrom}
 use Rattle.format.specs.Tidy.{Progress}
 use Rattle.saying.specs.Numbers.{nameIn, classIn}
-use Rattle.saying.specs.Good.{Place, place, shutBy, shut, ownerOf, filledOne, openedIn}
-use Rattle.saying.specs.There.{rest-there, kindOf, CountIs, RowOf, row-of, row-linked, LinkIs}
+use Rattle.saying.specs.Good.{Place, place, shutBy, shut, ownerOf, slotOf, filledOne, openedIn}
+use Rattle.saying.specs.Codes.{ownerClass, Codes, value-code, class-codes, array-codes, row-class}
+use Rattle.saying.specs.There.{rest-there, slots-same, kindOf, CountIs, RowOf, row-of, row-linked, GoodRec, system-class-from, library-class-from, LinkIs}
 use Rattle.saying.specs.Order.{items-after, nodes-more}
 use Rattle.saying.specs.Shown.{Shown, recsOf, saidAt, saidNodes, saidAll}
 use Rattle.saying.specs.Counts.{madeKnown}
-use Rattle.saying.specs.Legal.{Takes, class-by-id, system-class, library-class, a-string, an-array, a-primitive, a-reference, a-null, some-nulls, many-nulls, a-library, a-value, fills, filledBy, isApart, openBy, Legal, all-shown, a-record}
+use Rattle.saying.specs.Legal.{Takes, class-by-id, system-class, library-class, a-string, an-array, a-primitive, a-reference, a-null, some-nulls, many-nulls, a-library, a-value, Stands, fills, filledBy, isApart, openBy, Legal, all-shown, a-record}
+use Rattle.saying.specs.Nesting.{OpenCodes, codes-next, value-coded}
 use Rattle.saying.specs.Enough.{not-zero}
 use Rattle.saying.specs.Row.{own-contents, row-said}
-use Rattle.again.specs.Rows.{numberOf, classRowOf, linkFor, countFor, rowShown, rowsFrom, Placed, placed-next}
+use Rattle.again.specs.Rows.{numberOf, classRowOf, linkFor, countFor, rowShown, rowsFrom, Placed, placed-here, placed-next}
 use Rattle.again.specs.Own.{All, Kept}
 use Rattle.again.specs.Orders.{legal-le, withOwn}
 use Rattle.again.specs.Names.{said-same, AllRight, name-right, class-right, Knows, knows-more}
@@ -33,7 +36,7 @@ count-is es (classById i k) = tt
 count-is es (systemClass i n ms) = refl
 count-is es (libraryClass i n ms l) = refl
 count-is es (string i x) = tt
-count-is es (array i t ns d vs) = tt
+count-is es (array i t ns d vs) = refl
 count-is es (typedPrimitive c v) = tt
 count-is es (reference i) = tt
 count-is es null = refl
@@ -44,7 +47,7 @@ count-is es (library i n) = tt
 count-is es (primitiveArray i n c vs) = refl
 count-is es (objectArray i n) = refl
 count-is es (stringArray i n) = refl
-count-is es (value v) = tt
+count-is es (value c v) = tt
 
 module _ (s : List ℕ) (raw table : List Row) (v : Progress) (which : ℕ → ℕ) (none : which 0 ≡ 0) (total : ℕ)
     (order : (k : ℕ) → 0 < k → k ≤ total → orderOf table (which k) ≡ k) (finds : (k : ℕ) → 0 < k → k ≤ total → objectRow k raw ≡ which k) where
@@ -89,6 +92,12 @@ module _ (s : List ℕ) (raw table : List Row) (v : Progress) (which : ℕ → �
   owner-is [] false o h e = ap (λ (k : ℕ). orderOf table (which k)) e ∙ (order-none ∙ sym e)
   owner-is (f ∷ fs) false o h e = ap (λ (k : ℕ). orderOf table (which k)) e ∙ (h .0 ∙ sym e)
 
+  -- ---- codes
+
+  -- the code of a slot, by the order of its object and the slot's number
+  abbrev pub codeAt : ℕ → ℕ → PrimitiveCode
+  codeAt o = codeIn (ownerClass s table (which o) .members)
+
   -- ---- one record
 
   module _ (es : List Entry) (at o n : ℕ) where
@@ -98,32 +107,71 @@ module _ (s : List ℕ) (raw table : List Row) (v : Progress) (which : ℕ → �
     row-is : (r : Rec) → RowOf r at (rowAs r)
     row-is r = row-linked (linkOf raw (rowShown which es at r o n)) (row-of r at (numberOf r) (which o) n (linkFor es r) (countFor es r) (count-is es r))
 
-    link-is : {r : Rec} {ts : List SlotType} → AllRight s table v es → Takes total es r ts → LinkIs s table (classIn v) (λ (k : ℕ). k) r (rowAs r)
+    -- a kind 1 leads to its class
+    by-id-class : (i k row : ℕ) (ts : List SlotType) → AllRight s table v es → classOf k es ≡ classed row ts
+        → classFrom s table (getD table (rowAs (classById i k) .link - 1) blank) ≡ classIn v k
     unfolding linkOf
-    link-is h (class-by-id {k = k} {row = row} {ts = ts} a b c) =
-        ap (λ (d : Classed). classFrom s table (getD table (classRowOf d - 1) blank)) c ∙ class-right s table v es h k row ts c
-    link-is h (system-class a b c) = tt
-    link-is h (library-class a b c d) = tt
-    link-is h (a-string a b) = tt
-    link-is h (an-array a (of-objects b)) = tt
-    link-is h (an-array a (of-strings b)) = tt
-    link-is h (an-array a (of-primitives b c)) = tt
-    link-is h (an-array a (of-any b c d e f)) = tt
-    link-is h (an-array a (of-values b c d)) = tt
-    link-is h (a-primitive a) = tt
-    link-is h (a-reference {i = i} a b) = ap (orderOf table) (finds i (not-zero i a) b) ∙ order i (not-zero i a) b
-    link-is h a-null = tt
-    link-is h (some-nulls a b) = tt
-    link-is h (many-nulls a) = tt
-    link-is h (a-library a b c) = tt
-    link-is h (a-value a) = tt
+    by-id-class i k row ts h c = ap (λ (d : Classed). classFrom s table (getD table (classRowOf d - 1) blank)) c ∙ class-right s table v es h k row ts c .0
 
-    record-said : (q : List ℕ) (r : Rec) {ts : List SlotType} → AllRight s table v es → Takes total es r ts → orderOf table (which o) ≡ o → drop at s ≡ enc r ++ q
-        → nodesOf s table (rowAs r) ≡ saidAt (nameIn v) (classIn v) (λ (k : ℕ). k) o n r
-    record-said q r h t e d =
-        row-said s table (rowAs r) (classIn v) (λ (k : ℕ). k) q at r d (row-is r) (own-contents t) (link-is h t)
+    -- the code of a member value is that of the slot where it stands
+    code-is : (fs : List Place) (c : PrimitiveCode) (x : Prefixed) → o ≡ ownerOf fs → n ≡ slotOf fs → codeAt (ownerOf fs) (slotOf fs) ≡ c
+        → valueCode s table (rowAs (value c x)) ≡ c
+    code-is fs c x e f g = value-code s table (rowAs (value c x)) c (ap (λ (k : ℕ). codeAt k n) e ∙ (ap (codeAt (ownerOf fs)) f ∙ g))
+
+    -- a kind 1 leads to its class, a reference to its object, a member value to its code
+    link-is : {fs : List Place} {r : Rec} {ts : List SlotType} → AllRight s table v es → OpenCodes codeAt fs → Stands fs r ts
+        → o ≡ pick (isApart r) 0 (ownerOf fs) → n ≡ pick (isApart r) 0 (slotOf fs) → Takes total es r ts → LinkIs s table (classIn v) (λ (k : ℕ). k) r (rowAs r)
+    unfolding linkOf
+    link-is h cs st e f (class-by-id {i = i} {k = k} {row = row} {ts = ts} a b c) = by-id-class i k row ts h c
+    link-is h cs st e f (system-class a b c) = tt
+    link-is h cs st e f (library-class a b c d) = tt
+    link-is h cs st e f (a-string a b) = tt
+    link-is h cs st e f (an-array a (of-objects b)) = tt
+    link-is h cs st e f (an-array a (of-strings b)) = tt
+    link-is h cs st e f (an-array a (of-primitives b c)) = tt
+    link-is h cs st e f (an-array a (of-any b c d i j)) = tt
+    link-is h cs st e f (an-array a (of-values b c d)) = tt
+    link-is h cs st e f (a-primitive a) = tt
+    link-is h cs st e f (a-reference {i = i} a b) = ap (orderOf table) (finds i (not-zero i a) b) ∙ order i (not-zero i a) b
+    link-is h cs st e f a-null = tt
+    link-is h cs st e f (some-nulls a b) = tt
+    link-is h cs st e f (many-nulls a) = tt
+    link-is h cs st e f (a-library a b c) = tt
+    link-is {fs} h cs st e f (a-value {c = c} {v = x} a) = code-is fs c x e f (value-coded codeAt st cs)
+
+    record-said : (q : List ℕ) (r : Rec) {ts : List SlotType} → AllRight s table v es → Takes total es r ts → LinkIs s table (classIn v) (λ (k : ℕ). k) r (rowAs r)
+        → orderOf table (which o) ≡ o → drop at s ≡ enc r ++ q → nodesOf s table (rowAs r) ≡ saidAt (nameIn v) (classIn v) (λ (k : ℕ). k) o n r
+    record-said q r h t l e d =
+        row-said s table (rowAs r) (classIn v) (λ (k : ℕ). k) q at r d (row-is r) (own-contents t) l
         ∙ (ap (λ (k : ℕ). saidAt (libraryName s table) (classIn v) (λ (k : ℕ). k) k n r) e
         ∙ said-same (libraryName s table) (nameIn v) es (name-right s table v es h) (classIn v) (λ (k : ℕ). k) o n t)
+
+    -- the slots of a record have the codes of its class
+    module _ (is : List Row) (row : ℕ) where
+      record-codes : (q : List ℕ) (r : Rec) {ts : List SlotType} → AllRight s table v es → Takes total es r ts → drop at s ≡ enc r ++ q
+          → drop row table ≡ rowAs r ∷ is → Codes s table (suc row) 0 ts
+      record-codes q (classById i k) h (class-by-id {row = first} {ts = ts} a b c) d e =
+          class-codes s table (suc row) (classIn v k) ts (row-class s table is (rowAs (classById i k)) row e ∙ by-id-class i k first ts h c)
+          (class-right s table v es h k first ts c .1)
+      record-codes q (systemClass i x ms) {ts} h (system-class a b c) d e =
+          let r : Rec = systemClass i x ms in
+          let g : GoodRec r = own-contents {total = total} (system-class a b c) in
+          class-codes s table (suc row) _ ts (row-class s table is (rowAs r) row e ∙ system-class-from s table (rowAs r) at q i x ms (g .0) (g .1) d (row-is r))
+          (slots-same (libraryName s table) ms ∙ sym c)
+      record-codes q (libraryClass i x ms l) {ts} h (library-class a b c f) d e =
+          let r : Rec = libraryClass i x ms l in
+          let g : GoodRec r = own-contents {total = total} (library-class a b c f) in
+          class-codes s table (suc row) _ ts (row-class s table is (rowAs r) row e ∙ library-class-from s table (rowAs r) at q i x ms (g .0) (g .1) l (g .2) d (row-is r))
+          (slots-same (libraryName s table) ms ∙ sym f)
+      record-codes q r h (a-string a b) d e = tt
+      record-codes q r h (an-array a b) d e = array-codes s table (suc row) b
+      record-codes q r h (a-primitive a) d e = tt
+      record-codes q r h (a-reference a b) d e = tt
+      record-codes q r h a-null d e = tt
+      record-codes q r h (some-nulls a b) d e = tt
+      record-codes q r h (many-nulls a) d e = tt
+      record-codes q r h (a-library a b c) d e = tt
+      record-codes q r h (a-value a) d e = tt
 
   -- ---- all records
 
@@ -143,11 +191,11 @@ module _ (s : List ℕ) (raw table : List Row) (v : Progress) (which : ℕ → �
   end-said row at es e = ap (nodesFrom s table) e
 
   pub records-said : {count row : ℕ} {fs : List Place} {es : List Entry} {xs : List Shown} → Legal total count row fs es xs → Placed which count row xs → (at : ℕ)
-      → All (Kept v) (recsOf xs) → Owns fs → Knows s table v row es → drop at s ≡ encs (recsOf xs ++ (end ∷ []))
+      → All (Kept v) (recsOf xs) → Owns fs → OpenCodes codeAt fs → Knows s table v row es → drop at s ≡ encs (recsOf xs ++ (end ∷ []))
       → drop row table ≡ map (withOwn which raw table) (rowsFrom which at row es xs)
       → nodesFrom s table (drop row table) ≡ saidAll (nameIn v) (classIn v) (λ (k : ℕ). k) xs
-  records-said {row = row} {es = es} (all-shown e) p at k h w d there = end-said row at es there
-  records-said {count} {row} {fs} {es} (a-record {next = next} {gs = gs} {ds = ds} {x = x} {xs = xs} {ts = ts} t st o n id e g known l) p at k h w d there =
+  records-said {row = row} {es = es} (all-shown e) p at k h cs w d there = end-said row at es there
+  records-said {count} {row} {fs} {es} (a-record {next = next} {gs = gs} {ds = ds} {x = x} {xs = xs} {ts = ts} t st o n id e g known l) p at k h cs w d there =
       let r : Rec = x .rec in
       let a : ℕ = at + size r in
       let now : List Entry = es ++ madeKnown (suc row) r in
@@ -160,9 +208,13 @@ module _ (s : List ℕ) (raw table : List Row) (v : Progress) (which : ℕ → �
       let z = knows-more s table v rest y row c es w q at t (k .0 .0) b (row-is es at (x .owner) (x .slot) r) refl in
       let m = legal-le l in
       let f : Owns gs = subst Owns (sym g) (owns-next count fs r ts (omega arith) h) in
-      let again = records-said l (placed-next which count row x xs p next e) a (k .1) f (subst (Knows s table v (suc row)) (sym known) z)
+      let j = record-codes es at (x .owner) (x .slot) rest row q r (w .right) t b c in
+      let i : OpenCodes codeAt gs =
+      subst (OpenCodes codeAt) (sym g)
+      (codes-next codeAt count fs r ts (λ z. subst (λ (m : ℕ). Codes s table m 0 ts) (sym (placed-here which count row x xs p z)) j) cs) in
+      let again = records-said l (placed-next which count row x xs p next e) a (k .1) f i (subst (Knows s table v (suc row)) (sym known) z)
       (rest-there s (enc r) q at a refl b) (u ∙ ap (λ (i : List Entry). map (withOwn which raw table) (rowsFrom which a (suc row) i xs)) (sym known)) in
       nodes-more table rest y row c s
       ∙ (ap (λ (i : List Node). i ++ nodesFrom s table (drop (suc row) table))
-      (record-said es at (x .owner) (x .slot) q r (w .right) t (owner-is fs (isApart r) (x .owner) h o) b)
+      (record-said es at (x .owner) (x .slot) q r (w .right) t (link-is es at (x .owner) (x .slot) (w .right) cs st o n t) (owner-is fs (isApart r) (x .owner) h o) b)
       ∙ ap (λ (i : List Node). saidNodes (nameIn v) (classIn v) (λ (k : ℕ). k) x ++ i) again)

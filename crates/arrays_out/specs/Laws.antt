@@ -1,31 +1,50 @@
 -- What each writer of arrays and of kept objects puts out, and one law for each kind of row.
 use Prim.Native.Nat.{ℕ, _+_, _%_}
 use mathlib.Core.Path.{_≡_, refl, sym, ap, _∙_}
+use mathlib.Core.Bool.{Bool, _&&_}
 use mathlib.Core.List.{List, _++_}
 use lib.ListN.{getD}
+use lib.Dec.{eqb}
 use borrow.Author.Tests.{ne-eqb}
 use Rattle.format.specs.declared.Row.{Row}
 use Rattle.format.specs.Types.{afterInfo}
 use Rattle.put.specs.Out.{between, textOut, headOut, byIdOut, headerOut}
 use Rattle.marks.specs.Marks.{rowAt, itemType}
 use Rattle.pieces.specs.Laws.{record-as}
-use Rattle.pieces.specs.Copy.{needInfoOut, infoOut, itemsOut, bodyOut, arrayOut, keptOut, stringOut, recordOut}
+use Rattle.pieces.specs.Copy.{needInfoOut, infoOut, valueOut, valuesOut, typedOut, itemsOut, bodyOut, arrayOut, primitiveItemsOut, primitivesOut, keptOut, stringOut, recordOut}
 
 -- ---- what is written as two pieces
 pub kept-is : (s : List ℕ) (r : Row) → keptOut s r ≡ headOut (r .kind % 256) (r .id) ++ between s (r .offset + 5) (r .end)
 unfolding keptOut
 kept-is s r = refl
 
-pub string-is : (s : List ℕ) (r : Row) → stringOut s r ≡ headOut 6 (r .id) ++ textOut s (r .offset + 5) (r .end)
+pub string-is : (s : List ℕ) (r : Row) → stringOut s r ≡ headOut 6 (r .id) ++ textOut s (r .offset + 5)
 unfolding stringOut
 string-is s r = refl
+
+pub primitives-is : (s : List ℕ) (r : Row) → primitivesOut s r ≡ headOut 15 (r .id) ++ primitiveItemsOut s r
+unfolding primitivesOut
+primitives-is s r = refl
+
+-- code is the byte of the primitive type
+module _ (s : List ℕ) (r : Row) (code : ℕ) where
+  pub typed-is : code ≡ getD s (r .offset + 1) 0
+      → typedOut s r ≡ between s (r .offset) (r .offset + 2) ++ valueOut s (eqb code 5) (r .offset + 2) (r .end)
+  unfolding typedOut
+  typed-is x = rw x
+
+  pub primitive-items-is : code ≡ getD s (r .offset + 9) 0
+      → primitiveItemsOut s r ≡ between s (r .offset + 5) (r .offset + 10) ++ valuesOut s (eqb code 5) (r .count) (r .offset + 10) (r .end)
+  unfolding primitiveItemsOut
+  primitive-items-is x = rw x
 
 module _ (s : List ℕ) (rs : List Row) (r : Row) where
   -- kind is the byte of the item type at p
   module _ (p e kind : ℕ) (x : kind ≡ getD s p 0) where
-    pub items-is : itemsOut s rs p e r ≡ infoOut s rs kind (p + 1) e ++ between s e (r .end)
+    pub items-is : (t : Bool) → t ≡ (eqb kind 0 && eqb (getD s (p + 1) 0) 5)
+        → itemsOut s rs p e r ≡ infoOut s rs kind (p + 1) e ++ valuesOut s t (r .count) e (r .end)
     unfolding itemsOut
-    items-is = ap (λ (k : ℕ). infoOut s rs k (p + 1) e ++ between s e (r .end)) (sym x)
+    items-is t y = rw (y, x)
 
     pub array-is : p ≡ itemType s r → e ≡ afterInfo s kind (p + 1) → arrayOut s rs r ≡ needInfoOut s rs kind e ++ bodyOut s rs p e r
     unfolding arrayOut
@@ -52,9 +71,9 @@ module _ (s : List ℕ) (rs : List Row) (i : ℕ) (r : Row) where
   abbrev Not : ℕ → Type 0
   Not k = r .kind ≡ k → ⊥
 
-  pub record-other : Not 0 → Not 1 → Not 4 → Not 5 → Not 6 → Not 7 → Not 9 → Not 10 → Not 12 → Not 13 → Not 14 → Not 15 → Not 16 → Not 17
+  pub record-other : Not 0 → Not 1 → Not 4 → Not 5 → Not 6 → Not 7 → Not 8 → Not 9 → Not 10 → Not 12 → Not 13 → Not 14 → Not 15 → Not 16 → Not 17 → Not 32
       → recordOut s rs i r ≡ between s (r .offset) (r .end)
-  record-other a b c d e f g h j k l m n o =
+  record-other a b c d e f p g h j k l m n o q =
       record-as s rs i r (r .kind) refl
       ∙ rw (
         ne-eqb _ _ a,
@@ -63,6 +82,7 @@ module _ (s : List ℕ) (rs : List Row) (i : ℕ) (r : Row) where
         ne-eqb _ _ d,
         ne-eqb _ _ e,
         ne-eqb _ _ f,
+        ne-eqb _ _ p,
         ne-eqb _ _ g,
         ne-eqb _ _ h,
         ne-eqb _ _ k,
@@ -71,4 +91,5 @@ module _ (s : List ℕ) (rs : List Row) (i : ℕ) (r : Row) where
         ne-eqb _ _ m,
         ne-eqb _ _ n,
         ne-eqb _ _ o,
+        ne-eqb _ _ q,
       )

@@ -2,7 +2,11 @@
 use format::ObjectNo;
 use format::Row;
 ghost use mathlib.Core.List.{_++_};
+ghost use mathlib.Core.Path.{_≡_};
+ghost use mathlib.Core.Bool.{_&&_};
 ghost use Prim.Native.Nat.{_+_, _-_, _≤_, _<_};
+ghost use lib.ListN.{getD};
+ghost use lib.Dec.{eqb};
 ghost use Rattle.format.specs.Rows.{rowsOf, roomOf};
 ghost use Rattle.put.specs.Out.{between};
 ghost use Rattle.put.specs.Put.{Filled};
@@ -10,15 +14,26 @@ ghost use Rattle.pieces.specs.Copy.{itemsOut, bodyOut, arrayOut};
 
 // ---- arrays
 
+// Whether items of this type are Decimals; their code stands at p.
+fn are_decimals(s: &[u8], kind: u8, p: usize) -> bool
+    ensures { λ q. ⌜ q ≡ (eqb kind 0 && eqb (getD (now (s .entry)) p 0) 5) ⌝ }
+{
+    if kind == 0 {
+        return codes::byte_at(s, p) == 5;
+    }
+    false
+}
+
 // From the item type at p on, its detail ending at e.
 fn put_items(out: &mut [u8], s: &[u8], table: &[u32], n: usize, p: usize, e: usize, r: Row) -> usize
     requires { ⌜ (n ≤ roomOf (now table)) × (n < 4294967296) × (p < 18446744073709551615) ⌝ }
     ensures { λ q. ⌜ Filled (itemsOut (now (s .entry)) (rowsOf n (now (table .entry))) p e r) (now (out .entry)) (now (out .exit)) q ⌝ }
 {
     let kind = codes::byte_at(s, p);
+    let prefixed = are_decimals(s, kind, p + 1);
     let a = details_out::put_info(out, s, table, n, kind, p + 1, e);
     let from = put::least(a, out.len());
-    let b = put::put_part(&mut out[from..], s, e, r.end as usize);
+    let b = values_out::put_values(&mut out[from..], s, prefixed, r.count, e, r.end as usize);
     put::add_up(a, b)
 }
 

@@ -1,11 +1,11 @@
 -- A stretch of kept rows in the copy: the nulls before it, then one part of the stream.
 use Prim.Native.Nat.{ℕ, _+_, _-_, _*_, _≤_, _<_}
 use mathlib.Core.Path.{_≡_, refl, sym, ap, _∙_}
-use mathlib.Core.Bool.{Bool, true, false, _||_}
+use mathlib.Core.Bool.{Bool, true, false}
 use mathlib.Core.List.{List, [], _∷_, _++_, append-assoc}
 use native.Mathlib.Omega.{arith}
 use native.Mathlib.Numerals.{add-one}
-use lib.ListN.{length, drop, length-drop}
+use lib.ListN.{length, getD, drop, length-drop}
 use lib.Seq.{drop-drop}
 use lib.Dec.{eqb, leb}
 use borrow.Author.Tests.{eqb-true, leb-true}
@@ -20,23 +20,37 @@ use Rattle.fields.specs.Judged.{picked}
 use Rattle.put.specs.Out.{between, runOut}
 use Rattle.put.specs.Put.{capped, Filled, Least, Along, along-more}
 use Rattle.pieces.specs.declared.Gathered.{Gathered}
-use Rattle.pieces.specs.Copy.{noneYet, beforeOut, recordOut, runAfter, rowOut, copyFrom, copyOf}
+use Rattle.pieces.specs.Copy.{valueOut, typedOut, noneYet, beforeOut, recordOut, runAfter, rowOut, copyFrom, copyOf}
+use Rattle.pieces.specs.Laws.{record-as}
 use Rattle.stretches.specs.declared.Stretch.{Stretch}
 use Rattle.stretches.specs.Stretches.{isKept, isNext, stretch}
 
-by-kept : {X : Type 0} (k : ℕ) → (k ≡ 8 → X) → (k ≡ 32 → X) → isKept k ≡ true → X
-by-kept k a b h = go (eqb k 8) (eqb k 32) (λ e. a (eqb-true k 8 e)) (λ e. b (eqb-true k 32 e)) h
+-- a kept row is a value that is no Decimal: a member value, or one behind its kind and its code
+data Plain (s : List ℕ) (r : Row) : Type 0 where
+  a-member : r .kind ≡ 32 → eqb (r .link) 5 ≡ false → Plain s r
+  typed : r .kind ≡ 8 → eqb (getD s (r .offset + 1) 0) 5 ≡ false → r .offset + 2 ≤ r .end → Plain s r
+
+kept-plain : (s : List ℕ) (r : Row) → isKept s r ≡ true → Plain s r
+kept-plain s r h = go (eqb (r .kind) 32) refl (eqb (r .link) 5) refl (eqb (r .kind) 8) refl (eqb (getD s (r .offset + 1) 0) 5) refl h
   where
-    go : {X : Type 0} (t u : Bool) → (t ≡ true → X) → (u ≡ true → X) → (t || u) ≡ true → X
-    go true u f g e = f refl
-    go false u f g e = g e
+    not : {X : Type 0} → false ≡ true → X
+    not e = absurd (let z : _≡_ {A = ℕ} 0 1 = cc in omega arith)
+
+    go : (t : Bool) → eqb (r .kind) 32 ≡ t → (u : Bool) → eqb (r .link) 5 ≡ u → (v : Bool) → eqb (r .kind) 8 ≡ v
+        → (w : Bool) → eqb (getD s (r .offset + 1) 0) 5 ≡ w
+        → pick t (pick u false true) (pick v (pick w false (leb (r .offset + 2) (r .end))) false) ≡ true → Plain s r
+    go true a true b v c w d e = not e
+    go true a false b v c w d e = a-member (eqb-true (r .kind) 32 a) b
+    go false a u b true c true d e = not e
+    go false a u b true c false d e = typed (eqb-true (r .kind) 8 c) d (leb-true (r .offset + 2) (r .end) e)
+    go false a u b false c w d e = not e
 
 -- ---- one kept row
 
-module _ (s : List ℕ) (rs : List Row) (i p : ℕ) (w : Gathered) (r : Row) (h : isNext p r ≡ true) where
-  kept : isKept (r .kind) ≡ true
+module _ (s : List ℕ) (rs : List Row) (i p : ℕ) (w : Gathered) (r : Row) (h : isNext s p r ≡ true) where
+  kept : isKept s r ≡ true
   unfolding isNext
-  kept = both-of (leb p (r .end)) (isKept (r .kind)) (both-of (eqb (r .offset) p) _ h .1) .1
+  kept = both-of (leb p (r .end)) (isKept s r) (both-of (eqb (r .offset) p) _ h .1) .1
 
   starts : r .offset ≡ p
   unfolding isNext
@@ -44,19 +58,34 @@ module _ (s : List ℕ) (rs : List Row) (i p : ℕ) (w : Gathered) (r : Row) (h 
 
   ends : p ≤ r .end
   unfolding isNext
-  ends = leb-true p (r .end) (both-of (leb p (r .end)) (isKept (r .kind)) (both-of (eqb (r .offset) p) _ h .1) .0)
+  ends = leb-true p (r .end) (both-of (leb p (r .end)) (isKept s r) (both-of (eqb (r .offset) p) _ h .1) .0)
 
   kept-before : beforeOut w r ≡ runOut (w .count)
   unfolding beforeOut
-  kept-before = by-kept (r .kind) (λ e. rw e) (λ e. rw e) kept
+  kept-before = go (kept-plain s r kept)
+    where
+      go : Plain s r → beforeOut w r ≡ runOut (w .count)
+      go (a-member k l) = rw k
+      go (typed k l e) = rw k
 
   kept-record : recordOut s rs i r ≡ between s p (r .end)
-  unfolding recordOut
-  kept-record = by-kept (r .kind) (λ e. rw (e, starts)) (λ e. rw (e, starts)) kept
+  unfolding recordOut typedOut
+  kept-record = go (kept-plain s r kept)
+    where
+      go : Plain s r → recordOut s rs i r ≡ between s p (r .end)
+      go (a-member k l) = rw (k, starts, l)
+      go (typed k l e) =
+          record-as s rs i r 8 k
+          ∙ (ap (λ (t : Bool). between s (r .offset) (r .offset + 2) ++ valueOut s t (r .offset + 2) (r .end)) l
+          ∙ (sym (part-through s (r .offset) (r .offset + 2) (r .end) (omega arith) e) ∙ ap (λ (o : ℕ). between s o (r .end)) starts))
 
   kept-after : runAfter w r ≡ noneYet
   unfolding runAfter
-  kept-after = by-kept (r .kind) (λ e. rw e) (λ e. rw e) kept
+  kept-after = go (kept-plain s r kept)
+    where
+      go : Plain s r → runAfter w r ≡ noneYet
+      go (a-member k l) = rw k
+      go (typed k l e) = rw k
 
   -- the nulls before it, its bytes, and what follows after nothing that waits
   kept-row : (more : List Row) → copyFrom s rs i w (r ∷ more) ≡ runOut (w .count) ++ (between s p (r .end) ++ copyFrom s rs (i + 1) noneYet more)
@@ -82,15 +111,15 @@ module _ (s : List ℕ) (rs : List Row) where
       let z : p - p ≡ 0 = omega arith in
       record { onwards = omega arith; counted = omega arith; within = omega arith; bytes = rw (z, e) refl }
 
-  whole : (l : List Row) (i p : ℕ) → l ≡ drop i rs → Whole s rs i p l (stretch i p l)
+  whole : (l : List Row) (i p : ℕ) → l ≡ drop i rs → Whole s rs i p l (stretch s i p l)
   unfolding stretch
   whole [] i p e = unmoved [] i p e
   whole (r ∷ more) i p e =
-      picked (λ (q : Stretch). Whole s rs i p (r ∷ more) q) (isNext p r)
+      picked (λ (q : Stretch). Whole s rs i p (r ∷ more) q) (isNext s p r)
       (λ h.
       let o : more ≡ drop (i + 1) rs = ap (λ (l : List Row). drop 1 l) e ∙ drop-drop 1 i rs in
       let w = whole more (i + 1) (r .end) o in
-      let q = stretch (i + 1) (r .end) more in
+      let q = stretch s (i + 1) (r .end) more in
       let b = ends s rs i p noneYet r h in
       let c : length (r ∷ more) ≡ length more + 1 = sym (add-one (length more)) in
       record {
@@ -107,24 +136,24 @@ module _ (s : List ℕ) (rs : List Row) where
       (λ h. unmoved (r ∷ more) i p e)
 
   -- only the nulls that wait before the first of its rows are written with it
-  after-nulls : (l : List Row) (i p : ℕ) (w : Gathered) → i < stretch i p l .next → copyFrom s rs i w l ≡ runOut (w .count) ++ copyFrom s rs i noneYet l
+  after-nulls : (l : List Row) (i p : ℕ) (w : Gathered) → i < stretch s i p l .next → copyFrom s rs i w l ≡ runOut (w .count) ++ copyFrom s rs i noneYet l
   unfolding stretch
   after-nulls [] i p w = λ k. absurd (omega arith)
   after-nulls (r ∷ more) i p w =
-      picked (λ (q : Stretch). i < q .next → copyFrom s rs i w (r ∷ more) ≡ runOut (w .count) ++ copyFrom s rs i noneYet (r ∷ more)) (isNext p r)
+      picked (λ (q : Stretch). i < q .next → copyFrom s rs i w (r ∷ more) ≡ runOut (w .count) ++ copyFrom s rs i noneYet (r ∷ more)) (isNext s p r)
       (λ h k. kept-row s rs i p w r h more ∙ ap (λ (l : List ℕ). runOut (w .count) ++ l) (sym (kept-row s rs i p noneYet r h more ∙ rw no-run)))
       (λ h k. absurd (omega arith))
 
 -- a part d of the output, which is e after i rows and a bytes: the nulls that wait and a stretch q from place p on are written at m, as y
 module _ (s d e y : List ℕ) (rs : List Row) (n i a b m t p : ℕ) (w v : Gathered) (q : Stretch) where
-  pub stretch-copied : length rs ≡ n → i < n → q ≡ stretch i p (drop i rs) → i < q .next → v ≡ noneYet
+  pub stretch-copied : length rs ≡ n → i < n → q ≡ stretch s i p (drop i rs) → i < q .next → v ≡ noneYet
       → Along (copyOf s rs) (copyFrom s rs i w (drop i rs)) d e a → Least a (length e) m → t ≡ capped (a + b)
       → length y ≡ length (midOf m (length e - m) e) → Filled (runOut (w .count) ++ between s p (q .end)) (midOf m (length e - m) e) y b
       → (q .next ≤ n) × (v .count ≤ 4294967296 * q .next)
       × Along (copyOf s rs) (copyFrom s rs (q .next) v (drop (q .next) rs)) d (putMid m (length e - m) e y) t
   stretch-copied l h x k z f j g o c =
       let u : Whole s rs i p (drop i rs) q = rw x (whole s rs (drop i rs) i p refl) in
-      let k' : i < stretch i p (drop i rs) .next = rw (← x) k in
+      let k' : i < stretch s i p (drop i rs) .next = rw (← x) k in
       let rest = copyFrom s rs (q .next) noneYet (drop (q .next) rs) in
       let split : copyFrom s rs i w (drop i rs) ≡ (runOut (w .count) ++ between s p (q .end)) ++ rest =
       after-nulls s rs (drop i rs) i p w k' ∙ (rw (u .bytes) (sym (append-assoc (runOut (w .count)) (between s p (q .end)) rest))) in

@@ -143,7 +143,7 @@ fn copy_all(out: &mut [u8], s: &[u8], table: &[u32], n: usize) -> usize
         }
         let r = table::row_at(table, n, i);
         let from = put::least(at, out.len());
-        let kept = stretches::stretch_from(table, n, i, r.offset);
+        let kept = stretches::stretch_from(s, table, n, i, r.offset);
         if i < kept.next {
             let b = put_stretch(&mut out[from..], s, w.count, r.offset, kept.end);
             at = put::add_up(at, b);

@@ -18,7 +18,7 @@ use Rattle.format.specs.Types.{primitiveOf, codeAt, nameAt, moved, passed, pass
 use Rattle.format.specs.Rows.{rowsOf, findFrom, objectRow, linkOf, linked}
 use Rattle.format.specs.Records.{allowed, kindOf, kindAt, headerAt, stringRecordAt, typedPrimitiveAt, nullsAt, slotArrayAt, headingAt}
 use Rattle.format.specs.Grammar.{Reading}
-use Rattle.format.specs.Machine.{close, filled, opened, add, object, nullRun, ending, act, recordStep, step, finish, run, accepted, refused, readOf}
+use Rattle.format.specs.Machine.{close, filled, opened, add, object, nullRun, ending, act, recordStep, step, finish, run, accepted, refused, rawOf, readOf}
 use Rattle.format.specs.Says.{objectsIn, orderOf, whatFrom, spread, nodesOf, nodesFrom, Model, says, SayTheSame}
 use Rattle.format.specs.Examples.{hexOnto, failing, None}
 use Rattle.num.specs.Le.{Bytes}
@@ -77,11 +77,11 @@ pastDate = dateList 3155378976000000000
 
 computed : (Takes case2 (rowsOf 3 (stringRows 1)) × (Takes sevens (rowsOf 3 (stringRows 7)) × Takes run7 (rowsOf 4 case7)))
     × ((readOf [] 0 ≡ refused R.CutShort 0) × ((readOf run8 (length run8) ≡ refused R.BadCount 26) × (readOf run9 (length run9) ≡ refused R.WrongPlace 28)))
-unfolding bytes rowsOf readOf run finish step recordStep act ending nullRun object add opened filled close headingAt slotArrayAt nullsAt stringRecordAt headerAt kindAt kindOf allowed linked linkOf objectRow findFrom passedOf passed moved nameAt stringAt textAt wellFormed after stepOf leadOf hiOf loOf needOf groupsOf prefixIn leBytes u32At le hexOnto
+unfolding bytes rowsOf readOf rawOf run finish step recordStep act ending nullRun object add opened filled close headingAt slotArrayAt nullsAt stringRecordAt headerAt kindAt kindOf allowed linked linkOf objectRow findFrom passedOf passed moved nameAt stringAt textAt wellFormed after stepOf leadOf hiOf loOf needOf groupsOf prefixIn leBytes u32At le hexOnto
 computed = (((refl, refl), ((refl, refl), (refl, refl))), (refl, (refl, refl)))
 
 computed-dates : Takes lastDate (rowsOf 4 dateRows) × (readOf pastDate (length pastDate) ≡ refused R.BadValue 26)
-unfolding bytes rowsOf readOf run finish step recordStep act ending nullRun object add opened filled close headingAt slotArrayAt typedPrimitiveAt headerAt kindAt kindOf allowed linked linkOf objectRow findFrom passedOf passed moved valueAt dateTimeAt codeAt primitiveOf leBytes u64At u32At le hexOnto
+unfolding bytes rowsOf readOf rawOf run finish step recordStep act ending nullRun object add opened filled close headingAt slotArrayAt typedPrimitiveAt headerAt kindAt kindOf allowed linked linkOf objectRow findFrom passedOf passed moved valueAt dateTimeAt codeAt primitiveOf leBytes u64At u32At le hexOnto
 computed-dates = ((refl, refl), refl)
 
 -- ---- readings

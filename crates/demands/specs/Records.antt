@@ -1,37 +1,45 @@
--- No list has two readings: the records of a reading are those that its rows show, each a function of the stream and of its row. So two readings of one
--- stream have the same records, the same root and the same HeaderId, and not the same rows alone.
-use Prim.Native.Nat.{ℕ, suc, _+_, _-_, _*_, _<_}
+-- No list has two readings: the records of a reading are those that its rows show, each a function of the stream, the rows and its own row. So two
+-- readings of one stream have the same records, the same root and the same HeaderId, and not the same rows alone.
+use Prim.Native.Nat.{ℕ, zero, suc, _+_, _-_, _*_, _≤_, _<_}
 use mathlib.Core.Path.{_≡_, refl, sym, ap, subst, _∙_}
 use mathlib.Core.Bool.{Bool, true, false, _||_}
 use mathlib.Core.List.{List, [], _∷_, _++_, map, append-assoc}
 use native.Mathlib.Omega.{arith}
-use lib.ListN.{length, getD, drop, length-append}
+use lib.ListN.{length, getD, take, drop, length-append}
 use lib.Dec.{eqb}
+use lib.Seq.{take-at, drop-at}
 use borrow.Author.Tests.{eqb-true}
 use Rattle.format.specs.declared.PrimitiveCode.{PrimitiveCode}
 use Rattle.format.specs.declared.SlotType.{SlotType}
 use Rattle.format.specs.declared.Row.{Row}
-use Rattle.format.specs.Bytes.{pick, part}
+use Rattle.format.specs.Bytes.{pick}
 use Rattle.format.specs.Numbers.{leBytes}
-use Rattle.format.specs.Text.{stringBytes}
+use Rattle.format.specs.Text.{spanAt}
 use Rattle.format.specs.Types.{codeNumber, afterText, afterInfo}
 use Rattle.format.specs.Rows.{objectRow, withLink, linkOf, linked}
-use Rattle.format.specs.Contents.{Detail, primitive, text, object, system, class, objects, texts, primitives, Member, Rec, header, classById, systemClass, libraryClass, string, array, typedPrimitive, reference, null, nulls, manyNulls, end, library, primitiveArray, objectArray, stringArray, value, typeByte, infoBytes, namesBytes, typesBytes, infosBytes, classBytes, numbersBytes, enc, encs}
-use Rattle.format.specs.Grammar.{Positive, Name, Shape, Ranked, single, jagged, rectangular, Entry, Cur, cur, size, rowOf, Object, system-class, library-class, class-by-id, Body, hollow, filled, Slots, full, member-value, an-object, a-string, a-typed-primitive, a-reference, a-null, a-run, a-long-run, a-library, Array, of-objects, of-strings, of-primitives, of-any, of-values, Objects, the-end, one-object, one-string, one-array, one-library, Reading}
-use Rattle.format.specs.Says.{textFrom, afterTexts, numberFrom, codeFrom, numbersFrom}
+use Rattle.format.specs.Contents.{Prefixed, bytesIn, itemsBytes, Detail, primitive, text, object, system, class, objects, texts, primitives, Member, Rec, header, classById, systemClass, libraryClass, string, array, typedPrimitive, reference, null, nulls, manyNulls, end, library, primitiveArray, objectArray, stringArray, value, typeByte, infoBytes, namesBytes, typesBytes, infosBytes, classBytes, numbersBytes, enc, encs}
+use Rattle.format.specs.Grammar.{Positive, Name, Value, Values, product, Shape, Ranked, single, jagged, rectangular, Entry, Cur, cur, size, rowOf, Object, system-class, library-class, class-by-id, Body, hollow, filled, Slots, full, member-value, an-object, a-string, a-typed-primitive, a-reference, a-null, a-run, a-long-run, a-library, Array, of-objects, of-strings, of-primitives, of-any, of-values, Objects, the-end, one-object, one-string, one-array, one-library, Reading}
+use Rattle.format.specs.Says.{Class, aNull, aValue, Node, node, Model, textFrom, afterTexts, numberFrom, codeFrom, contentFrom, numbersFrom, valueCode, orderOf, whatFrom, spread, isNulls, isSilent, nodesOf, nodesFrom, says}
+use Rattle.format.specs.Meant.{nameBy, classBy, orderBy, senseOf, Open, ownerIn, slotIn, nodesBy, countBy, openBy, walk, meant}
 use Rattle.num.specs.Le.{length-leBytes}
-use Rattle.spans.specs.Judged.{names-after}
 use Rattle.laws.specs.Fields.{positive-bits, length-numbers-bytes}
 use Rattle.laws.specs.Links.{rows-are}
+use Rattle.places.specs.Stand.{stand-of}
+use Rattle.places.specs.Prefixes.{prefixed}
+use Rattle.places.specs.Fields.{prefixedAt}
+use Rattle.places.specs.Values.{valueIn, value-in}
+use Rattle.places.specs.Items.{itemsIn, items-in}
 use Rattle.places.specs.Details.{detailIn}
 use Rattle.places.specs.Members.{membersIn}
-use Rattle.saying.specs.There.{rest-there, part-there, byte-there, byte-rest, number-there, number-rest, text-is, text-there, code-there, OwnDetail, own-detail, detail-there, OwnMembers, no-member, own-member, own-members, names-there, numbers-there, kindOf, CountIs, RowOf, row-of, row-linked, GoodRec}
+use Rattle.saying.specs.Order.{place-inside}
+use Rattle.saying.specs.There.{rest-there, byte-there, byte-rest, number-there, number-rest, span-is, text-is, text-there, code-there, OwnDetail, own-detail, detail-there, OwnMembers, no-member, own-member, own-members, names-there, numbers-there, kindOf, CountIs, RowOf, row-of, row-linked, ItemsOf, no-items, GoodRec}
+use Rattle.meant.specs.Laws.{says-meant}
 use Rattle.demands.specs.Readings.{reading-unique}
 
 -- ---- the record that a row shows
 
 -- the members of a class in this row, libraries by their numbers
-abbrev pub membersHere : List ℕ → Row → List (Member ℕ)
+abbrev pub membersHere : List ℕ → Row → List (Member Prefixed ℕ)
 membersHere s r =
     let names = afterText s (r .offset + 5) + 4 in
     let types = afterTexts s (r .count) names in
@@ -42,27 +50,29 @@ arrayHere s r =
     let rank = numberFrom s (r .offset + 6) in
     let types = r .offset + 10 + 4 * rank in
     let items = afterInfo s (getD s types 0) (types + 1) in
-    array (r .id) (getD s (r .offset + 5) 0) (numbersFrom s rank (r .offset + 10)) (detailIn s (getD s types 0) (types + 1)) (part s items (r .end - items))
+    array (r .id) (getD s (r .offset + 5) 0) (numbersFrom s rank (r .offset + 10)) (detailIn s (getD s types 0) (types + 1))
+    (pick (eqb (getD s types 0) 0) (itemsIn s (codeFrom s (types + 1)) (r .count) items) [])
 
-unfoldable pub recFrom : List ℕ → Row → Rec
-recFrom s r =
+-- a member value by the code of its owner's class for its slot, any other record by its bytes and its row
+unfoldable pub recFrom : List ℕ → List Row → Row → Rec
+recFrom s rows r =
     pick (eqb (r .kind) 0) (header (r .id) (numberFrom s (r .offset + 5)))
     (pick (eqb (r .kind) 1) (classById (r .id) (numberFrom s (r .offset + 5)))
-    (pick (eqb (r .kind) 4) (systemClass (r .id) (textFrom s (r .offset + 5)) (membersHere s r))
-    (pick (eqb (r .kind) 5) (libraryClass (r .id) (textFrom s (r .offset + 5)) (membersHere s r) (numberFrom s (r .end - 4)))
-    (pick (eqb (r .kind) 6) (string (r .id) (textFrom s (r .offset + 5)))
+    (pick (eqb (r .kind) 4) (systemClass (r .id) (prefixedAt s (r .offset + 5)) (membersHere s r))
+    (pick (eqb (r .kind) 5) (libraryClass (r .id) (prefixedAt s (r .offset + 5)) (membersHere s r) (numberFrom s (r .end - 4)))
+    (pick (eqb (r .kind) 6) (string (r .id) (prefixedAt s (r .offset + 5)))
     (pick (eqb (r .kind) 7) (arrayHere s r)
-    (pick (eqb (r .kind) 8) (typedPrimitive (codeFrom s (r .offset + 1)) (part s (r .offset + 2) (r .end - (r .offset + 2))))
+    (pick (eqb (r .kind) 8) (typedPrimitive (codeFrom s (r .offset + 1)) (valueIn s (codeFrom s (r .offset + 1)) (r .offset + 2)))
     (pick (eqb (r .kind) 9) (reference (r .id))
     (pick (eqb (r .kind) 10) null
     (pick (eqb (r .kind) 11) end
-    (pick (eqb (r .kind) 12) (library (r .id) (textFrom s (r .offset + 5)))
+    (pick (eqb (r .kind) 12) (library (r .id) (prefixedAt s (r .offset + 5)))
     (pick (eqb (r .kind) 13) (nulls (r .count))
     (pick (eqb (r .kind) 14) (manyNulls (r .count))
-    (pick (eqb (r .kind) 15) (primitiveArray (r .id) (r .count) (codeFrom s (r .offset + 9)) (part s (r .offset + 10) (r .end - (r .offset + 10))))
+    (pick (eqb (r .kind) 15) (primitiveArray (r .id) (r .count) (codeFrom s (r .offset + 9)) (itemsIn s (codeFrom s (r .offset + 9)) (r .count) (r .offset + 10)))
     (pick (eqb (r .kind) 16) (objectArray (r .id) (r .count))
     (pick (eqb (r .kind) 17) (stringArray (r .id) (r .count))
-    (value (part s (r .offset) (r .end - r .offset))))))))))))))))))
+    (value (valueCode s rows r) (valueIn s (valueCode s rows r) (r .offset))))))))))))))))))
 
 -- ---- records along rows
 
@@ -84,7 +94,7 @@ OwnIs (library i x) n = n ≡ i
 OwnIs (primitiveArray i k c vs) n = n ≡ i
 OwnIs (objectArray i k) n = n ≡ i
 OwnIs (stringArray i k) n = n ≡ i
-OwnIs (value v) n = Unit {0}
+OwnIs (value c v) n = Unit {0}
 
 -- records one after the other from a place on, each with its row
 pub data Along : ℕ → List Rec → List Row → Type 0 where
@@ -105,10 +115,6 @@ size-nulls : (at k : ℕ) → at + 2 ≡ at + size (nulls k)
 unfolding enc
 size-nulls at k = refl
 
-size-value : (at : ℕ) (v : List ℕ) → at + length v ≡ at + size (value v)
-unfolding enc
-size-value at v = refl
-
 abbrev AlongIn : Cur → Type 0
 AlongIn (cur at row es rs is) = Along at rs is
 
@@ -116,9 +122,11 @@ array-along : {at n kind i : ℕ} {r : Rec} {ts : List SlotType} {es : List Entr
     → it ≡ rowOf kind at r i 0 0 0 n → Along (at + size r) rs is → Along at (r ∷ rs) (it ∷ is)
 array-along {n = n} {i = i} (of-objects h) q k = along-more i 0 0 0 n q refl tt refl refl k
 array-along {n = n} {i = i} (of-strings h) q k = along-more i 0 0 0 n q refl tt refl refl k
-array-along {n = n} {i = i} (of-primitives h g) q k = along-more i 0 0 0 n q refl tt refl refl k
-array-along {n = n} {i = i} {es = es} (of-any {d = d} g e h f z) q k = along-more i 0 0 0 n q tt (g, own-detail es d h) refl refl k
-array-along {n = n} {i = i} (of-values g e h) q k = along-more i 0 0 0 n q tt (g, tt) refl refl k
+array-along {n = n} {i = i} (of-primitives h g) q k = along-more i 0 0 0 n q refl g refl refl k
+array-along {n = n} {i = i} {es = es} (of-any {ns = ns} {d = d} g e h f z) q k =
+    along-more i 0 0 0 n q e (g, own-detail es d h, no-items d (product ns) f) refl refl k
+array-along {n = n} {i = i} (of-values {b = b} {vs = vs} g e h) q k =
+    along-more i 0 0 0 n q e (g, tt, subst (λ (m : ℕ). Values b m vs) e h) refl refl k
 
 mutual
   object-along : {room own slot : ℕ} {c c₁ : Cur} → Object room own slot c c₁ → AlongIn c₁ → AlongIn c
@@ -133,10 +141,10 @@ mutual
 
   slots-along : {room own slot : ℕ} {ts : List SlotType} {c c₁ : Cur} → Slots room own slot ts c c₁ → AlongIn c₁ → AlongIn c
   slots-along full k = k
-  slots-along (member-value {at = at} {v = v} a q d) k = along-more _ _ _ _ _ q tt tt tt (size-value at v) (slots-along d k)
+  slots-along (member-value a q d) k = along-more _ _ _ _ _ q tt a tt refl (slots-along d k)
   slots-along (an-object t a d) k = object-along a (slots-along d k)
   slots-along (a-string t a b q d) k = along-more _ _ _ _ _ q tt b (refl, a .sign) refl (slots-along d k)
-  slots-along (a-typed-primitive t a q d) k = along-more _ _ _ _ _ q tt tt tt refl (slots-along d k)
+  slots-along (a-typed-primitive t a q d) k = along-more _ _ _ _ _ q tt a tt refl (slots-along d k)
   slots-along (a-reference t a q d) k = along-more _ _ _ _ _ q tt tt refl refl (slots-along d k)
   slots-along (a-null {at = at} t q d) k = along-more _ _ _ _ _ q refl tt tt (size-null at) (slots-along d k)
   slots-along (a-run {at = at} {k = n} t a b e u q d) k = along-more _ _ _ _ _ q refl tt tt (size-nulls at n) (slots-along d k)
@@ -189,6 +197,19 @@ row-like {k} {o} {e} {i} {n} w a b c d f =
     ∙ (ap (λ (x : ℕ). like k o e x (w .count) w) d
     ∙ ap (λ (x : ℕ). like k o e i x w) f)))
 
+-- the name at a place, with the width of its prefix
+name-here : (s : List ℕ) (t : Prefixed) (q : List ℕ) (p : ℕ) → Name t → drop p s ≡ bytesIn t ++ q → prefixedAt s p ≡ t
+name-here s t q p n d =
+    prefixed t (spanAt s p .from - p) (textFrom s p) (rw (span-is s t q p d (n .prefix) (n .characters .short)) (omega arith)) (text-is s t q p n d)
+
+-- the value of a code at a place, and several one after the other
+module _ (s q : List ℕ) (c : PrimitiveCode) (p : ℕ) (h : p ≤ length s) where
+  value-from : (v : Prefixed) → Value c v → drop p s ≡ bytesIn v ++ q → valueIn s c p ≡ v
+  value-from v g d = value-in s c v p (p + length (bytesIn v)) g (stand-of s (bytesIn v) q p h d)
+
+  items-from : (n : ℕ) (vs : List Prefixed) → Values c n vs → drop p s ≡ itemsBytes vs ++ q → itemsIn s c n p ≡ vs
+  items-from n vs g d = items-in s c n vs p (p + length (itemsBytes vs)) g (stand-of s (itemsBytes vs) q p h d)
+
 module _ (s q : List ℕ) (at : ℕ) where
   -- after the kind byte and a number
   after-id : (k i : ℕ) (b : List ℕ) → drop at s ≡ (k ∷ (leBytes 4 i ++ b)) ++ q → drop (at + 5) s ≡ b ++ q
@@ -196,83 +217,120 @@ module _ (s q : List ℕ) (at : ℕ) where
       let l : length (leBytes 4 i) ≡ 4 = length-leBytes 4 i in
       rest-there s (k ∷ leBytes 4 i) (b ++ q) at (at + 5) (omega arith) (d ∙ ap (λ (x : List ℕ). k ∷ x) (append-assoc (leBytes 4 i) b q))
 
-  detail-here : (p : ℕ) (d : Detail ℕ) → OwnDetail d → drop p s ≡ infoBytes d ++ q → detailIn s (typeByte d) p ≡ d
+  detail-here : (p : ℕ) (d : Detail Prefixed ℕ) → OwnDetail d → drop p s ≡ infoBytes d ++ q → detailIn s (typeByte d) p ≡ d
   unfolding detailIn
   detail-here p (primitive c) g d = ap primitive (code-there s q c p d)
   detail-here p text g d = refl
   detail-here p object g d = refl
-  detail-here p (system n) g d = ap system (text-is s n q p g d)
+  detail-here p (system n) g d = ap system (name-here s n q p g d)
   detail-here p (class n l) g d =
-      let x = text-there s n (leBytes 4 l ++ q) p (g .0) (d ∙ append-assoc (stringBytes n) (leBytes 4 l) q) in
-      rw (x .0, x .1, number-there s q l (p + length (stringBytes n)) (x .2) (positive-bits l (g .1)))
+      let f : drop p s ≡ bytesIn n ++ (leBytes 4 l ++ q) = d ∙ append-assoc (bytesIn n) (leBytes 4 l) q in
+      let x = text-there s n (leBytes 4 l ++ q) p (g .0) f in
+      let m : numberFrom s (afterText s p) ≡ l =
+      ap (numberFrom s) (x .1) ∙ number-there s q l (p + length (bytesIn n)) (x .2) (positive-bits l (g .1)) in
+      ap (λ (t : Prefixed). class t (numberFrom s (afterText s p))) (name-here s n (leBytes 4 l ++ q) p (g .0) f) ∙ ap (class n) m
   detail-here p objects g d = refl
   detail-here p texts g d = refl
   detail-here p (primitives c) g d = ap primitives (code-there s q c p d)
 
-length-types : (ms : List (Member ℕ)) → length (typesBytes ms) ≡ length ms
+length-types : (ms : List (Member Prefixed ℕ)) → length (typesBytes ms) ≡ length ms
 length-types [] = refl
 length-types (m ∷ ms) = ap suc (length-types ms)
 
-members-here : (s : List ℕ) (ms : List (Member ℕ)) (x y z : List ℕ) (a b c : ℕ) → OwnMembers ms
+members-here : (s : List ℕ) (ms : List (Member Prefixed ℕ)) (x y z : List ℕ) (a b c : ℕ) → OwnMembers ms
     → drop a s ≡ namesBytes ms ++ x → drop b s ≡ typesBytes ms ++ y → drop c s ≡ infosBytes ms ++ z → membersIn s (length ms) a b c ≡ ms
 unfolding membersIn
 members-here s [] x y z a b c no-member d e f = refl
 members-here s (m ∷ ms) x y z a b c (own-member n g gs) d e f =
-    let u = text-there s (m .name) (namesBytes ms ++ x) a n (d ∙ append-assoc (stringBytes (m .name)) (namesBytes ms) x) in
+    let k : drop a s ≡ bytesIn (m .name) ++ (namesBytes ms ++ x) = d ∙ append-assoc (bytesIn (m .name)) (namesBytes ms) x in
+    let u = text-there s (m .name) (namesBytes ms ++ x) a n k in
     let t = byte-there s (typesBytes ms ++ y) (typeByte (m .type)) b e in
     let v = byte-rest s (typesBytes ms ++ y) (typeByte (m .type)) b e in
     let h : drop c s ≡ infoBytes (m .type) ++ (infosBytes ms ++ z) = f ∙ append-assoc (infoBytes (m .type)) (infosBytes ms) z in
     let w = detail-there s (infosBytes ms ++ z) c [] (m .type) g h in
-    rw (u .0, u .1, t, detail-here s (infosBytes ms ++ z) c c (m .type) g h, w .1)
-    (ap (λ (l : List (Member ℕ)). m ∷ l)
-    (members-here s ms x y z (a + length (stringBytes (m .name))) (b + 1) (c + length (infoBytes (m .type))) gs (u .2) v (w .2)))
+    rw (t, name-here s (m .name) (namesBytes ms ++ x) a n k, detail-here s (infosBytes ms ++ z) c c (m .type) g h, u .1, w .1)
+    (ap (λ (l : List (Member Prefixed ℕ)). m ∷ l)
+    (members-here s ms x y z (a + length (bytesIn (m .name))) (b + 1) (c + length (infoBytes (m .type))) gs (u .2) v (w .2)))
 
 -- a class's name and members after its ObjectId
-class-here : (s : List ℕ) (k at e i : ℕ) (w : Row) (n : List ℕ) (ms : List (Member ℕ)) (q : List ℕ) → Name n → OwnMembers ms → drop (at + 5) s ≡ classBytes n ms ++ q
-    → (textFrom s (at + 5) ≡ n) × (membersHere s (like k at e i (length ms) w) ≡ ms)
+class-here : (s : List ℕ) (k at e i : ℕ) (w : Row) (n : Prefixed) (ms : List (Member Prefixed ℕ)) (q : List ℕ) → Name n → OwnMembers ms → drop (at + 5) s ≡ classBytes n ms ++ q
+    → (prefixedAt s (at + 5) ≡ n) × (membersHere s (like k at e i (length ms) w) ≡ ms)
 class-here s k at e i w n ms q g gs d =
     let types = typesBytes ms ++ infosBytes ms in
     let names = namesBytes ms ++ types in
     let count = leBytes 4 (length ms) in
-    let t = text-there s n ((count ++ names) ++ q) (at + 5) g (d ∙ append-assoc (stringBytes n) (count ++ names) q) in
-    let a = at + 5 + length (stringBytes n) + 4 in
-    let d1 = number-rest s (names ++ q) (length ms) (at + 5 + length (stringBytes n)) (t .2 ∙ append-assoc count names q) in
+    let d0 : drop (at + 5) s ≡ bytesIn n ++ ((count ++ names) ++ q) = d ∙ append-assoc (bytesIn n) (count ++ names) q in
+    let t = text-there s n ((count ++ names) ++ q) (at + 5) g d0 in
+    let a = at + 5 + length (bytesIn n) + 4 in
+    let d1 = number-rest s (names ++ q) (length ms) (at + 5 + length (bytesIn n)) (t .2 ∙ append-assoc count names q) in
     let d2 : drop a s ≡ namesBytes ms ++ (types ++ q) = d1 ∙ append-assoc (namesBytes ms) types q in
     let b = a + length (namesBytes ms) in
     let d3 : drop b s ≡ typesBytes ms ++ (infosBytes ms ++ q) =
     rest-there s (namesBytes ms) (types ++ q) a b refl d2 ∙ append-assoc (typesBytes ms) (infosBytes ms) q in
     let d4 : drop (b + length ms) s ≡ infosBytes ms ++ q =
-    rest-there s (typesBytes ms) (infosBytes ms ++ q) b (b + length ms) (ap (λ (x : ℕ). b + x) (sym (length-types ms))) d3 in
-    (t .0, rw (t .1, names-after s (length ms) a b (names-there s ms (types ++ q) a gs d2)) (members-here s ms (types ++ q) (infosBytes ms ++ q) q a b (b + length ms) gs d2 d3 d4))
+    rest-there s (typesBytes ms) (infosBytes ms ++ q) b (b + length ms) (ap (λ (x : ℕ). b + x) (sym (length-types ms))) d3 in (
+      name-here s n ((count ++ names) ++ q) (at + 5) g d0,
+      rw (t .1, names-there s ms (types ++ q) a gs d2) (members-here s ms (types ++ q) (infosBytes ms ++ q) q a b (b + length ms) gs d2 d3 d4),
+    )
 
 rank-bits : {type rank : ℕ} → Ranked type rank → rank < 4294967296
 rank-bits single = omega arith
 rank-bits jagged = omega arith
 rank-bits (rectangular l h) = omega arith
 
-module _ (s : List ℕ) (w : Row) (at : ℕ) (q : List ℕ) where
-  header-here : (root h : ℕ) → h < 4294967296 → w .id ≡ root → drop at s ≡ enc (header root h) ++ q → RowOf (header root h) at w → recFrom s w ≡ header root h
+-- the items of an array, where they are inside it
+module _ (s q : List ℕ) (p n : ℕ) (vs : List Prefixed) where
+  array-items : (d : Detail Prefixed ℕ) → ItemsOf d n vs → drop p s ≡ infoBytes d ++ (itemsBytes vs ++ q)
+      → pick (eqb (typeByte d) 0) (itemsIn s (codeFrom s p) n (p + length (infoBytes d))) [] ≡ vs
+  array-items (primitive c) g d =
+      let x = itemsBytes vs ++ q in
+      let l = place-inside s x (codeNumber c) p d in
+      rw (code-there s x c p d) (items-from s q c (p + 1) (omega arith) n vs g (byte-rest s x (codeNumber c) p d))
+  array-items text g d = sym g
+  array-items object g d = sym g
+  array-items (system x) g d = sym g
+  array-items (class x l) g d = sym g
+  array-items objects g d = sym g
+  array-items texts g d = sym g
+  array-items (primitives c) g d = sym g
+
+-- a member value says what its bytes say by the code of its owner's class for its slot
+value-row : (s : List ℕ) (rows : List Row) (w : Row) → w .kind ≡ 32 → recFrom s rows w ≡ value (valueCode s rows w) (valueIn s (valueCode s rows w) (w .offset))
+unfolding recFrom valueCode
+value-row s rows w k = ap (recFrom s rows) (row-like w k refl refl refl refl)
+
+value-node : (s : List ℕ) (rows : List Row) (w : Row) → w .kind ≡ 32
+    → nodesOf s rows w ≡ node (aValue (valueCode s rows w) (contentFrom s (valueCode s rows w) (w .offset))) (orderOf rows (w .owner)) (w .slot) ∷ []
+unfolding nodesOf whatFrom valueCode
+value-node s rows w k = ap (nodesOf s rows) (row-like w k refl refl refl refl)
+
+-- a row that shows a member value leads to its code
+abbrev CodeIs : List ℕ → List Row → Rec → Row → Type 0
+CodeIs s rows r w = (c : PrimitiveCode) (v : Prefixed) → r ≡ value c v → valueCode s rows w ≡ c
+
+module _ (s : List ℕ) (rows : List Row) (w : Row) (at : ℕ) (q : List ℕ) where
+  header-here : (root h : ℕ) → h < 4294967296 → w .id ≡ root → drop at s ≡ enc (header root h) ++ q → RowOf (header root h) at w → recFrom s rows w ≡ header root h
   unfolding enc recFrom
   header-here root h b i d r =
       let x = after-id s q at 0 root (leBytes 4 h ++ (leBytes 4 1 ++ leBytes 4 0)) d in
       let y = number-there s ((leBytes 4 1 ++ leBytes 4 0) ++ q) h (at + 5) (x ∙ append-assoc (leBytes 4 h) (leBytes 4 1 ++ leBytes 4 0) q) b in
-      ap (recFrom s) (row-like w (r .kind-is) (r .offset-is) refl i refl) ∙ ap (header root) y
+      ap (recFrom s rows) (row-like w (r .kind-is) (r .offset-is) refl i refl) ∙ ap (header root) y
 
-  class-by-id-here : (i k : ℕ) → k < 4294967296 → w .id ≡ i → drop at s ≡ enc (classById i k) ++ q → RowOf (classById i k) at w → recFrom s w ≡ classById i k
+  class-by-id-here : (i k : ℕ) → k < 4294967296 → w .id ≡ i → drop at s ≡ enc (classById i k) ++ q → RowOf (classById i k) at w → recFrom s rows w ≡ classById i k
   unfolding enc recFrom
   class-by-id-here i k b z d r =
       let y = number-there s q k (at + 5) (after-id s q at 1 i (leBytes 4 k) d) b in
-      ap (recFrom s) (row-like w (r .kind-is) (r .offset-is) refl z refl) ∙ ap (classById i) y
+      ap (recFrom s rows) (row-like w (r .kind-is) (r .offset-is) refl z refl) ∙ ap (classById i) y
 
-  system-class-here : (i : ℕ) (n : List ℕ) (ms : List (Member ℕ)) → Name n → OwnMembers ms → w .id ≡ i → drop at s ≡ enc (systemClass i n ms) ++ q
-      → RowOf (systemClass i n ms) at w → recFrom s w ≡ systemClass i n ms
+  system-class-here : (i : ℕ) (n : Prefixed) (ms : List (Member Prefixed ℕ)) → Name n → OwnMembers ms → w .id ≡ i → drop at s ≡ enc (systemClass i n ms) ++ q
+      → RowOf (systemClass i n ms) at w → recFrom s rows w ≡ systemClass i n ms
   unfolding enc recFrom
   system-class-here i n ms g gs z d r =
       let c = class-here s 4 at (w .end) i w n ms q g gs (after-id s q at 4 i (classBytes n ms) d) in
-      ap (recFrom s) (row-like w (r .kind-is) (r .offset-is) refl z (r .count-is)) ∙ rw (c .0, c .1)
+      ap (recFrom s rows) (row-like w (r .kind-is) (r .offset-is) refl z (r .count-is)) ∙ rw (c .0, c .1)
 
-  library-class-here : (i : ℕ) (n : List ℕ) (ms : List (Member ℕ)) (l : ℕ) → Name n → OwnMembers ms → l < 4294967296 → w .id ≡ i
-      → drop at s ≡ enc (libraryClass i n ms l) ++ q → RowOf (libraryClass i n ms l) at w → recFrom s w ≡ libraryClass i n ms l
+  library-class-here : (i : ℕ) (n : Prefixed) (ms : List (Member Prefixed ℕ)) (l : ℕ) → Name n → OwnMembers ms → l < 4294967296 → w .id ≡ i
+      → drop at s ≡ enc (libraryClass i n ms l) ++ q → RowOf (libraryClass i n ms l) at w → recFrom s rows w ≡ libraryClass i n ms l
   unfolding enc recFrom
   library-class-here i n ms l g gs h z d r =
       let b = classBytes n ms in
@@ -282,60 +340,61 @@ module _ (s : List ℕ) (w : Row) (at : ℕ) (q : List ℕ) where
       let f : e - 4 ≡ at + 5 + length b = omega arith in
       let m = number-there s q l (e - 4) (rest-there s b (leBytes 4 l ++ q) (at + 5) (e - 4) f d1) h in
       let c = class-here s 5 at e i w n ms (leBytes 4 l ++ q) g gs d1 in
-      ap (recFrom s) (row-like w (r .kind-is) (r .offset-is) (r .end-is) z (r .count-is)) ∙ rw (c .0, c .1, m)
+      ap (recFrom s rows) (row-like w (r .kind-is) (r .offset-is) (r .end-is) z (r .count-is)) ∙ rw (c .0, c .1, m)
 
-  string-here : (i : ℕ) (x : List ℕ) → Name x → w .id ≡ i → drop at s ≡ enc (string i x) ++ q → RowOf (string i x) at w → recFrom s w ≡ string i x
+  string-here : (i : ℕ) (x : Prefixed) → Name x → w .id ≡ i → drop at s ≡ enc (string i x) ++ q → RowOf (string i x) at w → recFrom s rows w ≡ string i x
   unfolding enc recFrom
   string-here i x g z d r =
-      ap (recFrom s) (row-like w (r .kind-is) (r .offset-is) refl z refl) ∙ ap (string i) (text-is s x q (at + 5) g (after-id s q at 6 i (stringBytes x) d))
+      ap (recFrom s rows) (row-like w (r .kind-is) (r .offset-is) refl z refl) ∙ ap (string i) (name-here s x q (at + 5) g (after-id s q at 6 i (bytesIn x) d))
 
-  library-here : (i : ℕ) (x : List ℕ) → Name x → w .id ≡ i → drop at s ≡ enc (library i x) ++ q → RowOf (library i x) at w → recFrom s w ≡ library i x
+  library-here : (i : ℕ) (x : Prefixed) → Name x → w .id ≡ i → drop at s ≡ enc (library i x) ++ q → RowOf (library i x) at w → recFrom s rows w ≡ library i x
   unfolding enc recFrom
   library-here i x g z d r =
-      ap (recFrom s) (row-like w (r .kind-is) (r .offset-is) refl z refl) ∙ ap (library i) (text-is s x q (at + 5) g (after-id s q at 12 i (stringBytes x) d))
+      ap (recFrom s rows) (row-like w (r .kind-is) (r .offset-is) refl z refl) ∙ ap (library i) (name-here s x q (at + 5) g (after-id s q at 12 i (bytesIn x) d))
 
-  typed-primitive-here : (c : PrimitiveCode) (v : List ℕ) → drop at s ≡ enc (typedPrimitive c v) ++ q → RowOf (typedPrimitive c v) at w
-      → recFrom s w ≡ typedPrimitive c v
+  typed-primitive-here : (c : PrimitiveCode) (v : Prefixed) → Value c v → drop at s ≡ enc (typedPrimitive c v) ++ q → RowOf (typedPrimitive c v) at w
+      → recFrom s rows w ≡ typedPrimitive c v
   unfolding enc recFrom
-  typed-primitive-here c v d r =
-      let e = at + length (enc (typedPrimitive c v)) in
-      let f : codeFrom s (at + 1) ≡ c = code-there s (v ++ q) c (at + 1) (byte-rest s (codeNumber c ∷ (v ++ q)) 8 at d) in
-      let a : drop (at + 2) s ≡ v ++ q = rest-there s (8 ∷ codeNumber c ∷ []) (v ++ q) at (at + 2) (omega arith) d in
-      let b : part s (at + 2) (e - (at + 2)) ≡ v = part-there s v q (at + 2) e (omega arith) a in
-      ap (recFrom s) (row-like w (r .kind-is) (r .offset-is) (r .end-is) refl refl) ∙ rw (f, b)
+  typed-primitive-here c v g d r =
+      let x = bytesIn v in
+      let a : drop (at + 1) s ≡ codeNumber c ∷ (x ++ q) = byte-rest s (codeNumber c ∷ (x ++ q)) 8 at d in
+      let b : drop (at + 2) s ≡ x ++ q = rest-there s (8 ∷ codeNumber c ∷ []) (x ++ q) at (at + 2) (omega arith) d in
+      let l = place-inside s (x ++ q) (codeNumber c) (at + 1) a in
+      ap (recFrom s rows) (row-like w (r .kind-is) (r .offset-is) refl refl refl)
+      ∙ rw (code-there s (x ++ q) c (at + 1) a) (ap (typedPrimitive c) (value-from s q c (at + 2) (omega arith) v g b))
 
-  primitive-array-here : (i n : ℕ) (c : PrimitiveCode) (vs : List ℕ) → w .id ≡ i → drop at s ≡ enc (primitiveArray i n c vs) ++ q
-      → RowOf (primitiveArray i n c vs) at w → recFrom s w ≡ primitiveArray i n c vs
+  primitive-array-here : (i n : ℕ) (c : PrimitiveCode) (vs : List Prefixed) → Values c n vs → w .id ≡ i → drop at s ≡ enc (primitiveArray i n c vs) ++ q
+      → RowOf (primitiveArray i n c vs) at w → recFrom s rows w ≡ primitiveArray i n c vs
   unfolding enc recFrom
-  primitive-array-here i n c vs z d r =
-      let e = at + length (enc (primitiveArray i n c vs)) in
+  primitive-array-here i n c vs g z d r =
+      let x = itemsBytes vs in
       let l : length (leBytes 4 n) ≡ 4 = length-leBytes 4 n in
-      let k : length (leBytes 4 i ++ (leBytes 4 n ++ (codeNumber c ∷ vs))) ≡ 9 + length vs = simp (length-append, length-leBytes) (omega arith) in
-      let a : drop (at + 5) s ≡ leBytes 4 n ++ (codeNumber c ∷ (vs ++ q)) =
-      after-id s q at 15 i (leBytes 4 n ++ (codeNumber c ∷ vs)) d ∙ append-assoc (leBytes 4 n) (codeNumber c ∷ vs) q in
-      let b : drop (at + 9) s ≡ codeNumber c ∷ (vs ++ q) = rest-there s (leBytes 4 n) (codeNumber c ∷ (vs ++ q)) (at + 5) (at + 9) (omega arith) a in
-      let f : codeFrom s (at + 9) ≡ c = code-there s (vs ++ q) c (at + 9) b in
-      let g : drop (at + 10) s ≡ vs ++ q = rest-there s (codeNumber c ∷ []) (vs ++ q) (at + 9) (at + 10) (omega arith) b in
-      let h : part s (at + 10) (e - (at + 10)) ≡ vs = part-there s vs q (at + 10) e (omega arith) g in
-      ap (recFrom s) (row-like w (r .kind-is) (r .offset-is) (r .end-is) z (r .count-is)) ∙ rw (f, h)
+      let a : drop (at + 5) s ≡ leBytes 4 n ++ (codeNumber c ∷ (x ++ q)) =
+      after-id s q at 15 i (leBytes 4 n ++ (codeNumber c ∷ x)) d ∙ append-assoc (leBytes 4 n) (codeNumber c ∷ x) q in
+      let b : drop (at + 9) s ≡ codeNumber c ∷ (x ++ q) = rest-there s (leBytes 4 n) (codeNumber c ∷ (x ++ q)) (at + 5) (at + 9) (omega arith) a in
+      let e : drop (at + 10) s ≡ x ++ q = rest-there s (codeNumber c ∷ []) (x ++ q) (at + 9) (at + 10) (omega arith) b in
+      let h = place-inside s (x ++ q) (codeNumber c) (at + 9) b in
+      ap (recFrom s rows) (row-like w (r .kind-is) (r .offset-is) refl z (r .count-is))
+      ∙ rw (code-there s (x ++ q) c (at + 9) b) (ap (primitiveArray i n c) (items-from s q c (at + 10) (omega arith) n vs g e))
 
-  value-here : (v : List ℕ) → drop at s ≡ enc (value v) ++ q → RowOf (value v) at w → recFrom s w ≡ value v
-  unfolding enc recFrom
-  value-here v d r =
-      ap (recFrom s) (row-like w (r .kind-is) (r .offset-is) (r .end-is) refl refl) ∙ ap value (part-there s v q at (at + length v) refl d)
+  -- of the code that its owner and slot lead to
+  value-here : (c : PrimitiveCode) (v : Prefixed) → Value c v → at ≤ length s → valueCode s rows w ≡ c → drop at s ≡ enc (value c v) ++ q → RowOf (value c v) at w
+      → recFrom s rows w ≡ value c v
+  unfolding enc
+  value-here c v g h e d r =
+      value-row s rows w (r .kind-is)
+      ∙ (ap (λ (x : PrimitiveCode). value x (valueIn s x (w .offset))) e
+      ∙ (ap (λ (x : ℕ). value c (valueIn s c x)) (r .offset-is) ∙ ap (value c) (value-from s q c at h v g d)))
 
-  array-here : (i t : ℕ) (ns : List ℕ) (x : Detail ℕ) (vs : List ℕ) → Shape t ns → OwnDetail x → w .id ≡ i → drop at s ≡ enc (array i t ns x vs) ++ q
-      → RowOf (array i t ns x vs) at w → recFrom s w ≡ array i t ns x vs
+  array-here : (i t : ℕ) (ns : List ℕ) (x : Detail Prefixed ℕ) (vs : List Prefixed) → Shape t ns → OwnDetail x → ItemsOf x (product ns) vs → w .id ≡ i
+      → drop at s ≡ enc (array i t ns x vs) ++ q → RowOf (array i t ns x vs) at w → recFrom s rows w ≡ array i t ns x vs
   unfolding enc recFrom
-  array-here i t ns x vs g h z d r =
-      let items = infoBytes x ++ vs in
+  array-here i t ns x vs g h y z d r =
+      let items = infoBytes x ++ itemsBytes vs in
       let item = typeByte x ∷ items in
       let rank = leBytes 4 (length ns) in
-      let e = at + length (enc (array i t ns x vs)) in
       let l : length rank ≡ 4 = length-leBytes 4 (length ns) in
       let n = length-numbers-bytes ns in
-      let k : length (leBytes 4 i ++ (t ∷ (rank ++ (numbersBytes ns ++ item)))) ≡ 10 + 4 * length ns + length (infoBytes x) + length vs =
-      simp (length-append, length-leBytes) (omega arith) in
       let a = after-id s q at 7 i (t ∷ (rank ++ (numbersBytes ns ++ item))) d in
       let b : drop (at + 6) s ≡ rank ++ ((numbersBytes ns ++ item) ++ q) =
       rest-there s (t ∷ []) ((rank ++ (numbersBytes ns ++ item)) ++ q) (at + 5) (at + 6) (omega arith) a ∙ append-assoc rank (numbersBytes ns ++ item) q in
@@ -343,58 +402,128 @@ module _ (s : List ℕ) (w : Row) (at : ℕ) (q : List ℕ) where
       rest-there s rank ((numbersBytes ns ++ item) ++ q) (at + 6) (at + 10) (omega arith) b ∙ append-assoc (numbersBytes ns) item q in
       let p = at + 10 + 4 * length ns in
       let f = rest-there s (numbersBytes ns) (item ++ q) (at + 10) p (omega arith) c in
-      let u : drop (p + 1) s ≡ infoBytes x ++ (vs ++ q) = byte-rest s (items ++ q) (typeByte x) p f ∙ append-assoc (infoBytes x) vs q in
-      let y = detail-there s (vs ++ q) (p + 1) [] x h u in
-      let m = p + 1 + length (infoBytes x) in
-      let v : part s m (e - m) ≡ vs = part-there s vs q m e (omega arith) (y .2) in
-      ap (recFrom s) (row-like w (r .kind-is) (r .offset-is) (r .end-is) z refl)
+      let u : drop (p + 1) s ≡ infoBytes x ++ (itemsBytes vs ++ q) = byte-rest s (items ++ q) (typeByte x) p f ∙ append-assoc (infoBytes x) (itemsBytes vs) q in
+      let m = detail-there s (itemsBytes vs ++ q) (p + 1) [] x h u in
+      ap (recFrom s rows) (row-like w (r .kind-is) (r .offset-is) refl z (r .count-is))
       ∙ rw (
         byte-there s ((rank ++ (numbersBytes ns ++ item)) ++ q) t (at + 5) a,
         number-there s ((numbersBytes ns ++ item) ++ q) (length ns) (at + 6) b (rank-bits (g .ranked)),
         numbers-there s ns (item ++ q) (at + 10) (g .lengths) c,
         byte-there s (items ++ q) (typeByte x) p f,
-        detail-here s (vs ++ q) at (p + 1) x h u,
-        y .1,
-        v,
+        detail-here s (itemsBytes vs ++ q) at (p + 1) x h u,
+        m .1,
       )
+      (ap (array i t ns x) (array-items s q (p + 1) (product ns) vs x y u))
 
   -- by the row alone
-  row-here : (k i n : ℕ) → w .kind ≡ k → w .id ≡ i → w .count ≡ n → recFrom s w ≡ recFrom s (like k (w .offset) (w .end) i n w)
-  row-here k i n a b c = ap (recFrom s) (row-like w a refl refl b c)
+  row-here : (k i n : ℕ) → w .kind ≡ k → w .id ≡ i → w .count ≡ n → recFrom s rows w ≡ recFrom s rows (like k (w .offset) (w .end) i n w)
+  row-here k i n a b c = ap (recFrom s rows) (row-like w a refl refl b c)
 
-  pub rec-here : (r : Rec) → drop at s ≡ enc r ++ q → RowOf r at w → GoodRec r → OwnIs r (w .id) → recFrom s w ≡ r
+  pub rec-here : (r : Rec) → drop at s ≡ enc r ++ q → RowOf r at w → GoodRec r → OwnIs r (w .id) → at ≤ length s → CodeIs s rows r w
+      → recFrom s rows w ≡ r
   unfolding recFrom
-  rec-here (header root h) d r g o = header-here root h (o .1) (o .0) d r
-  rec-here (classById i k) d r g o = class-by-id-here i k (o .1) (o .0) d r
-  rec-here (systemClass i n ms) d r g o = system-class-here i n ms (g .0) (g .1) o d r
-  rec-here (libraryClass i n ms l) d r g o = library-class-here i n ms l (g .0) (g .1) (g .2) o d r
-  rec-here (string i x) d r g o = string-here i x g (o .0) d r
-  rec-here (array i t ns x vs) d r g o = array-here i t ns x vs (g .0) (g .1) o d r
-  rec-here (typedPrimitive c v) d r g o = typed-primitive-here c v d r
-  rec-here (reference i) d r g o = row-here 9 i (w .count) (r .kind-is) o refl
-  rec-here null d r g o = row-here 10 (w .id) (w .count) (r .kind-is) refl refl
-  rec-here (nulls n) d r g o = row-here 13 (w .id) n (r .kind-is) refl (r .count-is)
-  rec-here (manyNulls n) d r g o = row-here 14 (w .id) n (r .kind-is) refl (r .count-is)
-  rec-here end d r g o = row-here 11 (w .id) (w .count) (r .kind-is) refl refl
-  rec-here (library i n) d r g o = library-here i n g o d r
-  rec-here (primitiveArray i n c vs) d r g o = primitive-array-here i n c vs o d r
-  rec-here (objectArray i n) d r g o = row-here 16 i n (r .kind-is) o (r .count-is)
-  rec-here (stringArray i n) d r g o = row-here 17 i n (r .kind-is) o (r .count-is)
-  rec-here (value v) d r g o = value-here v d r
+  rec-here (header root h) d r g o l e = header-here root h (o .1) (o .0) d r
+  rec-here (classById i k) d r g o l e = class-by-id-here i k (o .1) (o .0) d r
+  rec-here (systemClass i n ms) d r g o l e = system-class-here i n ms (g .0) (g .1) o d r
+  rec-here (libraryClass i n ms k) d r g o l e = library-class-here i n ms k (g .0) (g .1) (g .2) o d r
+  rec-here (string i x) d r g o l e = string-here i x g (o .0) d r
+  rec-here (array i t ns x vs) d r g o l e = array-here i t ns x vs (g .0) (g .1) (g .2) o d r
+  rec-here (typedPrimitive c v) d r g o l e = typed-primitive-here c v g d r
+  rec-here (reference i) d r g o l e = row-here 9 i (w .count) (r .kind-is) o refl
+  rec-here null d r g o l e = row-here 10 (w .id) (w .count) (r .kind-is) refl refl
+  rec-here (nulls n) d r g o l e = row-here 13 (w .id) n (r .kind-is) refl (r .count-is)
+  rec-here (manyNulls n) d r g o l e = row-here 14 (w .id) n (r .kind-is) refl (r .count-is)
+  rec-here end d r g o l e = row-here 11 (w .id) (w .count) (r .kind-is) refl refl
+  rec-here (library i n) d r g o l e = library-here i n g o d r
+  rec-here (primitiveArray i n c vs) d r g o l e = primitive-array-here i n c vs g o d r
+  rec-here (objectArray i n) d r g o l e = row-here 16 i n (r .kind-is) o (r .count-is)
+  rec-here (stringArray i n) d r g o l e = row-here 17 i n (r .kind-is) o (r .count-is)
+  rec-here (value c v) d r g o l e = value-here c v g l (e c v refl) d r
+
+-- ---- the codes of member values: what the rows say is what the records mean, and both come one after the other
+
+-- as many nodes as the kind and the count of a row tell
+length-spread : (n owner slot : ℕ) → length (spread n owner slot) ≡ n
+unfolding spread
+length-spread zero owner slot = refl
+length-spread (suc n) owner slot = ap suc (length-spread n owner (slot + 1))
+
+abbrev nodesIn : ℕ → ℕ → ℕ
+nodesIn kind count = pick (isSilent kind) 0 (pick (isNulls kind) count 1)
+
+nodes-shown : (s : List ℕ) (rows : List Row) (w : Row) → length (nodesOf s rows w) ≡ nodesIn (w .kind) (w .count)
+unfolding nodesOf
+nodes-shown s rows w = go (isSilent (w .kind)) (isNulls (w .kind)) (spread (w .count) (orderOf rows (w .owner)) (w .slot)) (length-spread _ _ _)
+  where
+    go : (a b : Bool) (l : List Node) → length l ≡ w .count
+        → length (pick a [] (pick b l (node (whatFrom s rows w) (orderOf rows (w .owner)) (w .slot) ∷ []))) ≡ pick a 0 (pick b (w .count) 1)
+    go true b l e = refl
+    go false true l e = e
+    go false false l e = refl
+
+-- two lists in two pieces, the first as long in both
+same-pieces : {A : Type 0} (a b c d : List A) → length c ≡ length a → a ++ b ≡ c ++ d → (a ≡ c) × (b ≡ d)
+same-pieces a b c d l e = (
+  sym (take-at a b (length a) refl) ∙ (ap (take (length a)) e ∙ take-at c d (length a) l),
+  sym (drop-at a b (length a) refl) ∙ (ap (drop (length a)) e ∙ drop-at c d (length a) l),
+)
+
+module _ (name : ℕ → List ℕ) (of : ℕ → Class) (order : ℕ → ℕ) (o k : ℕ) where
+  nodes-meant : (r : Rec) (n : ℕ) → CountIs r n → nodesIn (kindOf r) n ≡ length (nodesBy (senseOf name of order r) o k)
+  unfolding spread
+  nodes-meant (header a h) n e = refl
+  nodes-meant (classById i x) n e = refl
+  nodes-meant (systemClass i x ms) n e = refl
+  nodes-meant (libraryClass i x ms l) n e = refl
+  nodes-meant (string i x) n e = refl
+  nodes-meant (array i t ns d vs) n e = refl
+  nodes-meant (typedPrimitive c v) n e = refl
+  nodes-meant (reference i) n e = refl
+  nodes-meant null n e = e
+  nodes-meant (nulls m) n e = e ∙ sym (length-spread m o k)
+  nodes-meant (manyNulls m) n e = e ∙ sym (length-spread m o k)
+  nodes-meant end n e = refl
+  nodes-meant (library i x) n e = refl
+  nodes-meant (primitiveArray i m c vs) n e = refl
+  nodes-meant (objectArray i m) n e = refl
+  nodes-meant (stringArray i m) n e = refl
+  nodes-meant (value c v) n e = refl
+
+  module _ (s : List ℕ) (rows : List Row) (at : ℕ) (w : Row) where
+    as-many : (r : Rec) → RowOf r at w → length (nodesOf s rows w) ≡ length (nodesBy (senseOf name of order r) o k)
+    as-many r x = nodes-shown s rows w ∙ (ap (λ (m : ℕ). nodesIn m (w .count)) (x .kind-is) ∙ nodes-meant r (w .count) (x .count-is))
+
+    code-meant : (r : Rec) → RowOf r at w → nodesOf s rows w ≡ nodesBy (senseOf name of order r) o k → CodeIs s rows r w
+    code-meant r x e c v z =
+        let f = value-node s rows w (x .kind-is ∙ ap kindOf z) in
+        let g : nodesOf s rows w ≡ node (aValue c (v .text)) o k ∷ [] = e ∙ ap (λ (r : Rec). nodesBy (senseOf name of order r) o k) z in
+        let y = valueCode s rows w in
+        let h : aValue y (contentFrom s y (w .offset)) ≡ aValue c (v .text) = ap (λ (l : List Node). getD l 0 (node aNull 0 0) .what) (sym f ∙ g) in
+        cc
 
 -- ---- all records
 
-along-records : (s : List ℕ) {at : ℕ} {rs : List Rec} {is : List Row} → Along at rs is → drop at s ≡ encs rs → rs ≡ map (recFrom s) is
-unfolding encs
-along-records s no-record d = refl
-along-records s (one-record {at = at} {next = next} {r = r} {rs = rs} {it = it} w g o e k) d =
-    let x = rec-here s it at (encs rs) r d w g o in
-    let y = along-records s k (rest-there s (enc r) (encs rs) at next e d) in
-    ap (λ (z : Rec). z ∷ rs) (sym x) ∙ ap (λ (l : List Rec). recFrom s it ∷ l) y
+module _ (s : List ℕ) (rows : List Row) (name : ℕ → List ℕ) (of : ℕ → Class) (order : ℕ → ℕ) where
+  along-records : {at : ℕ} {rs : List Rec} {is : List Row} → Along at rs is → at ≤ length s → drop at s ≡ encs rs → (c : ℕ) (os : List Open)
+      → nodesFrom s rows is ≡ walk name of order c os rs → rs ≡ map (recFrom s rows) is
+  unfolding encs nodesFrom walk
+  along-records no-record h d c os n = refl
+  along-records (one-record {at = at} {next = next} {r = r} {rs = rs} {it = it} {is = is} w g o e k) h d c os n =
+      let m = senseOf name of order r in
+      let u = nodesBy m (ownerIn os) (slotIn os) in
+      let a = as-many name of order (ownerIn os) (slotIn os) s rows at it r w in
+      let p = same-pieces (nodesOf s rows it) (nodesFrom s rows is) u (walk name of order (countBy m c) (openBy m c os) rs) (sym a) n in
+      let x = rec-here s rows it at (encs rs) r d w g o h (code-meant name of order (ownerIn os) (slotIn os) s rows at it r w (p .0)) in
+      let t = stand-of s (enc r) (encs rs) at h d in
+      let y = along-records k (omega (arith, t .room)) (rest-there s (enc r) (encs rs) at next e d) (countBy m c) (openBy m c os) (p .1) in
+      ap (λ (z : Rec). z ∷ rs) (sym x) ∙ ap (λ (l : List Rec). recFrom s rows it ∷ l) y
 
 -- the records of a reading are those that its rows show
-pub records-are : {s : List ℕ} {rows : List Row} (w : Reading s rows) → recordsIn w ≡ map (recFrom s) rows
-records-are {s} w = along-records s (reading-along w) (reading-bytes w)
+pub records-are : {s : List ℕ} {rows : List Row} (w : Reading s rows) → recordsIn w ≡ map (recFrom s rows) rows
+unfolding says meant walk
+records-are {s} {rows} w =
+    along-records s rows (nameBy (w .rs)) (classBy (w .rs)) (orderBy (w .rs)) (reading-along w) (omega arith) (reading-bytes w) 0 []
+    (ap (λ (m : Model). m .nodes) (says-meant w))
 
 heads : {a b c d : ℕ} {rs ss : List Rec} → header a b ∷ rs ≡ header c d ∷ ss → (a ≡ c) × ((b ≡ d) × (rs ≡ ss))
 heads e = (cc, (cc, cc))
@@ -402,7 +531,7 @@ heads e = (cc, (cc, cc))
 -- two readings of one stream have equal roots, HeaderIds and records
 records-unique : (s : List ℕ) (rows others : List Row) (a : Reading s rows) (b : Reading s others)
     → (a .root ≡ b .root) × ((a .header-id ≡ b .header-id) × (a .rs ≡ b .rs))
-records-unique s rows others a b = heads (records-are a ∙ (ap (map (recFrom s)) (reading-unique s rows others a b) ∙ sym (records-are b)))
+records-unique s rows others a b = heads (records-are a ∙ (ap (λ (l : List Row). map (recFrom s l) l) (reading-unique s rows others a b) ∙ sym (records-are b)))
 
 -- ---- the rows before linking
 

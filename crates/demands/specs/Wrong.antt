@@ -16,14 +16,14 @@ use Rattle.format.specs.declared.TidyAnswer.the-variants as Q
 use Rattle.format.specs.declared.Row.{Row}
 use Rattle.format.specs.Bytes.{pick, laid}
 use Rattle.format.specs.Numbers.{le, u32At, leBytes}
-use Rattle.format.specs.Prefix.{prefixIn, groupsOf}
+use Rattle.format.specs.Prefix.{prefixIn, groupsOf, groupsIn, prefixOf}
 use Rattle.format.specs.Text.{needOf, loOf, hiOf, leadOf, stepOf, after, wellFormed, textAt, stringAt, spanAt}
 use Rattle.format.specs.Types.{nameAt, moved, passed, passedOf}
 use Rattle.format.specs.Rows.{roomOf, rowsOf, findFrom, objectRow, linkOf, linked}
 use Rattle.format.specs.Records.{allowed, kindOf, kindAt, headerAt, stringRecordAt, headingAt}
 use Rattle.format.specs.Contents.{Rec, header, classById, systemClass, libraryClass, string, array, typedPrimitive, reference, null, nulls, manyNulls, end, library, primitiveArray, objectArray, stringArray, value, enc, encs}
 use Rattle.format.specs.Grammar.{idsOf, Reading}
-use Rattle.format.specs.Machine.{Outcome, accepted, refused, close, filled, opened, add, object, nullRun, ending, act, recordStep, step, finish, run, readOf, tableWords}
+use Rattle.format.specs.Machine.{Outcome, accepted, refused, close, filled, opened, add, object, nullRun, ending, act, recordStep, step, finish, run, rawOf, readOf, tableWords}
 use Rattle.format.specs.Says.{objectsIn, orderOf, whatFrom, spread, nodesOf, nodesFrom, Model, says, SayTheSame}
 use Rattle.format.specs.Tidy.{recordsOf, afterWhat, pack, runOf, written, waiting, squeeze, tidyRecords, tidyOf}
 use Rattle.format.specs.Examples.{hexOnto}
@@ -88,7 +88,7 @@ unfolding rowsOf
 counts = (refl, refl)
 
 two-taken : (readOf (twoStrings 2) 38 ≡ accepted (two 2)) × (readOf (twoStrings 3) 38 ≡ accepted (two 3))
-unfolding rowsOf readOf run finish step recordStep act ending nullRun object add opened filled close headingAt stringRecordAt headerAt kindAt kindOf allowed linked linkOf objectRow findFrom passedOf passed moved nameAt stringAt textAt wellFormed after stepOf leadOf hiOf loOf needOf groupsOf prefixIn leBytes u32At le hexOnto
+unfolding rowsOf readOf rawOf run finish step recordStep act ending nullRun object add opened filled close headingAt stringRecordAt headerAt kindAt kindOf allowed linked linkOf objectRow findFrom passedOf passed moved nameAt stringAt textAt wellFormed after stepOf leadOf hiOf loOf needOf groupsOf prefixIn leBytes u32At le hexOnto
 two-taken = (refl, refl)
 
 pub reads-two : Reading (twoStrings 2) (two 2)
@@ -105,7 +105,7 @@ same-two = refl
 -- the copies are as long as 01 says, and far within the stream limit
 lengths : ((length (tidyOf (says case2 rows2)) ≡ 28) × ((length (tidyOf (says sevens rows27)) ≡ 28) × (length (tidyOf (says run7 rows7)) ≡ 29)))
     × ((length (tidyOf (says (twoStrings 2) (two 2))) ≡ 38) × (length (tidyOf (says (twoStrings 3) (two 3))) ≡ 38))
-unfolding rowsOf tidyOf tidyRecords squeeze waiting written runOf pack afterWhat recordsOf encs enc says nodesFrom nodesOf spread whatFrom orderOf objectsIn spanAt groupsOf prefixIn leBytes le hexOnto
+unfolding rowsOf tidyOf tidyRecords squeeze waiting written runOf pack afterWhat recordsOf encs enc says nodesFrom nodesOf spread whatFrom orderOf objectsIn spanAt prefixOf groupsIn groupsOf prefixIn leBytes le hexOnto
 lengths = ((refl, (refl, refl)), (refl, refl))
 
 small-2 : Within reads-2
@@ -258,7 +258,7 @@ abbrev pub KeepsLater : Copier → Type 0
 KeepsLater job = (s : List ℕ) (rows : List Row) (w : Reading s rows) (copies : List Row) (c : Reading (job s) copies)
     → drop 1 (idsOf (recordsIn c)) ≡ drop 1 (idsOf (recordsIn w))
 
-later-ids : (drop 1 (idsOf (map (recFrom (twoStrings 2)) (two 2))) ≡ 2 ∷ []) × (drop 1 (idsOf (map (recFrom (twoStrings 3)) (two 3))) ≡ 3 ∷ [])
+later-ids : (drop 1 (idsOf (map (recFrom (twoStrings 2) (two 2)) (two 2))) ≡ 2 ∷ []) × (drop 1 (idsOf (map (recFrom (twoStrings 3) (two 3)) (two 3))) ≡ 3 ∷ [])
 unfolding rowsOf recFrom
 later-ids = (refl, refl)
 
@@ -285,7 +285,7 @@ first-object-only job keeps demand =
 -- a job that copies the list is one of them
 pub itself-keeps : KeepsLater (λ s. s)
 itself-keeps s rows w copies c =
-    let e = records-are c ∙ (ap (map (recFrom s)) (reading-unique s copies rows c w) ∙ sym (records-are w)) in
+    let e = records-are c ∙ (ap (λ (l : List Row). map (recFrom s l) l) (reading-unique s copies rows c w) ∙ sym (records-are w)) in
     ap (λ (l : List Rec). drop 1 (idsOf l)) e
 
 -- two programs of that kind in full. Every number of an object by this function: ObjectIds, IdRefs, MetadataIds and the root, which HeaderId repeats
@@ -306,14 +306,14 @@ withNumbers f (library i n) = library i n
 withNumbers f (primitiveArray i n c vs) = primitiveArray (f i) n c vs
 withNumbers f (objectArray i n) = objectArray (f i) n
 withNumbers f (stringArray i n) = stringArray (f i) n
-withNumbers f (value v) = value v
+withNumbers f (value c v) = value c v
 
 -- the first object of the list becomes 1, and the rest is copied
 abbrev pub firstBy : List Rec → List ℕ
 firstBy rs = let first = getD (idsOf rs) 0 0 in encs (map (withNumbers (λ i. pick (eqb i first) 1 i)) rs)
 
 abbrev firstFrom : List ℕ → Outcome → List ℕ
-firstFrom s (accepted rows) = firstBy (map (recFrom s) rows)
+firstFrom s (accepted rows) = firstBy (map (recFrom s rows) rows)
 firstFrom s (refused r place) = []
 
 unfoldable pub firstOnly : Copier
@@ -324,16 +324,16 @@ abbrev pub tidyBy : List ℕ → Model → List ℕ
 tidyBy ids m = encs (map (withNumbers (λ k. pick (leb k 1) k (getD ids (k - 1) 0))) (tidyRecords m))
 
 abbrev tidyFrom : List ℕ → Outcome → List ℕ
-tidyFrom s (accepted rows) = tidyBy (idsOf (map (recFrom s) rows)) (says s rows)
+tidyFrom s (accepted rows) = tidyBy (idsOf (map (recFrom s rows) rows)) (says s rows)
 tidyFrom s (refused r place) = []
 
 unfoldable pub tidyFirstOnly : Copier
 tidyFirstOnly s = tidyFrom s (readOf s (length s))
 
-unchanged : ((firstBy (map (recFrom (twoStrings 2)) (two 2)) ≡ twoStrings 2) × (firstBy (map (recFrom (twoStrings 3)) (two 3)) ≡ twoStrings 3))
-    × ((tidyBy (idsOf (map (recFrom (twoStrings 2)) (two 2))) (says (twoStrings 2) (two 2)) ≡ twoStrings 2)
-    × (tidyBy (idsOf (map (recFrom (twoStrings 3)) (two 3))) (says (twoStrings 3) (two 3)) ≡ twoStrings 3))
-unfolding rowsOf recFrom tidyRecords squeeze waiting written runOf pack afterWhat recordsOf encs enc says nodesFrom nodesOf spread whatFrom orderOf objectsIn spanAt groupsOf prefixIn leBytes le hexOnto
+unchanged : ((firstBy (map (recFrom (twoStrings 2) (two 2)) (two 2)) ≡ twoStrings 2) × (firstBy (map (recFrom (twoStrings 3) (two 3)) (two 3)) ≡ twoStrings 3))
+    × ((tidyBy (idsOf (map (recFrom (twoStrings 2) (two 2)) (two 2))) (says (twoStrings 2) (two 2)) ≡ twoStrings 2)
+    × (tidyBy (idsOf (map (recFrom (twoStrings 3) (two 3)) (two 3))) (says (twoStrings 3) (two 3)) ≡ twoStrings 3))
+unfolding rowsOf recFrom tidyRecords squeeze waiting written runOf pack afterWhat recordsOf encs enc says nodesFrom nodesOf spread whatFrom orderOf objectsIn spanAt prefixOf groupsIn groupsOf prefixIn leBytes le hexOnto
 unchanged = ((refl, refl), (refl, refl))
 
 -- a job that leaves the two lists as they are

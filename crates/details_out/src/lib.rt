@@ -1,4 +1,4 @@
-// The types of a class's members, their details and its library, as the tidy copy has them: libraries by their new numbers.
+// The details of types and the library of a class, as the tidy copy has them: names with the shortest prefix, libraries by their new numbers.
 use format::Row;
 ghost use Prim.Native.Nat.{_+_, _-_, _≤_, _<_};
 ghost use Rattle.format.specs.Rows.{rowsOf, roomOf};
@@ -6,9 +6,9 @@ ghost use Rattle.put.specs.Put.{Filled};
 ghost use Rattle.marks.specs.Marks.{infosPlace};
 ghost use Rattle.pieces.specs.Copy.{infoOut, infosOut, ownOut, detailsOut};
 
-// ---- classes
+// ---- details
 
-// A detail from p to e, its library by the new number.
+// A detail from p to e: a class name, its library by the new number, or what is kept.
 pub fn put_info(
     out: &mut [u8],
     s: &[u8],
@@ -24,10 +24,13 @@ pub fn put_info(
     if kind == 4 {
         let m = marks::less(e, 4);
         let l = libraries_out::library_number(s, table, n, m);
-        let a = put::put_part(out, s, p, m);
+        let a = put::put_text(out, s, p);
         let from = put::least(a, out.len());
         let b = put::put_library_no(&mut out[from..], l);
         return put::add_up(a, b);
+    }
+    if kind == 3 {
+        return put::put_text(out, s, p);
     }
     put::put_part(out, s, p, e)
 }

@@ -1,51 +1,96 @@
--- Equal classes: details, the class's own library, the whole class. One law for each way that a test ends.
+-- Equal classes: details, members, the class's own library, the whole class. One law for each way that a test ends.
 use Prim.Native.Nat.{ℕ, suc, _+_, _-_, _≤_, _<_}
-use mathlib.Core.Path.{_≡_, ap, _∙_}
-use mathlib.Core.Bool.{Bool, true, false, _&&_}
+use mathlib.Core.Path.{_≡_, refl, ap, _∙_}
+use mathlib.Core.Bool.{Bool, true, false}
 use mathlib.Core.List.{List}
 use native.Mathlib.Omega.{arith}
+use native.Mathlib.Decide.{ℕ-discrete}
 use lib.Dec.{eqb}
 use lib.ListN.{getD}
 use borrow.Author.Tests.{eq-eqb, ne-eqb}
 use Rattle.format.specs.declared.Row.{Row}
-use Rattle.format.specs.Types.{afterInfo}
-use Rattle.marks.specs.Marks.{libraryAt, sameBetween, sameInfo, sameInfos, infosPlace, sameOwn, sameDetails, sameClassRow}
+use Rattle.format.specs.Bytes.{pick}
+use Rattle.format.specs.Types.{afterText, afterInfo}
+use Rattle.marks.specs.Marks.{libraryAt, sameBetween, sameText, sameInfo, sameMembersAt, sameOwn, sameDetails, sameClassRow}
+use Rattle.distinct.specs.declared.Cursor.{Cursor}
+use Rattle.distinct.specs.Members.{firstMember, nextMember, sameMember, sameMembers}
 
 module _ (s : List ℕ) (rows : List Row) where
   -- ---- details
 
   module _ (kind a x b y : ℕ) (q : Bool) where
-    module _ (id other : ℕ) (h : kind ≡ 4) (e : id ≡ x - 4) (f : other ≡ y - 4) (g : q ≡ sameBetween s a id b other) where
-      pub info-library : (l m : ℕ) → q ≡ true → l ≡ libraryAt s rows id → m ≡ libraryAt s rows other → eqb l m ≡ sameInfo s rows kind a x b y
+    module _ (h : kind ≡ 4) (g : q ≡ sameText s a b) where
+      pub info-library : (id other l m : ℕ) → q ≡ true → id ≡ x - 4 → l ≡ libraryAt s rows id → other ≡ y - 4 → m ≡ libraryAt s rows other
+          → eqb l m ≡ sameInfo s rows kind a x b y
       unfolding sameInfo
-      info-library l m z u v = rw (eq-eqb _ _ h, ← e, ← f, ← g, z, ← u, ← v)
+      info-library id other l m z e u f v = rw (eq-eqb _ _ h, ← g, z, ← e, ← f, ← u, ← v)
 
       pub info-name : q ≡ false → false ≡ sameInfo s rows kind a x b y
       unfolding sameInfo
-      info-name z = rw (eq-eqb _ _ h, ← e, ← f, ← g, z)
+      info-name z = rw (eq-eqb _ _ h, ← g, z)
 
-    pub info-plain : (kind ≡ 4 → ⊥) → q ≡ sameBetween s a x b y → q ≡ sameInfo s rows kind a x b y
+    pub info-system : kind ≡ 3 → q ≡ sameText s a b → q ≡ sameInfo s rows kind a x b y
     unfolding sameInfo
-    info-plain h e = rw (ne-eqb _ _ h) e
+    info-system h e = e ∙ rw h
 
-  module _ (n types a b : ℕ) where
-    pub infos-end : n ≤ 0 → sameInfos s rows n types a b ≡ true
-    unfolding sameInfos
-    infos-end h = let z : n ≡ 0 = omega arith in rw z
+    pub info-plain : (kind ≡ 4 → ⊥) → (kind ≡ 3 → ⊥) → q ≡ sameBetween s a x b y → q ≡ sameInfo s rows kind a x b y
+    unfolding sameInfo
+    info-plain h k e = rw (ne-eqb _ _ h, ne-eqb _ _ k) e
 
-    module _ (type x y : ℕ) (q : Bool) (h : 0 < n) (t : type ≡ getD s types 0) (e : x ≡ afterInfo s type a) (f : y ≡ afterInfo s type b)
-        (g : q ≡ sameInfo s rows type a x b y) where
-      infos-step : sameInfos s rows n types a b ≡ (q && sameInfos s rows (n - 1) (types + 1) x y)
-      unfolding sameInfos
-      infos-step =
+  -- ---- members
+
+  module _ (a b : Cursor) (x y : ℕ) (q : Bool) (g : q ≡ sameText s (a .name) (b .name)) where
+    module _ (kind other : ℕ) (z : q ≡ true) (t : kind ≡ getD s (a .kind) 0) (u : other ≡ getD s (b .kind) 0) where
+      pub member-same : (r : Bool) → kind ≡ other → r ≡ sameInfo s rows kind (a .info) x (b .info) y → r ≡ sameMember s rows a x b y
+      member-same r h e = rw (← g, z, ← t, ← u, eq-eqb _ _ h) e
+
+      pub member-kind : (kind ≡ other → ⊥) → false ≡ sameMember s rows a x b y
+      member-kind h = rw (← g, z, ← t, ← u, ne-eqb _ _ h)
+
+    pub member-name : q ≡ false → false ≡ sameMember s rows a x b y
+    member-name z = rw (← g, z)
+
+  module _ (n : ℕ) (a b : Cursor) where
+    pub members-end : n ≤ 0 → sameMembers s rows n a b ≡ true
+    unfolding sameMembersAt
+    members-end h = let z : n ≡ 0 = omega arith in rw z
+
+    module _ (c d : Cursor) (q : Bool) (h : 0 < n) (e : c ≡ nextMember s a) (f : d ≡ nextMember s b)
+        (g : q ≡ sameMember s rows a (c .info) b (d .info)) where
+      -- where the type bytes are not the same it does not matter by which of them the second detail ends
+      alike : (t : Bool) (k l : ℕ)
+          → pick t (pick (eqb k l) (pick (sameInfo s rows k (a .info) (afterInfo s k (a .info)) (b .info) (afterInfo s k (b .info)))
+          (sameMembersAt s rows (n - 1) (afterText s (a .name)) (a .kind + 1) (afterInfo s k (a .info)) (afterText s (b .name)) (b .kind + 1) (afterInfo s k (b .info)))
+          false) false) false
+          ≡ pick (pick t (pick (eqb k l) (sameInfo s rows k (a .info) (afterInfo s k (a .info)) (b .info) (afterInfo s l (b .info))) false) false)
+          (sameMembersAt s rows (n - 1) (afterText s (a .name)) (a .kind + 1) (afterInfo s k (a .info)) (afterText s (b .name)) (b .kind + 1) (afterInfo s l (b .info)))
+          false
+      alike true k l = go (ℕ-discrete k l)
+        where
+          go : Dec (k ≡ l)
+              → pick (eqb k l) (pick (sameInfo s rows k (a .info) (afterInfo s k (a .info)) (b .info) (afterInfo s k (b .info)))
+              (sameMembersAt s rows (n - 1) (afterText s (a .name)) (a .kind + 1) (afterInfo s k (a .info)) (afterText s (b .name)) (b .kind + 1) (afterInfo s k (b .info)))
+              false) false
+              ≡ pick (pick (eqb k l) (sameInfo s rows k (a .info) (afterInfo s k (a .info)) (b .info) (afterInfo s l (b .info))) false)
+              (sameMembersAt s rows (n - 1) (afterText s (a .name)) (a .kind + 1) (afterInfo s k (a .info)) (afterText s (b .name)) (b .kind + 1) (afterInfo s l (b .info)))
+              false
+          go (yes o) = rw (eq-eqb k l o, o)
+          go (no o) = rw (ne-eqb k l o)
+      alike false k l = refl
+
+      members-step : sameMembers s rows n a b ≡ pick q (sameMembers s rows (n - 1) c d) false
+      unfolding sameMembersAt
+      members-step =
           let z : n ≡ suc (n - 1) = omega arith in
-          ap (λ (m : ℕ). sameInfos s rows m types a b) z ∙ rw (← t, ← e, ← f, ← g)
+          ap (λ (m : ℕ). sameMembers s rows m a b) z
+          ∙ alike (sameText s (a .name) (b .name)) (getD s (a .kind) 0) (getD s (b .kind) 0)
+          ∙ rw (g, e, f)
 
-      pub infos-more : q ≡ true → sameInfos s rows n types a b ≡ sameInfos s rows (n - 1) (types + 1) x y
-      infos-more z = rw (infos-step, z)
+      pub members-more : q ≡ true → sameMembers s rows n a b ≡ sameMembers s rows (n - 1) c d
+      members-more z = rw (members-step, z)
 
-      pub infos-other : q ≡ false → sameInfos s rows n types a b ≡ false
-      infos-other z = rw (infos-step, z)
+      pub members-other : q ≡ false → sameMembers s rows n a b ≡ false
+      members-other z = rw (members-step, z)
 
   -- ---- two rows
 
@@ -59,25 +104,29 @@ module _ (s : List ℕ) (rows : List Row) where
     unfolding sameOwn
     own-system h = rw (ne-eqb _ _ h)
 
-    module _ (x y : ℕ) (q : Bool) (u : x ≡ infosPlace a) (v : y ≡ infosPlace b) where
-      module _ (e : q ≡ sameInfos s rows (a .count) (a .slot) x y) where
-        pub details-same : (r : Bool) → q ≡ true → r ≡ sameOwn s rows a b → r ≡ sameDetails s rows a b
-        details-same r z f = rw (← u, ← v, ← e, z) f
+    module _ (c d : Cursor) (q : Bool) (u : c ≡ firstMember s a) (v : d ≡ firstMember s b) (e : q ≡ sameMembers s rows (a .count) c d) where
+      members-are : q ≡ sameMembers s rows (a .count) (firstMember s a) (firstMember s b)
+      members-are = e ∙ rw (u, v)
 
-        pub details-other : q ≡ false → false ≡ sameDetails s rows a b
-        details-other z = rw (← u, ← v, ← e, z)
+      pub details-same : (r : Bool) → q ≡ true → r ≡ sameOwn s rows a b → r ≡ sameDetails s rows a b
+      details-same r z f = rw (← members-are, z) f
 
-      module _ (h : b .kind ≡ a .kind) (e : q ≡ sameBetween s (a .offset + 5) x (b .offset + 5) y) where
-        parts : q ≡ sameBetween s (a .offset + 5) (infosPlace a) (b .offset + 5) (infosPlace b)
-        parts = e ∙ rw (u, v)
+      pub details-other : q ≡ false → false ≡ sameDetails s rows a b
+      details-other z = rw (← members-are, z)
 
+    module _ (h : b .kind ≡ a .kind) where
+      module _ (q : Bool) (k : b .count ≡ a .count) (e : q ≡ sameText s (a .offset + 5) (b .offset + 5)) where
         pub class-same : (r : Bool) → q ≡ true → r ≡ sameDetails s rows a b → r ≡ sameClassRow s rows a b
         unfolding sameClassRow
-        class-same r z f = rw (eq-eqb _ _ h, ← parts, z) f
+        class-same r z f = rw (eq-eqb _ _ h, eq-eqb _ _ k, ← e, z) f
 
-        pub class-part : q ≡ false → false ≡ sameClassRow s rows a b
+        pub class-name : q ≡ false → false ≡ sameClassRow s rows a b
         unfolding sameClassRow
-        class-part z = rw (eq-eqb _ _ h, ← parts, z)
+        class-name z = rw (eq-eqb _ _ h, eq-eqb _ _ k, ← e, z)
+
+      pub class-count : (b .count ≡ a .count → ⊥) → false ≡ sameClassRow s rows a b
+      unfolding sameClassRow
+      class-count k = rw (eq-eqb _ _ h, ne-eqb _ _ k)
 
     pub class-kind : (b .kind ≡ a .kind → ⊥) → false ≡ sameClassRow s rows a b
     unfolding sameClassRow

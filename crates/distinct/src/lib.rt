@@ -4,7 +4,15 @@ use format::Row;
 ghost use mathlib.Core.Path.{_≡_};
 ghost use Prim.Native.Nat.{_≤_, _<_};
 ghost use Rattle.format.specs.Rows.{roomOf, rowsOf};
-ghost use Rattle.marks.specs.Marks.{firstLibrary, sameInfo, sameInfos, sameOwn, sameDetails, sameClassRow, firstClass};
+ghost use Rattle.marks.specs.Marks.{firstLibrary, sameInfo, sameOwn, sameDetails, sameClassRow, firstClass};
+ghost use Rattle.distinct.specs.Members.{firstMember, nextMember, sameMember, sameMembers};
+
+// Where a member of a class stands: its name, its type byte and its detail.
+struct Cursor {
+    name: usize,
+    kind: usize,
+    info: usize,
+}
 
 // ---- a library's first row with its name
 
@@ -41,36 +49,73 @@ fn same_info(
     ensures { λ q. ⌜ q ≡ sameInfo (now (s .entry)) (rowsOf n (now (table .entry))) kind a x b y ⌝ }
 {
     if kind == 4 {
-        let id = marks::less(x, 4);
-        let other = marks::less(y, 4);
-        if marks::same_between(s, a, id, b, other) {
-            let library = marks::library_at(s, table, n, id);
-            return library == marks::library_at(s, table, n, other);
+        if marks::same_text(s, a, b) {
+            let library = marks::library_at(s, table, n, marks::less(x, 4));
+            return library == marks::library_at(s, table, n, marks::less(y, 4));
         }
         return false;
+    }
+    if kind == 3 {
+        return marks::same_text(s, a, b);
     }
     marks::same_between(s, a, x, b, y)
 }
 
-// Whether the details of as many members as count, whose type bytes are alike, are the same.
-fn same_infos(s: &[u8], table: &[u32], n: usize, count: u32, types: u32, a: usize, b: usize) -> bool
+// Where the first member of a class stands.
+fn first_member(s: &[u8], r: Row) -> Cursor
+    ensures { λ q. ⌜ q ≡ firstMember (now (s .entry)) r ⌝ }
+{
+    Cursor {
+        name: spans::after_text(s, (r.offset as usize) + 5) + 4,
+        kind: r.slot as usize,
+        info: marks::infos_place(r),
+    }
+}
+
+// Where the member after this one stands.
+fn next_member(s: &[u8], a: Cursor) -> Cursor
+    requires { ⌜ a .kind < 18446744073709551615 ⌝ }
+    ensures { λ q. ⌜ q ≡ nextMember (now (s .entry)) a ⌝ }
+{
+    let kind = codes::byte_at(s, a.kind);
+    Cursor {
+        name: spans::after_text(s, a.name),
+        kind: a.kind + 1,
+        info: spans::after_info(s, kind, a.info),
+    }
+}
+
+// Whether the members at a and b are the same; their details end at x and y.
+fn same_member(s: &[u8], table: &[u32], n: usize, a: Cursor, x: usize, b: Cursor, y: usize) -> bool
     requires { ⌜ n ≤ roomOf (now table) ⌝ }
-    ensures { λ q. ⌜ q ≡ sameInfos (now (s .entry)) (rowsOf n (now (table .entry))) count types a b ⌝ }
+    ensures { λ q. ⌜ q ≡ sameMember (now (s .entry)) (rowsOf n (now (table .entry))) a x b y ⌝ }
+{
+    if marks::same_text(s, a.name, b.name) {
+        let kind = codes::byte_at(s, a.kind);
+        if kind == codes::byte_at(s, b.kind) {
+            return same_info(s, table, n, kind, a.info, x, b.info, y);
+        }
+        return false;
+    }
+    false
+}
+
+// Whether as many members as count, the first ones at a and b, are the same.
+fn same_members(s: &[u8], table: &[u32], n: usize, count: u32, a: Cursor, b: Cursor) -> bool
+    requires { ⌜ (n ≤ roomOf (now table)) × (a .kind < 4294967296) × (b .kind < 4294967296) ⌝ }
+    ensures { λ q. ⌜ q ≡ sameMembers (now (s .entry)) (rowsOf n (now (table .entry))) count a b ⌝ }
 {
     let mut left = count;
-    let mut t = types as usize;
-    let mut p = a;
-    let mut q = b;
+    let mut one = a;
+    let mut other = b;
     while left > 0 {
-        let kind = codes::byte_at(s, t);
-        let x = spans::after_info(s, kind, p);
-        let y = spans::after_info(s, kind, q);
-        if !same_info(s, table, n, kind, p, x, q, y) {
+        let after_one = next_member(s, one);
+        let after_other = next_member(s, other);
+        if !same_member(s, table, n, one, after_one.info, other, after_other.info) {
             return false;
         }
-        p = x;
-        q = y;
-        t += 1;
+        one = after_one;
+        other = after_other;
         left -= 1;
     }
     true
@@ -88,39 +133,30 @@ fn same_own(s: &[u8], table: &[u32], n: usize, a: Row, b: Row) -> bool
     true
 }
 
-// Whether two classes have the same details and the same library.
+// Whether two classes with as many members have the same members and the same library.
 fn same_details(s: &[u8], table: &[u32], n: usize, a: Row, b: Row) -> bool
     requires { ⌜ n ≤ roomOf (now table) ⌝ }
     ensures { λ q. ⌜ q ≡ sameDetails (now (s .entry)) (rowsOf n (now (table .entry))) a b ⌝ }
 {
-    if same_infos(
-        s,
-        table,
-        n,
-        a.count,
-        a.slot,
-        marks::infos_place(a),
-        marks::infos_place(b),
-    ) {
+    let one = first_member(s, a);
+    let other = first_member(s, b);
+    if same_members(s, table, n, a.count, one, other) {
         return same_own(s, table, n, a, b);
     }
     false
 }
 
-// Whether two rows have equal classes. Name, member count, names and type bytes are one part.
+// Whether two rows have equal classes.
 fn same_class_row(s: &[u8], table: &[u32], n: usize, a: Row, b: Row) -> bool
     requires { ⌜ n ≤ roomOf (now table) ⌝ }
     ensures { λ q. ⌜ q ≡ sameClassRow (now (s .entry)) (rowsOf n (now (table .entry))) a b ⌝ }
 {
     if b.kind == a.kind {
-        if marks::same_between(
-            s,
-            (a.offset as usize) + 5,
-            marks::infos_place(a),
-            (b.offset as usize) + 5,
-            marks::infos_place(b),
-        ) {
-            return same_details(s, table, n, a, b);
+        if b.count == a.count {
+            if marks::same_text(s, (a.offset as usize) + 5, (b.offset as usize) + 5) {
+                return same_details(s, table, n, a, b);
+            }
+            return false;
         }
         return false;
     }

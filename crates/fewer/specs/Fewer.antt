@@ -48,7 +48,7 @@ records-length w aNull = omega arith
 records-length w (aPrimitiveArray n code items) = omega arith
 records-length w (anObjectArray n) = omega arith
 records-length w (aStringArray n) = omega arith
-records-length w (aValue v) = omega arith
+records-length w (aValue c v) = omega arith
 
 -- ---- runs
 

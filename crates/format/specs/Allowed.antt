@@ -1,6 +1,6 @@
 -- What the grammar allows and does not, on worked lists of records: a library in a slot, a reference to what the list has before it or after it, an
 -- object of a class that is still open; no null run past an object's end, none over a primitive member, no library twice, no class that comes later.
-use Prim.Native.Nat.{ℕ, suc, _≤_, _<_}
+use Prim.Native.Nat.{ℕ, _≤_, _<_}
 use mathlib.Core.Path.{_≡_, refl}
 use mathlib.Core.Bool.{Bool, true, false, _&&_, _||_}
 use mathlib.Core.List.{List, [], _∷_, map}
@@ -14,10 +14,10 @@ use Rattle.format.specs.declared.SlotType.the-variants as S
 use Rattle.format.specs.declared.Row.{Row}
 use Rattle.format.specs.Bytes.{pick}
 use Rattle.format.specs.Numbers.{leBytes}
-use Rattle.format.specs.Prefix.{groupsOf}
+use Rattle.format.specs.Prefix.{prefixBytes, groupsOf, groupsIn, prefixOf}
 use Rattle.format.specs.Rows.{withLink, rowsOf}
 use Rattle.format.specs.Unicode.{Scalar, encode, Encodes}
-use Rattle.format.specs.Contents.{text, Rec, header, classById, nulls, manyNulls, end, library, objectArray, enc, encs}
+use Rattle.format.specs.Contents.{Prefixed, shortest, text, Rec, classById, nulls, manyNulls, end, library, objectArray, enc, encs}
 use Rattle.format.specs.Contents.{object as anything}
 use Rattle.format.specs.Grammar.{Positive, Name, Entry, no-more, member, Cur, cur, Object, system-class, library-class, Body, hollow, filled, Slots, full, allTake, class-by-id, an-object, a-string, a-reference, a-run, a-long-run, a-library, Array, of-objects, Objects, the-end, one-object, one-string, one-array, one-library, Link, to-root, to-object, stays, no-links, one-link, among, Reading}
 use Rattle.format.specs.Examples.{hexOnto}
@@ -45,8 +45,15 @@ own-scalars (c ∷ t) e = go (ltb c 0x80) refl e (own-scalars t)
         record { scalars = (w .0, v .scalars); bytes = rw (w .1, v .bytes) }
     go false q e again = absurd (let z : _≡_ {A = ℕ} 0 1 = cc in omega arith)
 
-name-of : (t : List ℕ) → ascii t ≡ true → length t < 2147483648 → Name t
-name-of t a b = record { good = (t, own-scalars t a); short = b }
+-- a short name in the shortest prefix
+name-of : (t : List ℕ) → ascii t ≡ true → length t < 128 → Name (shortest t)
+unfolding groupsOf
+name-of t a b =
+    let w : length (prefixBytes (length t)) ≡ 1 = rw (lt-ltb (length t) 128 b) in
+    record {
+      characters = record { good = (t, own-scalars t a); short = omega arith };
+      prefix = record { some = omega arith; most = omega arith; holds = rw w b; least = λ e v h k. omega arith };
+    }
 
 positive-of : (n : ℕ) → 0 < n → n < 2147483648 → Positive n
 positive-of n a b = record { above = a; below = b }
@@ -77,7 +84,7 @@ other a b = stays (λ e. eqb-false _ 0 a e) (λ e. eqb-false _ 9 b e)
 
 -- a library stands in a slot, and a reference names what the list has
 pub allowed-in-slot : Reading (encs (inSlot 4294967295 4 6 2 9 text 2)) (rowsOf 7 inSlotRows)
-unfolding rowsOf encs enc leBytes groupsOf hexOnto
+unfolding rowsOf encs enc leBytes groupsOf groupsIn prefixOf hexOnto
 allowed-in-slot =
     record {
       root = 4;
@@ -92,7 +99,7 @@ allowed-in-slot =
           one-array (record { sign = positive-of 4 (omega arith) (omega arith); fresh = refl }) (of-objects {i = 4} {n = 2} (omega arith)) refl
           (filled (a-library refl (positive-of 9 (omega arith) (omega arith)) refl (name-of (0x4C ∷ []) refl (omega arith)) refl
           (an-object refl
-          (library-class {i = 6} {n = 0x50 ∷ []} {ms = named text} (record { apart = omega arith; bits = omega arith; fresh = refl })
+          (library-class {i = 6} {n = shortest (0x50 ∷ [])} {ms = named text} (record { apart = omega arith; bits = omega arith; fresh = refl })
           (record { named = name-of (0x50 ∷ []) refl (omega arith); counted = omega arith; members = member (name-of (0x4E ∷ []) refl (omega arith)) tt no-more })
           (record { sign = positive-of 9 (omega arith) (omega arith); there = refl }) refl
           (filled (a-string refl (record { sign = positive-of 2 (omega arith) (omega arith); fresh = refl }) (name-of jaw refl (omega arith)) refl full)))
@@ -113,7 +120,7 @@ to-later i e = rw (only i 3 e)
 
 -- a reference may point forwards, and an object may be of a class whose first object is still open
 pub allowed-forwards : Reading (encs forwards) (rowsOf 6 forwardsRows)
-unfolding rowsOf encs enc leBytes groupsOf hexOnto
+unfolding rowsOf encs enc leBytes groupsOf groupsIn prefixOf hexOnto
 allowed-forwards =
     record {
       root = 1;
@@ -125,7 +132,7 @@ allowed-forwards =
       bytes-are = refl;
       small = omega arith;
       objects-are =
-          one-object (system-class {i = 1} {n = 0x50 ∷ []} {ms = named anything} (record { apart = omega arith; bits = omega arith; fresh = refl })
+          one-object (system-class {i = 1} {n = shortest (0x50 ∷ [])} {ms = named anything} (record { apart = omega arith; bits = omega arith; fresh = refl })
           (record { named = name-of (0x50 ∷ []) refl (omega arith); counted = omega arith; members = member (name-of (0x4E ∷ []) refl (omega arith)) tt no-more })
           refl
           (filled (an-object refl
@@ -180,5 +187,5 @@ pub no-later-class : {rs : List Rec} {is : List Row} → Objects (cur 17 1 [] (c
 no-later-class (one-object (class-by-id i k e q d) o) = let z : _≡_ {A = ℕ} 0 1 = cc in omega arith
 
 -- one LibraryId for two libraries
-pub no-library-twice : {m n : List ℕ} {rs : List Rec} {is : List Row} → Objects (cur 17 1 [] (library 1 m ∷ library 1 n ∷ rs) is) → ⊥
+pub no-library-twice : {m n : Prefixed} {rs : List Rec} {is : List Row} → Objects (cur 17 1 [] (library 1 m ∷ library 1 n ∷ rs) is) → ⊥
 no-library-twice (one-library i k n q (one-library j l m r d)) = let z : _≡_ {A = ℕ} 0 1 = cc in omega arith

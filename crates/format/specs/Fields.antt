@@ -23,7 +23,7 @@ use Rattle.format.specs.declared.Field.the-variants as F
 use Rattle.format.specs.Bytes.{pick, sameBytes}
 use Rattle.format.specs.Replies.{numberOf}
 use Rattle.format.specs.Numbers.{le, u16At, u32At, u64At, leBytes}
-use Rattle.format.specs.Prefix.{prefixIn, prefixAt, groupsOf, prefixBytes}
+use Rattle.format.specs.Prefix.{prefixIn, prefixAt, groupsOf, groupsIn, prefixOf, prefixBytes}
 use Rattle.format.specs.Text.{needOf, loOf, hiOf, leadOf, stepOf, after, wellFormed, textAt, stringAt, spanAt}
 use Rattle.format.specs.Values.{bytesAt, booleanAt, scalarAt, charAt, wholeDigit, fractionDigit, digit, decimalByte, decimalAfter, decimal, decimalText, decimalAt, dateTimeAt, valueAt, times, itemsAt}
 use Rattle.format.specs.Types.{codeNumber, primitiveOf, codeAt, coded, typeByteAt, nameAt, libraryIdAt, infoAt, slotOf}
@@ -197,6 +197,12 @@ fields =
     ∷ gives (prefixBytes 127) (0x7F ∷ [])
     ∷ gives (prefixBytes 128) (0x80 ∷ 1 ∷ [])
     ∷ gives (prefixBytes 2147483647) (hex 5 0xFFFFFFFF07)
+    -- a number in a prefix of a given width; none of no bytes
+    ∷ gives (prefixOf 0 4) []
+    ∷ gives (prefixOf 1 4) (4 ∷ [])
+    ∷ gives (prefixOf 2 4) (0x84 ∷ 0 ∷ [])
+    ∷ gives (prefixOf 2 300) (0xAC ∷ 2 ∷ [])
+    ∷ gives (prefixOf 5 0) (hex 5 0x8080808000)
     -- text: the bounds of the second byte after E0, ED, F0 and F4, and of the first byte
     ∷ gives (string 1 0x7F) (taken 1)
     ∷ gives (string 1 0x80) badText
@@ -294,5 +300,5 @@ failing k [] = []
 failing k (e ∷ es) = pick (sameBytes (e .found) (e .wanted)) [] (k ∷ []) ++ failing (suc k) es
 
 pub field-examples : None (failing 0 fields)
-unfolding fields failing each textView rowText recordText slotOf infoAt libraryIdAt nameAt typeByteAt codeAt primitiveOf itemsAt times valueAt dateTimeAt decimalAt decimalText decimal decimalAfter decimalByte digit fractionDigit wholeDigit charAt scalarAt booleanAt bytesAt spanAt stringAt textAt wellFormed after stepOf leadOf hiOf loOf needOf groupsOf prefixIn leBytes u64At u32At u16At le sameBytes hexOnto
+unfolding fields failing each textView rowText recordText slotOf infoAt libraryIdAt nameAt typeByteAt codeAt primitiveOf itemsAt times valueAt dateTimeAt decimalAt decimalText decimal decimalAfter decimalByte digit fractionDigit wholeDigit charAt scalarAt booleanAt bytesAt spanAt stringAt textAt wellFormed after stepOf leadOf hiOf loOf needOf groupsOf groupsIn prefixOf prefixIn leBytes u64At u32At u16At le sameBytes hexOnto
 field-examples = tt

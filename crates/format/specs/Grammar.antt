@@ -1,11 +1,13 @@
 -- The grammar (2.3 to 2.7 as 01 settles them): header, objects and libraries at top level, the end. An object is its record and its slots; a slot
 -- holds what its type allows; the room for nesting falls. Records are data, their bytes come from the encoder; nothing here reads a stream.
-use Prim.Native.Nat.{ℕ, zero, suc, _+_, _*_, _≤_, _<_}
+use Prim.Native.Nat.{ℕ, zero, suc, _+_, _*_, _^_, _≤_, _<_}
 use mathlib.Core.Path.{_≡_}
 use mathlib.Core.Bool.{Bool, true, false, _&&_, _||_}
 use mathlib.Core.List.{List, [], _∷_, _++_}
 use lib.ListN.{length, getD, take, drop, replicate}
 use lib.Dec.{eqb}
+use Rattle.format.specs.declared.Setting.{Setting}
+use Rattle.format.specs.declared.Setting.the-variants as Q
 use Rattle.format.specs.declared.PrimitiveCode.{PrimitiveCode}
 use Rattle.format.specs.declared.PrimitiveCode.the-variants as C
 use Rattle.format.specs.declared.SlotType.{SlotType}
@@ -13,11 +15,10 @@ use Rattle.format.specs.declared.SlotType.the-variants as S
 use Rattle.format.specs.declared.Row.{Row}
 use Rattle.format.specs.Bytes.{pick}
 use Rattle.format.specs.Numbers.{le}
-use Rattle.format.specs.Prefix.{prefixBytes}
 use Rattle.format.specs.Rows.{withLink}
 use Rattle.format.specs.Unicode.{Scalar, encode, Encodes}
 use Rattle.format.specs.Decimals.{Decimal}
-use Rattle.format.specs.Contents.{Detail, primitive, text, object, system, class, objects, texts, primitives, Member, slotFor, Rec, header, classById, systemClass, libraryClass, string, array, typedPrimitive, reference, null, nulls, manyNulls, end, library, primitiveArray, objectArray, stringArray, value, enc, encs}
+use Rattle.format.specs.Contents.{Prefixed, hasPrefix, Detail, primitive, text, object, system, class, objects, texts, primitives, Member, slotFor, Rec, header, classById, systemClass, libraryClass, string, array, typedPrimitive, reference, null, nulls, manyNulls, end, library, primitiveArray, objectArray, stringArray, value, enc, encs}
 
 -- ---- fields
 
@@ -26,10 +27,23 @@ pub record Positive (n : ℕ) : Type 0 where
   pub above : 0 < n
   pub below : n < 2147483648
 
--- a name or a text: the UTF-8 form of some scalar values
-pub record Name (t : List ℕ) : Type 0 where
+-- A length prefix (2.1.1.6) of w bytes that says n: at most five bytes, seven bits of the number in each. Strict takes the shortest one alone (01,
+-- Field rules), lenient any (02, (iii)). That the fifth byte is at most 7 is said where the text is: its length is below 2147483648.
+pub record Width (set : Setting) (w n : ℕ) : Type 0 where
+  pub some : 0 < w
+  pub most : w ≤ 5
+  pub holds : n < 128 ^ w
+  pub least : set ≡ Q.Strict → (v : ℕ) → 0 < v → n < 128 ^ v → w ≤ v
+
+-- the UTF-8 form of some scalar values, short enough for a prefix
+pub record Characters (t : List ℕ) : Type 0 where
   pub good : (cs : List ℕ) × Encodes cs t
   pub short : length t < 2147483648
+
+-- a name or a text
+pub record Name (t : Prefixed) : Type 0 where
+  pub characters : Characters (t .text)
+  pub prefix : Width Q.Strict (t .width) (length (t .text))
 
 -- the 64 bits of a DateTime (2.1.1.5; 02, (i)): a kind from 0 to 2 in the top two, then ticks without a sign, the last of which ends the year 9999
 pub record Moment (x : ℕ) : Type 0 where
@@ -53,19 +67,29 @@ pub data Sized : PrimitiveCode → ℕ → Type 0 where
   a-double : Sized C.Double 8
   a-time-span : Sized C.TimeSpan 8
 
--- the bytes of one value of a code
-pub data Value : PrimitiveCode → List ℕ → Type 0 where
-  number : {c : PrimitiveCode} {n : ℕ} {v : List ℕ} → Sized c n → length v ≡ n → Value c v
-  boolean : {b : ℕ} → b ≤ 1 → Value C.Boolean (b ∷ [])
+-- what one value of a code says, in bytes; of a Decimal its text alone
+pub data Content : PrimitiveCode → List ℕ → Type 0 where
+  number : {c : PrimitiveCode} {n : ℕ} {v : List ℕ} → Sized c n → length v ≡ n → Content c v
+  boolean : {b : ℕ} → b ≤ 1 → Content C.Boolean (b ∷ [])
   -- the UTF-8 form of one scalar value
-  scalar : {v : List ℕ} (c : ℕ) → Scalar c → v ≡ encode c → Value C.Char v
-  exact : {v : List ℕ} (t : List ℕ) → Decimal t → length t < 2147483648 → v ≡ prefixBytes (length t) ++ t → Value C.Decimal v
-  moment : {v : List ℕ} → length v ≡ 8 → Moment (le v) → Value C.DateTime v
+  scalar : {v : List ℕ} (c : ℕ) → Scalar c → v ≡ encode c → Content C.Char v
+  exact : {v : List ℕ} → Decimal v → length v < 2147483648 → Content C.Decimal v
+  moment : {v : List ℕ} → length v ≡ 8 → Moment (le v) → Content C.DateTime v
 
--- the bytes of n values, one after the other
-pub data Values : PrimitiveCode → ℕ → List ℕ → Type 0 where
+-- a Decimal has a prefix, no other value has one
+abbrev pub PrefixIf : Bool → (w n : ℕ) → Type 0
+PrefixIf true w n = Width Q.Strict w n
+PrefixIf false w n = w ≡ 0
+
+-- one value of a code
+pub record Value (c : PrimitiveCode) (v : Prefixed) : Type 0 where
+  pub content : Content c (v .text)
+  pub prefix : PrefixIf (hasPrefix c) (v .width) (length (v .text))
+
+-- n values
+pub data Values : PrimitiveCode → ℕ → List Prefixed → Type 0 where
   none : {c : PrimitiveCode} → Values c zero []
-  more : {c : PrimitiveCode} {n : ℕ} {v vs all : List ℕ} → Value c v → Values c n vs → all ≡ v ++ vs → Values c (suc n) all
+  more : {c : PrimitiveCode} {n : ℕ} {v : Prefixed} {vs : List Prefixed} → Value c v → Values c n vs → Values c (suc n) (v ∷ vs)
 
 -- ---- what is known from earlier records
 
@@ -118,7 +142,7 @@ pub record LibraryId (i : ℕ) (es : List Entry) : Type 0 where
 
 -- ---- types
 
-abbrev pub GoodDetail : List Entry → Detail ℕ → Type 0
+abbrev pub GoodDetail : List Entry → Detail Prefixed ℕ → Type 0
 GoodDetail es (primitive c) = Unit {0}
 GoodDetail es text = Unit {0}
 GoodDetail es object = Unit {0}
@@ -128,16 +152,16 @@ GoodDetail es objects = Unit {0}
 GoodDetail es texts = Unit {0}
 GoodDetail es (primitives c) = Unit {0}
 
-pub data Members (es : List Entry) : List (Member ℕ) → Type 0 where
+pub data Members (es : List Entry) : List (Member Prefixed ℕ) → Type 0 where
   no-more : Members es []
-  member : {m : Member ℕ} {ms : List (Member ℕ)} → Name (m .name) → GoodDetail es (m .type) → Members es ms → Members es (m ∷ ms)
+  member : {m : Member Prefixed ℕ} {ms : List (Member Prefixed ℕ)} → Name (m .name) → GoodDetail es (m .type) → Members es ms → Members es (m ∷ ms)
 
-abbrev pub typesOf : List (Member ℕ) → List SlotType
+abbrev pub typesOf : List (Member Prefixed ℕ) → List SlotType
 typesOf [] = []
 typesOf (m ∷ ms) = slotFor (m .type) ∷ typesOf ms
 
 -- a class's name and members
-pub record ClassInfo (es : List Entry) (name : List ℕ) (ms : List (Member ℕ)) : Type 0 where
+pub record ClassInfo (es : List Entry) (name : Prefixed) (ms : List (Member Prefixed ℕ)) : Type 0 where
   pub named : Name name
   pub counted : length ms < 2147483648
   pub members : Members es ms
@@ -219,11 +243,11 @@ rowOf kind at r id own slot link count =
 mutual
   -- an object of a class. room: how many more objects may be open; own and slot: whose slot it fills
   pub data Object : (room own slot : ℕ) → Cur → Cur → Type 0 where
-    system-class : {room own slot at row i : ℕ} {n : List ℕ} {ms : List (Member ℕ)} {es : List Entry} {rs : List Rec} {it : Row} {is : List Row} {c : Cur}
+    system-class : {room own slot at row i : ℕ} {n : Prefixed} {ms : List (Member Prefixed ℕ)} {es : List Entry} {rs : List Rec} {it : Row} {is : List Row} {c : Cur}
         → ClassId i es → ClassInfo es n ms → it ≡ rowOf 4 at (systemClass i n ms) i own slot 0 (length ms)
         → Body room (suc row) (typesOf ms) (cur (at + size (systemClass i n ms)) (suc row) (es ++ (aClass i (suc row) (typesOf ms) ∷ [])) rs is) c
         → Object room own slot (cur at row es (systemClass i n ms ∷ rs) (it ∷ is)) c
-    library-class : {room own slot at row i l : ℕ} {n : List ℕ} {ms : List (Member ℕ)} {es : List Entry} {rs : List Rec} {it : Row} {is : List Row} {c : Cur}
+    library-class : {room own slot at row i l : ℕ} {n : Prefixed} {ms : List (Member Prefixed ℕ)} {es : List Entry} {rs : List Rec} {it : Row} {is : List Row} {c : Cur}
         → ClassId i es → ClassInfo es n ms → LibraryId l es → it ≡ rowOf 5 at (libraryClass i n ms l) i own slot 0 (length ms)
         → Body room (suc row) (typesOf ms) (cur (at + size (libraryClass i n ms l)) (suc row) (es ++ (aClass i (suc row) (typesOf ms) ∷ [])) rs is) c
         → Object room own slot (cur at row es (libraryClass i n ms l ∷ rs) (it ∷ is)) c
@@ -242,17 +266,17 @@ mutual
   pub data Slots : (room own slot : ℕ) → List SlotType → Cur → Cur → Type 0 where
     full : {room own slot : ℕ} {c : Cur} → Slots room own slot [] c c
     -- a primitive member takes its value at once
-    member-value : {room own slot at row : ℕ} {b : PrimitiveCode} {v : List ℕ} {ts : List SlotType} {es : List Entry} {rs : List Rec} {it : Row} {is : List Row} {c : Cur}
-        → Value b v → it ≡ rowOf 32 at (value v) 0 own slot 0 0
-        → Slots room own (slot + 1) ts (cur (at + length v) (suc row) es rs is) c
-        → Slots room own slot (S.Primitive b ∷ ts) (cur at row es (value v ∷ rs) (it ∷ is)) c
+    member-value : {room own slot at row : ℕ} {b : PrimitiveCode} {v : Prefixed} {ts : List SlotType} {es : List Entry} {rs : List Rec} {it : Row} {is : List Row} {c : Cur}
+        → Value b v → it ≡ rowOf 32 at (value b v) 0 own slot 0 0
+        → Slots room own (slot + 1) ts (cur (at + size (value b v)) (suc row) es rs is) c
+        → Slots room own slot (S.Primitive b ∷ ts) (cur at row es (value b v ∷ rs) (it ∷ is)) c
     an-object : {room own slot : ℕ} {t : SlotType} {ts : List SlotType} {c c₁ c₂ : Cur}
         → takesObjects t ≡ true → Object room own slot c c₁ → Slots room own (slot + 1) ts c₁ c₂ → Slots room own slot (t ∷ ts) c c₂
-    a-string : {room own slot at row i : ℕ} {x : List ℕ} {t : SlotType} {ts : List SlotType} {es : List Entry} {rs : List Rec} {it : Row} {is : List Row} {c : Cur}
+    a-string : {room own slot at row i : ℕ} {x : Prefixed} {t : SlotType} {ts : List SlotType} {es : List Entry} {rs : List Rec} {it : Row} {is : List Row} {c : Cur}
         → takesStrings t ≡ true → ObjectId i es → Name x → it ≡ rowOf 6 at (string i x) i own slot 0 0
         → Slots room own (slot + 1) ts (cur (at + size (string i x)) (suc row) (es ++ (another i ∷ [])) rs is) c
         → Slots room own slot (t ∷ ts) (cur at row es (string i x ∷ rs) (it ∷ is)) c
-    a-typed-primitive : {room own slot at row : ℕ} {b : PrimitiveCode} {v : List ℕ} {t : SlotType} {ts : List SlotType} {es : List Entry} {rs : List Rec} {it : Row} {is : List Row} {c : Cur}
+    a-typed-primitive : {room own slot at row : ℕ} {b : PrimitiveCode} {v : Prefixed} {t : SlotType} {ts : List SlotType} {es : List Entry} {rs : List Rec} {it : Row} {is : List Row} {c : Cur}
         → takesObjects t ≡ true → Value b v → it ≡ rowOf 8 at (typedPrimitive b v) 0 own slot 0 0
         → Slots room own (slot + 1) ts (cur (at + size (typedPrimitive b v)) (suc row) es rs is) c
         → Slots room own slot (t ∷ ts) (cur at row es (typedPrimitive b v ∷ rs) (it ∷ is)) c
@@ -277,7 +301,7 @@ mutual
         → Slots room own (slot + k) us (cur (at + size (manyNulls k)) (suc row) es rs is) c
         → Slots room own slot (t ∷ ts) (cur at row es (manyNulls k ∷ rs) (it ∷ is)) c
     -- a library stands wherever a kind byte is expected
-    a-library : {room own slot at row i : ℕ} {n : List ℕ} {t : SlotType} {ts : List SlotType} {es : List Entry} {rs : List Rec} {it : Row} {is : List Row} {c : Cur}
+    a-library : {room own slot at row i : ℕ} {n : Prefixed} {t : SlotType} {ts : List SlotType} {es : List Entry} {rs : List Rec} {it : Row} {is : List Row} {c : Cur}
         → takesRecords t ≡ true → Positive i → known i es ≡ false → Name n → it ≡ rowOf 12 at (library i n) i 0 0 0 0
         → Slots room own slot (t ∷ ts) (cur (at + size (library i n)) (suc row) (es ++ (aLibrary i ∷ [])) rs is) c
         → Slots room own slot (t ∷ ts) (cur at row es (library i n ∷ rs) (it ∷ is)) c
@@ -288,17 +312,17 @@ mutual
 pub data Array (es : List Entry) : Rec → (kind id count : ℕ) → List SlotType → Type 0 where
   of-objects : {i n : ℕ} → n < 2147483648 → Array es (objectArray i n) 16 i n (replicate n S.Object)
   of-strings : {i n : ℕ} → n < 2147483648 → Array es (stringArray i n) 17 i n (replicate n S.Text)
-  of-primitives : {i n : ℕ} {b : PrimitiveCode} {vs : List ℕ} → n < 2147483648 → Values b n vs → Array es (primitiveArray i n b vs) 15 i n []
-  of-any : {i type n : ℕ} {ns : List ℕ} {d : Detail ℕ} {ts : List SlotType}
+  of-primitives : {i n : ℕ} {b : PrimitiveCode} {vs : List Prefixed} → n < 2147483648 → Values b n vs → Array es (primitiveArray i n b vs) 15 i n []
+  of-any : {i type n : ℕ} {ns : List ℕ} {d : Detail Prefixed ℕ} {ts : List SlotType}
       → Shape type ns → n ≡ product ns → GoodDetail es d → takesRecords (slotFor d) ≡ true → ts ≡ replicate n (slotFor d)
       → Array es (array i type ns d []) 7 i n ts
-  of-values : {i type n : ℕ} {ns : List ℕ} {b : PrimitiveCode} {vs : List ℕ}
+  of-values : {i type n : ℕ} {ns : List ℕ} {b : PrimitiveCode} {vs : List Prefixed}
       → Shape type ns → n ≡ product ns → Values b n vs → Array es (array i type ns (primitive b) vs) 7 i n []
 
 pub data Objects : Cur → Type 0 where
   the-end : {at row : ℕ} {es : List Entry} {it : Row} → it ≡ rowOf 11 at end 0 0 0 0 0 → Objects (cur at row es (end ∷ []) (it ∷ []))
   one-object : {c c₁ : Cur} → Object 64 0 0 c c₁ → Objects c₁ → Objects c
-  one-string : {at row i : ℕ} {x : List ℕ} {es : List Entry} {rs : List Rec} {it : Row} {is : List Row}
+  one-string : {at row i : ℕ} {x : Prefixed} {es : List Entry} {rs : List Rec} {it : Row} {is : List Row}
       → ObjectId i es → Name x → it ≡ rowOf 6 at (string i x) i 0 0 0 0
       → Objects (cur (at + size (string i x)) (suc row) (es ++ (another i ∷ [])) rs is)
       → Objects (cur at row es (string i x ∷ rs) (it ∷ is))
@@ -306,7 +330,7 @@ pub data Objects : Cur → Type 0 where
       → ObjectId i es → Array es r kind i n ts → it ≡ rowOf kind at r i 0 0 0 n
       → Body 64 (suc row) ts (cur (at + size r) (suc row) (es ++ (another i ∷ [])) rs is) c
       → Objects c → Objects (cur at row es (r ∷ rs) (it ∷ is))
-  one-library : {at row i : ℕ} {n : List ℕ} {es : List Entry} {rs : List Rec} {it : Row} {is : List Row}
+  one-library : {at row i : ℕ} {n : Prefixed} {es : List Entry} {rs : List Rec} {it : Row} {is : List Row}
       → Positive i → known i es ≡ false → Name n → it ≡ rowOf 12 at (library i n) i 0 0 0 0
       → Objects (cur (at + size (library i n)) (suc row) (es ++ (aLibrary i ∷ [])) rs is)
       → Objects (cur at row es (library i n ∷ rs) (it ∷ is))
@@ -331,7 +355,7 @@ idOf (library i n) = []
 idOf (primitiveArray i n b vs) = i ∷ []
 idOf (objectArray i n) = i ∷ []
 idOf (stringArray i n) = i ∷ []
-idOf (value v) = []
+idOf (value b v) = []
 
 abbrev pub refOf : Rec → List ℕ
 refOf (header r h) = []
@@ -350,7 +374,7 @@ refOf (library i n) = []
 refOf (primitiveArray i n b vs) = []
 refOf (objectArray i n) = []
 refOf (stringArray i n) = []
-refOf (value v) = []
+refOf (value b v) = []
 
 abbrev pub idsOf : List Rec → List ℕ
 idsOf [] = []

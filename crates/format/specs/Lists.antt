@@ -4,20 +4,23 @@ use Prim.Native.Nat.{ℕ}
 use mathlib.Core.Path.{_≡_, refl, ap}
 use mathlib.Core.List.{List, [], _∷_, _++_}
 use native.Mathlib.Omega.{arith}
-use lib.ListN.{length, getD}
-use Rattle.format.specs.Bytes.{sameBytes, laid}
+use lib.ListN.{getD}
+use lib.Dec.{eqb}
+use Rattle.format.specs.declared.PrimitiveCode.the-variants as C
+use Rattle.format.specs.declared.Row.{Row}
+use Rattle.format.specs.Bytes.{pick, sameBytes, laid}
 use Rattle.format.specs.Numbers.{le, u32At, u64At, leBytes}
-use Rattle.format.specs.Prefix.{prefixIn, groupsOf}
+use Rattle.format.specs.Prefix.{prefixIn, groupsOf, groupsIn, prefixOf}
 use Rattle.format.specs.Text.{needOf, loOf, hiOf, leadOf, stepOf, after, wellFormed, textAt, stringAt, spanAt}
-use Rattle.format.specs.Values.{times}
-use Rattle.format.specs.Types.{primitiveOf, codeAt, typeByteAt, nameAt, libraryIdAt, infoAt, slotOf, typedAt, afterInfo, moved, passed, passedOf}
+use Rattle.format.specs.Values.{times, bytesAt, booleanAt, valueAt, scalarAt, charAt, wholeDigit, fractionDigit, digit, decimalByte, decimalAfter, decimal, decimalText, decimalAt, dateTimeAt, valueSpan, itemsAt}
+use Rattle.format.specs.Types.{primitiveOf, codeAt, typeByteAt, nameAt, libraryIdAt, infoAt, slotOf, typedAt, afterInfo, moved, passed, passedOf, codeNumber}
 use Rattle.format.specs.Rows.{words, findFrom, objectRow, classRow, libraryRow, linkOf, linked}
-use Rattle.format.specs.Records.{allowed, kindOf, kindAt, ownLibraryAt, headerAt, stringRecordAt, referenceAt, nullsAt, longNullsAt, libraryAt, infoKnown, infosAt, membersAt, classAt, classByIdAt, slotArrayAt, headingAt}
-use Rattle.format.specs.Machine.{close, filled, opened, add, object, nullRun, ending, act, recordStep, step, finish, run, Outcome, accepted, refused, readOf, readAnswer, tableWords}
+use Rattle.format.specs.Records.{allowed, kindOf, kindAt, ownLibraryAt, headerAt, stringRecordAt, referenceAt, nullsAt, longNullsAt, libraryAt, infoKnown, infosAt, membersAt, classAt, classByIdAt, slotArrayAt, headingAt, typedPrimitiveAt, primitiveArrayAt, lengthsAt, itemTypeAt, rankAt, binaryArrayAt}
+use Rattle.format.specs.Machine.{close, filled, opened, add, object, nullRun, ending, act, recordStep, valueStep, step, finish, run, Outcome, accepted, refused, rawOf, readOf, readAnswer, tableWords}
 use Rattle.format.specs.View.{recordText, rowText, rowQuestion, textView}
-use Rattle.format.specs.Contents.{Detail, text, Member, typeByte, Rec, header, classById, systemClass, libraryClass, string, reference, null, nulls, end, library, objectArray, enc, encs}
+use Rattle.format.specs.Contents.{Prefixed, bare, shortest, Detail, primitive, text, Member, typeByte, Rec, header, classById, systemClass, libraryClass, string, typedPrimitive, primitiveArray, reference, null, nulls, end, library, objectArray, value, enc, encs}
 use Rattle.format.specs.Contents.{object as anything}
-use Rattle.format.specs.Says.{numbersFrom, afterTexts, libraryName, detailFrom, membersFrom, classFrom, arrayFrom, objectsIn, orderOf, whatFrom, spread, nodesOf, nodesFrom, What, anObject, aString, anArray, aPrimitive, aReference, aNull, aPrimitiveArray, anObjectArray, aStringArray, aValue, Node, Model, says}
+use Rattle.format.specs.Says.{numbersFrom, afterTexts, libraryName, detailFrom, membersFrom, classFrom, codeIn, valueCode, arrayFrom, objectsIn, orderOf, whatFrom, spread, nodesOf, nodesFrom, What, anObject, aString, anArray, aPrimitive, aReference, aNull, aPrimitiveArray, anObjectArray, aStringArray, aValue, Node, Model, says, itemsFrom}
 use Rattle.format.specs.Tidy.{sameDetail, sameMembers, sameClass, numberIn, entered, allEntered, libraryRecords, recordsOf, afterWhat, pack, runOf, written, waiting, squeeze, tidyRecords, tidyOf, tidyAnswer, tidyOutput, tidyTable}
 use Rattle.format.specs.Examples.{Example, entry, hexOnto, hex, accepts, writes, textsFrom, holds, failing, None}
 
@@ -28,24 +31,31 @@ abbrev pub jaw : List ℕ
 jaw = hex 4 0x31324535
 
 -- one member, N, of this type
-abbrev pub named : Detail ℕ → List (Member ℕ)
-named d = record { name = 0x4E ∷ []; type = d } ∷ []
+abbrev pub named : Detail Prefixed ℕ → List (Member Prefixed ℕ)
+named d = record { name = shortest (0x4E ∷ []); type = d } ∷ []
 
 -- an array of two slots: a part P of the library L that has the text, the library's record in the slot before it; and a reference. The ids of the
 -- array, the part, its text and the library are free, and so are the type of N and the target
-abbrev pub inSlot : (header-id array part string library : ℕ) → Detail ℕ → (target : ℕ) → List Rec
+abbrev pub inSlot : (header-id array part string library : ℕ) → Detail Prefixed ℕ → (target : ℕ) → List Rec
 inSlot h a p t l d target =
-    header a h ∷ objectArray a 2 ∷ library l (0x4C ∷ []) ∷ libraryClass p (0x50 ∷ []) (named d) l ∷ string t jaw ∷ reference target ∷ end ∷ []
+    header a h ∷ objectArray a 2 ∷ library l (shortest (0x4C ∷ [])) ∷ libraryClass p (shortest (0x50 ∷ [])) (named d) l ∷ string t (shortest jaw) ∷ reference target ∷ end ∷ []
 
 -- two parts P, each with its own record: the first with N of type text, the second with N of this type
-abbrev pub twoParts : Detail ℕ → List Rec
+abbrev pub twoParts : Detail Prefixed ℕ → List Rec
 twoParts d =
-    header 2 0 ∷ library 5 (0x4C ∷ []) ∷ libraryClass 4 (0x50 ∷ []) (named text) 5 ∷ null
-    ∷ libraryClass 2 (0x50 ∷ []) (named d) 5 ∷ null ∷ end ∷ []
+    header 2 0 ∷ library 5 (shortest (0x4C ∷ [])) ∷ libraryClass 4 (shortest (0x50 ∷ [])) (named text) 5 ∷ null
+    ∷ libraryClass 2 (shortest (0x50 ∷ [])) (named d) 5 ∷ null ∷ end ∷ []
 
 -- a part P; in its slot another one, of the class whose first object is still open, with a reference to a text that comes later
 abbrev pub forwards : List Rec
-forwards = header 1 1 ∷ systemClass 1 (0x50 ∷ []) (named anything) ∷ classById 2 1 ∷ reference 3 ∷ string 3 jaw ∷ end ∷ []
+forwards = header 1 1 ∷ systemClass 1 (shortest (0x50 ∷ [])) (named anything) ∷ classById 2 1 ∷ reference 3 ∷ string 3 (shortest jaw) ∷ end ∷ []
+
+-- Decimals at three of their places, in the shortest prefixes: 7.5 in a slot with its code, 1 and 23 as items, 7 as a member
+abbrev pub decimals : List Rec
+decimals =
+    header 1 1 ∷ objectArray 1 1 ∷ typedPrimitive C.Decimal (shortest (55 ∷ 46 ∷ 53 ∷ []))
+    ∷ primitiveArray 2 2 C.Decimal (shortest (49 ∷ []) ∷ shortest (50 ∷ 51 ∷ []) ∷ [])
+    ∷ systemClass 3 (shortest (0x50 ∷ [])) (named (primitive C.Decimal)) ∷ value C.Decimal (shortest (55 ∷ [])) ∷ end ∷ []
 
 -- ---- read and tidied
 
@@ -78,20 +88,31 @@ forwardsRows =
     ∷ 6 ∷ 45 ∷ 55 ∷ 3 ∷ 0 ∷ 0 ∷ 0 ∷ 0
     ∷ 11 ∷ 55 ∷ 56 ∷ 0 ∷ 0 ∷ 0 ∷ 0 ∷ 0 ∷ []
 
+abbrev pub decimalsRows : List ℕ
+decimalsRows =
+    0 ∷ 0 ∷ 17 ∷ 1 ∷ 0 ∷ 0 ∷ 2 ∷ 0
+    ∷ 16 ∷ 17 ∷ 26 ∷ 1 ∷ 0 ∷ 0 ∷ 0 ∷ 1
+    ∷ 8 ∷ 26 ∷ 32 ∷ 0 ∷ 2 ∷ 0 ∷ 0 ∷ 0
+    ∷ 15 ∷ 32 ∷ 47 ∷ 2 ∷ 0 ∷ 0 ∷ 0 ∷ 2
+    ∷ 4 ∷ 47 ∷ 62 ∷ 3 ∷ 0 ∷ 0 ∷ 0 ∷ 1
+    ∷ 32 ∷ 62 ∷ 64 ∷ 0 ∷ 5 ∷ 0 ∷ 0 ∷ 0
+    ∷ 11 ∷ 64 ∷ 65 ∷ 0 ∷ 0 ∷ 0 ∷ 0 ∷ 0 ∷ []
+
 -- the start of both tidy copies: the second object is the root, and the library stands before the first record that needs it
 abbrev pub firstPart : List Rec
-firstPart = header 2 2 ∷ library 1 (0x4C ∷ []) ∷ libraryClass 1 (0x50 ∷ []) (named text) 1 ∷ null ∷ []
+firstPart = header 2 2 ∷ library 1 (shortest (0x4C ∷ [])) ∷ libraryClass 1 (shortest (0x50 ∷ [])) (named text) 1 ∷ null ∷ []
 
 pub lists : List Example
 lists =
     entry (encs (inSlot 4294967295 4 6 2 9 text 2)) 64 80 (accepts inSlotRows (4 ∷ 4 ∷ jaw)) (writes (encs (inSlot 1 1 2 3 1 text 3)))
     ∷ entry (encs (twoParts text)) 64 80 (accepts twoPartsRows []) (writes (encs (firstPart ++ (classById 2 1 ∷ null ∷ end ∷ []))))
-    ∷ entry (encs (twoParts anything)) 64 80 (accepts twoPartsRows []) (writes (encs (firstPart ++ (libraryClass 2 (0x50 ∷ []) (named anything) 1 ∷ null ∷ end ∷ []))))
+    ∷ entry (encs (twoParts anything)) 64 80 (accepts twoPartsRows []) (writes (encs (firstPart ++ (libraryClass 2 (shortest (0x50 ∷ [])) (named anything) 1 ∷ null ∷ end ∷ []))))
     ∷ entry (encs forwards) 64 80 (accepts forwardsRows (4 ∷ 4 ∷ jaw)) (writes (encs forwards))
+    ∷ entry (encs decimals) 64 80 (accepts decimalsRows []) (writes (encs decimals))
     ∷ []
 
 pub list-examples : None (failing 0 lists)
-unfolding lists holds failing tidyTable tidyOutput tidyAnswer tidyOf tidyRecords squeeze waiting written runOf pack afterWhat recordsOf libraryRecords allEntered entered numberIn sameClass sameMembers sameDetail says nodesFrom nodesOf spread whatFrom orderOf objectsIn arrayFrom classFrom membersFrom detailFrom libraryName afterTexts numbersFrom encs enc tableWords readAnswer readOf run finish step recordStep act ending nullRun object add opened filled close headingAt slotArrayAt classByIdAt classAt membersAt infosAt infoKnown libraryAt longNullsAt nullsAt referenceAt stringRecordAt headerAt ownLibraryAt kindAt kindOf allowed linked linkOf libraryRow classRow objectRow findFrom words passedOf passed moved afterInfo typedAt slotOf infoAt libraryIdAt nameAt typeByteAt codeAt primitiveOf times spanAt stringAt textAt wellFormed after stepOf leadOf hiOf loOf needOf groupsOf prefixIn leBytes u64At u32At le laid sameBytes hexOnto textsFrom rowQuestion textView rowText recordText
+unfolding lists holds failing tidyTable tidyOutput tidyAnswer tidyOf tidyRecords squeeze waiting written runOf pack afterWhat recordsOf libraryRecords allEntered entered numberIn sameClass sameMembers sameDetail says nodesFrom nodesOf spread whatFrom orderOf objectsIn arrayFrom classFrom membersFrom detailFrom libraryName afterTexts numbersFrom encs enc tableWords readAnswer readOf rawOf run finish step recordStep act ending nullRun object add opened filled close headingAt slotArrayAt classByIdAt classAt membersAt infosAt infoKnown libraryAt longNullsAt nullsAt referenceAt stringRecordAt headerAt ownLibraryAt kindAt kindOf allowed linked linkOf libraryRow classRow objectRow findFrom words passedOf passed moved afterInfo typedAt slotOf infoAt libraryIdAt nameAt typeByteAt codeAt primitiveOf times spanAt stringAt textAt wellFormed after stepOf leadOf hiOf loOf needOf groupsOf groupsIn prefixOf prefixIn leBytes u64At u32At le laid sameBytes hexOnto textsFrom rowQuestion textView rowText recordText valueCode codeIn itemsFrom valueStep binaryArrayAt rankAt itemTypeAt lengthsAt primitiveArrayAt typedPrimitiveAt itemsAt valueSpan valueAt dateTimeAt decimalAt decimalText decimal decimalAfter decimalByte digit fractionDigit wholeDigit charAt scalarAt booleanAt bytesAt
 list-examples = tt
 
 -- ---- saying the same
@@ -111,11 +132,11 @@ threeNulls rs = header 1 1 ∷ objectArray 1 3 ∷ (rs ++ (end ∷ []))
 -- neither ids nor the header's other id nor the packing of nulls is said
 pub same-lists : (said (inSlot 4294967295 4 6 2 9 text 2) ≡ said (inSlot 0 8 3 7 1 text 7))
     × ((said (threeNulls (nulls 3 ∷ [])) ≡ said (threeNulls (null ∷ nulls 0 ∷ nulls 2 ∷ []))))
-unfolding said says nodesFrom nodesOf spread whatFrom orderOf objectsIn classFrom membersFrom detailFrom libraryName afterTexts encs enc readOf run finish step recordStep act ending nullRun object add opened filled close headingAt slotArrayAt classAt membersAt infosAt infoKnown libraryAt nullsAt referenceAt stringRecordAt headerAt ownLibraryAt kindAt kindOf allowed linked linkOf libraryRow classRow objectRow findFrom passedOf passed moved afterInfo typedAt slotOf infoAt libraryIdAt nameAt typeByteAt times spanAt stringAt textAt wellFormed after stepOf leadOf hiOf loOf needOf groupsOf prefixIn leBytes u32At le hexOnto
+unfolding said says nodesFrom nodesOf spread whatFrom orderOf objectsIn classFrom membersFrom detailFrom libraryName afterTexts encs enc readOf rawOf run finish step recordStep act ending nullRun object add opened filled close headingAt slotArrayAt classAt membersAt infosAt infoKnown libraryAt nullsAt referenceAt stringRecordAt headerAt ownLibraryAt kindAt kindOf allowed linked linkOf libraryRow classRow objectRow findFrom passedOf passed moved afterInfo typedAt slotOf infoAt libraryIdAt nameAt typeByteAt times spanAt stringAt textAt wellFormed after stepOf leadOf hiOf loOf needOf groupsOf groupsIn prefixOf prefixIn leBytes u32At le hexOnto
 same-lists = (refl, refl)
 
 -- the types of a class's members, and the target of a reference
-abbrev memberTypes : List (Member (List ℕ)) → List ℕ
+abbrev memberTypes : List (Member (List ℕ) (List ℕ)) → List ℕ
 memberTypes [] = []
 memberTypes (m ∷ ms) = typeByte (m .type) ∷ memberTypes ms
 
@@ -129,7 +150,7 @@ told aNull = []
 told (aPrimitiveArray n c items) = []
 told (anObjectArray n) = []
 told (aStringArray n) = []
-told (aValue v) = []
+told (aValue c v) = []
 
 unfoldable toldBy : List Node → List ℕ
 toldBy [] = []
@@ -137,8 +158,36 @@ toldBy (n ∷ ns) = told (n .what) ++ toldBy ns
 
 -- a member's type is said, and so is the target of a reference, by its order
 pub other-lists : (said (inSlot 1 4 6 2 9 text 2) ≡ said (inSlot 1 4 6 2 9 anything 2) → ⊥) × (said (inSlot 1 4 6 2 9 text 2) ≡ said (inSlot 1 4 6 2 9 text 6) → ⊥)
-unfolding toldBy said says nodesFrom nodesOf spread whatFrom orderOf objectsIn classFrom membersFrom detailFrom libraryName afterTexts encs enc readOf run finish step recordStep act ending nullRun object add opened filled close headingAt slotArrayAt classAt membersAt infosAt infoKnown libraryAt nullsAt referenceAt stringRecordAt headerAt ownLibraryAt kindAt kindOf allowed linked linkOf libraryRow classRow objectRow findFrom passedOf passed moved afterInfo typedAt slotOf infoAt libraryIdAt nameAt typeByteAt times spanAt stringAt textAt wellFormed after stepOf leadOf hiOf loOf needOf groupsOf prefixIn leBytes u32At le hexOnto
+unfolding toldBy said says nodesFrom nodesOf spread whatFrom orderOf objectsIn classFrom membersFrom detailFrom libraryName afterTexts encs enc readOf rawOf run finish step recordStep act ending nullRun object add opened filled close headingAt slotArrayAt classAt membersAt infosAt infoKnown libraryAt nullsAt referenceAt stringRecordAt headerAt ownLibraryAt kindAt kindOf allowed linked linkOf libraryRow classRow objectRow findFrom passedOf passed moved afterInfo typedAt slotOf infoAt libraryIdAt nameAt typeByteAt times spanAt stringAt textAt wellFormed after stepOf leadOf hiOf loOf needOf groupsOf groupsIn prefixOf prefixIn leBytes u32At le hexOnto
 other-lists = (
   λ e. let types : _≡_ {A = ℕ} 1 2 = ap (λ (m : Model). getD (toldBy (m .nodes)) 0 0) e in omega arith,
   λ e. let targets : _≡_ {A = ℕ} 3 2 = ap (λ (m : Model). getD (toldBy (m .nodes)) 1 0) e in omega arith,
 )
+
+-- ---- the codes of member values
+
+-- two objects of a class with a number and a truth value, the second by the first
+abbrev pub valued : List Rec
+valued =
+    header 1 1
+    ∷ systemClass 1 (shortest (0x50 ∷ [])) (record { name = shortest (0x4E ∷ []); type = primitive C.Int16 } ∷ record { name = shortest (0x4D ∷ []); type = primitive C.Boolean } ∷ [])
+    ∷ value C.Int16 (bare (5 ∷ 0 ∷ [])) ∷ value C.Boolean (bare (1 ∷ [])) ∷ classById 2 1 ∷ value C.Int16 (bare (6 ∷ 0 ∷ [])) ∷ value C.Boolean (bare (0 ∷ [])) ∷ end ∷ []
+
+-- the link as it was read, of each row of a member value
+unfoldable pub readCodes : List Row → List ℕ
+readCodes [] = []
+readCodes (r ∷ rs) = pick (eqb (r .kind) 32) (r .link ∷ readCodes rs) (readCodes rs)
+
+-- and the code that the rows say
+unfoldable pub saidCodes : List ℕ → List Row → List Row → List ℕ
+saidCodes s rows [] = []
+saidCodes s rows (r ∷ rs) = pick (eqb (r .kind) 32) (codeNumber (valueCode s rows r) ∷ saidCodes s rows rs) (saidCodes s rows rs)
+
+abbrev pub codesBy : (List Row → List ℕ) → Outcome → List ℕ
+codesBy f (accepted rows) = f rows
+codesBy f (refused r place) = []
+
+pub value-codes : (codesBy readCodes (rawOf (encs valued) 16) ≡ 7 ∷ 1 ∷ 7 ∷ 1 ∷ [])
+    × (codesBy (λ (rows : List Row). saidCodes (encs valued) rows rows) (readOf (encs valued) 16) ≡ 7 ∷ 1 ∷ 7 ∷ 1 ∷ [])
+unfolding readCodes saidCodes valueCode codeIn classByIdAt valueStep valueAt booleanAt bytesAt codeAt primitiveOf says nodesFrom nodesOf spread whatFrom orderOf objectsIn classFrom membersFrom detailFrom libraryName encs enc readOf rawOf run finish step recordStep act ending nullRun object add opened filled close headingAt slotArrayAt classAt membersAt infosAt infoKnown libraryAt nullsAt referenceAt stringRecordAt headerAt ownLibraryAt kindAt kindOf allowed linked linkOf libraryRow classRow objectRow findFrom passedOf passed moved typedAt slotOf infoAt libraryIdAt nameAt typeByteAt times stringAt textAt wellFormed after stepOf leadOf hiOf loOf needOf groupsOf groupsIn prefixOf prefixIn leBytes u32At le hexOnto afterTexts afterInfo spanAt
+value-codes = (refl, refl)

@@ -1,9 +1,9 @@
 -- Reading (01, What may stand where; The table; Replies): a machine that takes one record or member value a step, left to right.
 use Prim.Native.Nat.{ℕ, zero, suc, _+_, _-_, _*_}
-use mathlib.Core.Bool.{true, false, _&&_, _||_}
+use mathlib.Core.Bool.{_||_}
 use mathlib.Core.List.{List, [], _∷_, _++_}
 use lib.ListN.{length, getD, replicate}
-use lib.Dec.{ltb, leb, eqb}
+use lib.Dec.{ltb, eqb}
 use Rattle.format.specs.declared.Refusal.{Refusal}
 use Rattle.format.specs.declared.Refusal.the-variants as R
 use Rattle.format.specs.declared.ReadAnswer.{ReadAnswer}
@@ -27,7 +27,7 @@ use Rattle.format.specs.declared.Passed.{Passed}
 use Rattle.format.specs.declared.Passed.the-variants as O
 use Rattle.format.specs.Bytes.{pick}
 use Rattle.format.specs.Values.{valueAt}
-use Rattle.format.specs.Types.{alike, moved, passedOf}
+use Rattle.format.specs.Types.{alike, codeNumber, moved, passedOf}
 use Rattle.format.specs.Rows.{blank, isObject, objectRow, findFrom, isLost, linked, words}
 use Rattle.format.specs.Records.{kindAt, headingAt}
 
@@ -146,17 +146,17 @@ onKind s room st (K.Wrong f) = refuse f (st .at)
 unfoldable pub recordStep : List ℕ → ℕ → State → Where → Next
 recordStep s room st w = onKind s room st (kindAt s w (st .at))
 
--- a member value has a row of kind 32
-abbrev pub valueHead : ℕ → Head
-valueHead end = record { id = 0; end = end; count = 0; slots = 0; first = alike S.Object 0; link = 0 }
+-- a member value has a row of kind 32; until links are put in, its link is the number of the code by which it was read
+abbrev pub valueHead : PrimitiveCode → ℕ → Head
+valueHead c end = record { id = 0; end = end; count = 0; slots = 0; first = alike S.Object 0; link = codeNumber c }
 
-abbrev pub onValue : List ℕ → ℕ → State → Field → Next
-onValue s room st (F.End end) =
-    add room st (rowIn st 32 (valueHead end)) (filled (st .stack) 1 (moved s (st .stack .cur .typed)))
-onValue s room st (F.Fault f) = refuse f (st .at)
+abbrev pub onValue : List ℕ → ℕ → State → PrimitiveCode → Field → Next
+onValue s room st c (F.End end) =
+    add room st (rowIn st 32 (valueHead c end)) (filled (st .stack) 1 (moved s (st .stack .cur .typed)))
+onValue s room st c (F.Fault f) = refuse f (st .at)
 
 unfoldable pub valueStep : List ℕ → ℕ → State → PrimitiveCode → Next
-valueStep s room st c = onValue s room st (valueAt s c (st .at))
+valueStep s room st c = onValue s room st c (valueAt s c (st .at))
 
 -- the top level has no object around it
 abbrev pub whereIn : List Frame → Where → Where
@@ -179,7 +179,7 @@ step s room st = bySlot s room st (st .stack .cur .typed .slot)
 -- ---- after the end record: trailing bytes, the root, the references
 
 abbrev pub targets : List Row → ℕ → Outcome
-targets rows lost = pick (eqb lost 0) (accepted (linked rows)) (refused R.NoObject (getD rows (lost - 1) blank .offset))
+targets rows lost = pick (eqb lost 0) (accepted rows) (refused R.NoObject (getD rows (lost - 1) blank .offset))
 
 unfoldable pub finish : List ℕ → List Row → ℕ → Outcome
 finish s rows at =
@@ -211,9 +211,18 @@ begin s room (go st) = run (length s) s room st
 begin s room (ended rows at) = finish s rows at
 begin s room (refuse r place) = refused r place
 
+-- the outcome of a stream with room for so many rows, the rows as they are read: their link words are not final
+unfoldable pub rawOf : List ℕ → ℕ → Outcome
+rawOf s room = pick (ltb 16777216 (length s)) (refused R.TooLarge 0) (begin s room (recordStep s room start W.Start))
+
+-- links are put in at the end
+abbrev pub withLinks : Outcome → Outcome
+withLinks (accepted rows) = accepted (linked rows)
+withLinks (refused r place) = refused r place
+
 -- what a right reader says of a stream, with room for so many rows
 unfoldable pub readOf : List ℕ → ℕ → Outcome
-readOf s room = pick (ltb 16777216 (length s)) (refused R.TooLarge 0) (begin s room (recordStep s room start W.Start))
+readOf s room = withLinks (rawOf s room)
 
 -- ---- the answer, and every word of the table
 

@@ -7,27 +7,27 @@ use lib.ListN.{length}
 use lib.Dec.{eqb}
 use Rattle.format.specs.declared.Row.{Row}
 use Rattle.format.specs.Bytes.{pick}
-use Rattle.format.specs.Contents.{Detail, primitive, text, object, system, class, objects, texts, primitives, Member, slotFor, Rec, header, classById, systemClass, libraryClass, string, array, typedPrimitive, reference, null, nulls, manyNulls, end, library, primitiveArray, objectArray, stringArray, value}
+use Rattle.format.specs.Contents.{Prefixed, textsOf, Detail, primitive, text, object, system, class, objects, texts, primitives, Member, slotFor, Rec, header, classById, systemClass, libraryClass, string, array, typedPrimitive, reference, null, nulls, manyNulls, end, library, primitiveArray, objectArray, stringArray, value}
 use Rattle.format.specs.Grammar.{takesRecords, product, idsOf, Reading}
 use Rattle.format.specs.Says.{From, theSystem, theLibrary, Class, What, anObject, aString, anArray, aPrimitive, aReference, aPrimitiveArray, anObjectArray, aStringArray, aValue, Node, node, Model, spread}
 
 -- ---- types and classes, libraries by name
 
-abbrev pub named : (ℕ → List ℕ) → Detail ℕ → Detail (List ℕ)
+abbrev pub named : (ℕ → List ℕ) → Detail Prefixed ℕ → Detail (List ℕ) (List ℕ)
 named name (primitive c) = primitive c
 named name text = text
 named name object = object
-named name (system n) = system n
-named name (class n l) = class n (name l)
+named name (system n) = system (n .text)
+named name (class n l) = class (n .text) (name l)
 named name objects = objects
 named name texts = texts
 named name (primitives c) = primitives c
 
-abbrev pub namedAll : (ℕ → List ℕ) → List (Member ℕ) → List (Member (List ℕ))
+abbrev pub namedAll : (ℕ → List ℕ) → List (Member Prefixed ℕ) → List (Member (List ℕ) (List ℕ))
 namedAll name [] = []
-namedAll name (m ∷ ms) = record { name = m .name; type = named name (m .type) } ∷ namedAll name ms
+namedAll name (m ∷ ms) = record { name = m .name .text; type = named name (m .type) } ∷ namedAll name ms
 
-abbrev pub classOfAll : (ℕ → List ℕ) → List ℕ → From → List (Member ℕ) → Class
+abbrev pub classOfAll : (ℕ → List ℕ) → List ℕ → From → List (Member Prefixed ℕ) → Class
 classOfAll name n from ms = record { name = n; from = from; members = namedAll name ms }
 
 -- ---- numbers to what they name
@@ -51,11 +51,11 @@ libraryOf null = []
 libraryOf (nulls k) = []
 libraryOf (manyNulls k) = []
 libraryOf end = []
-libraryOf (library i n) = (i, n) ∷ []
+libraryOf (library i n) = (i, n .text) ∷ []
 libraryOf (primitiveArray i n c vs) = []
 libraryOf (objectArray i n) = []
 libraryOf (stringArray i n) = []
-libraryOf (value v) = []
+libraryOf (value c v) = []
 
 unfoldable pub librariesOf : List Rec → List (ℕ × List ℕ)
 librariesOf [] = []
@@ -65,8 +65,8 @@ librariesOf (r ∷ rs) = libraryOf r ++ librariesOf rs
 abbrev pub ownClass : (ℕ → List ℕ) → Rec → List (ℕ × Class)
 ownClass name (header r h) = []
 ownClass name (classById i k) = []
-ownClass name (systemClass i n ms) = (i, classOfAll name n theSystem ms) ∷ []
-ownClass name (libraryClass i n ms l) = (i, classOfAll name n (theLibrary (name l)) ms) ∷ []
+ownClass name (systemClass i n ms) = (i, classOfAll name (n .text) theSystem ms) ∷ []
+ownClass name (libraryClass i n ms l) = (i, classOfAll name (n .text) (theLibrary (name l)) ms) ∷ []
 ownClass name (string i x) = []
 ownClass name (array i t ns d vs) = []
 ownClass name (typedPrimitive c v) = []
@@ -79,7 +79,7 @@ ownClass name (library i n) = []
 ownClass name (primitiveArray i n c vs) = []
 ownClass name (objectArray i n) = []
 ownClass name (stringArray i n) = []
-ownClass name (value v) = []
+ownClass name (value c v) = []
 
 unfoldable pub classesOf : (ℕ → List ℕ) → List Rec → List (ℕ × Class)
 classesOf name [] = []
@@ -117,27 +117,27 @@ pub data Sense : Type 0 where
   empties : (count : ℕ) → Sense
 
 -- an array has a slot for each item, but primitive items lie inside it
-abbrev pub itemSlots : {L : Type 0} → List ℕ → Detail L → ℕ
+abbrev pub itemSlots : {N L : Type 0} → List ℕ → Detail N L → ℕ
 itemSlots ns d = pick (takesRecords (slotFor d)) (product ns) 0
 
 abbrev pub senseOf : (ℕ → List ℕ) → (ℕ → Class) → (ℕ → ℕ) → Rec → Sense
 senseOf name of order (header r h) = silent
 senseOf name of order (classById i k) = opens (anObject (of k)) (length (of k .members))
-senseOf name of order (systemClass i n ms) = opens (anObject (classOfAll name n theSystem ms)) (length ms)
-senseOf name of order (libraryClass i n ms l) = opens (anObject (classOfAll name n (theLibrary (name l)) ms)) (length ms)
-senseOf name of order (string i x) = opens (aString x) 0
-senseOf name of order (array i t ns d vs) = opens (anArray t ns (named name d) vs) (itemSlots ns d)
-senseOf name of order (typedPrimitive c v) = item (aPrimitive c v)
+senseOf name of order (systemClass i n ms) = opens (anObject (classOfAll name (n .text) theSystem ms)) (length ms)
+senseOf name of order (libraryClass i n ms l) = opens (anObject (classOfAll name (n .text) (theLibrary (name l)) ms)) (length ms)
+senseOf name of order (string i x) = opens (aString (x .text)) 0
+senseOf name of order (array i t ns d vs) = opens (anArray t ns (named name d) (textsOf vs)) (itemSlots ns d)
+senseOf name of order (typedPrimitive c v) = item (aPrimitive c (v .text))
 senseOf name of order (reference i) = item (aReference (order i))
 senseOf name of order null = empties 1
 senseOf name of order (nulls k) = empties k
 senseOf name of order (manyNulls k) = empties k
 senseOf name of order end = silent
 senseOf name of order (library i n) = silent
-senseOf name of order (primitiveArray i n c vs) = opens (aPrimitiveArray n c vs) 0
+senseOf name of order (primitiveArray i n c vs) = opens (aPrimitiveArray n c (textsOf vs)) 0
 senseOf name of order (objectArray i n) = opens (anObjectArray n) n
 senseOf name of order (stringArray i n) = opens (aStringArray n) n
-senseOf name of order (value v) = item (aValue v)
+senseOf name of order (value c v) = item (aValue c (v .text))
 
 -- ---- open objects
 

@@ -44,3 +44,13 @@ groupsOf (suc k) n = pick (ltb n 128) (n ∷ []) ((128 + n % 128) ∷ groupsOf k
 
 abbrev pub prefixBytes : ℕ → List ℕ
 prefixBytes n = groupsOf 4 n
+
+-- a number in groups of which exactly k follow the first
+unfoldable pub groupsIn : ℕ → ℕ → List ℕ
+groupsIn zero n = n ∷ []
+groupsIn (suc k) n = (128 + n % 128) ∷ groupsIn k (n / 128)
+
+-- a number in a prefix of so many bytes; 0 bytes are no prefix
+unfoldable pub prefixOf : ℕ → ℕ → List ℕ
+prefixOf zero n = []
+prefixOf (suc k) n = groupsIn k n

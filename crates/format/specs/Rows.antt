@@ -1,9 +1,9 @@
 -- The table (01, The table): rows, their words, and the lookups by number. Objects and libraries are two separate counts.
 use Prim.Native.Nat.{ℕ, zero, suc, _+_, _/_}
-use mathlib.Core.Bool.{Bool, true, false, _&&_, _||_}
-use mathlib.Core.List.{List, [], _∷_, _++_, map}
+use mathlib.Core.Bool.{Bool, _&&_, _||_}
+use mathlib.Core.List.{List, [], _∷_, map}
 use lib.ListN.{length, getD, drop}
-use lib.Dec.{ltb, leb, eqb}
+use lib.Dec.{eqb}
 use Rattle.format.specs.declared.Row.{Row}
 use Rattle.format.specs.Bytes.{pick}
 
@@ -77,6 +77,13 @@ linkOf rows r = pick (eqb (r .kind) 9 || eqb (r .kind) 0) (objectRow (r .id) row
 -- every row with its link
 unfoldable pub linked : List Row → List Row
 linked rows = map (λ (r : Row). withLink r (linkOf rows r)) rows
+
+-- references and the header get their links, all other rows keep theirs: what tidying starts from, of which no promise speaks
+unfoldable pub boundLink : List Row → Row → ℕ
+boundLink rows r = pick (eqb (r .kind) 9 || eqb (r .kind) 0) (objectRow (r .id) rows) (r .link)
+
+unfoldable pub bound : List Row → List Row
+bound rows = map (λ (r : Row). withLink r (boundLink rows r)) rows
 
 -- a reference with no target
 abbrev pub isLost : List Row → Row → Bool

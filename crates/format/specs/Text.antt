@@ -1,7 +1,7 @@
 -- Text (Unicode 5.0, section 3.9, table 3-7) and the prefixed string.
 use Prim.Native.Nat.{ℕ, _+_, _-_}
 use mathlib.Core.Bool.{Bool}
-use mathlib.Core.List.{List, [], _∷_, _++_}
+use mathlib.Core.List.{List, [], _∷_}
 use lib.ListN.{length}
 use lib.Dec.{ltb, leb, eqb}
 use Rattle.format.specs.declared.Utf8.{Utf8}
@@ -15,7 +15,7 @@ use Rattle.format.specs.declared.Span.{Span}
 use Rattle.format.specs.declared.Field.{Field}
 use Rattle.format.specs.declared.Field.the-variants as F
 use Rattle.format.specs.Bytes.{pick, part}
-use Rattle.format.specs.Prefix.{prefixAt, prefixBytes}
+use Rattle.format.specs.Prefix.{prefixAt}
 
 -- how many bytes follow a first byte: 00..7F none, C2..DF one, E0..EF two, F0..F4 three; 4 for any other
 unfoldable pub needOf : ℕ → ℕ
@@ -70,10 +70,6 @@ afterPrefix s (P.Fault f) = T.Fault f
 
 unfoldable pub stringAt : List ℕ → ℕ → Text
 stringAt s at = afterPrefix s (prefixAt Q.Strict s at)
-
--- how a string is written
-abbrev pub stringBytes : List ℕ → List ℕ
-stringBytes t = prefixBytes (length t) ++ t
 
 -- ---- strings that were judged before
 

@@ -1,21 +1,21 @@
 -- The tidy copy (01, The tidy copy): the one way to write what a list says. Records with single nulls first; then each longest run is packed.
 use Prim.Native.Nat.{ℕ, zero, suc}
-use mathlib.Core.Path.{_≡_}
-use mathlib.Core.Bool.{Bool, true, false, _&&_, _||_}
+use mathlib.Core.Bool.{Bool, true, false, _&&_}
 use mathlib.Core.List.{List, [], _∷_, _++_}
 use lib.ListN.{length, replicate}
-use lib.Dec.{ltb, leb, eqb}
+use lib.Dec.{leb, eqb}
+use Rattle.format.specs.declared.PrimitiveCode.{PrimitiveCode}
 use Rattle.format.specs.declared.TidyAnswer.{TidyAnswer}
 use Rattle.format.specs.declared.TidyAnswer.the-variants as A
 use Rattle.format.specs.Bytes.{pick, sameBytes, laid}
 use Rattle.format.specs.Types.{codeNumber}
 use Rattle.format.specs.Machine.{Outcome, accepted, refused, tableWords}
-use Rattle.format.specs.Contents.{Detail, primitive, text, object, system, class, objects, texts, primitives, Member, typeByte, Rec, header, classById, systemClass, libraryClass, string, array, typedPrimitive, reference, null, nulls, manyNulls, end, library, primitiveArray, objectArray, stringArray, value, encs}
-use Rattle.format.specs.Says.{From, theSystem, theLibrary, Class, What, anObject, aString, anArray, aPrimitive, aReference, aNull, aPrimitiveArray, anObjectArray, aStringArray, aValue, Node, Model, says}
+use Rattle.format.specs.Contents.{Prefixed, bare, shortest, hasPrefix, Detail, primitive, text, object, system, class, objects, texts, primitives, Member, typeByte, Rec, header, classById, systemClass, libraryClass, string, array, typedPrimitive, reference, null, nulls, manyNulls, end, library, primitiveArray, objectArray, stringArray, value, encs}
+use Rattle.format.specs.Says.{From, theSystem, theLibrary, Class, What, anObject, aString, anArray, aPrimitive, aReference, aNull, aPrimitiveArray, anObjectArray, aStringArray, aValue, Node, Model, codeOf, says}
 
 -- ---- distinct classes: name, system or library name, member names and types in order
 
-abbrev pub detailName : Detail (List ℕ) → List ℕ
+abbrev pub detailName : Detail (List ℕ) (List ℕ) → List ℕ
 detailName (primitive c) = codeNumber c ∷ []
 detailName text = []
 detailName object = []
@@ -25,7 +25,7 @@ detailName objects = []
 detailName texts = []
 detailName (primitives c) = codeNumber c ∷ []
 
-abbrev pub detailLibrary : Detail (List ℕ) → List ℕ
+abbrev pub detailLibrary : Detail (List ℕ) (List ℕ) → List ℕ
 detailLibrary (primitive c) = []
 detailLibrary text = []
 detailLibrary object = []
@@ -35,10 +35,10 @@ detailLibrary objects = []
 detailLibrary texts = []
 detailLibrary (primitives c) = []
 
-unfoldable pub sameDetail : Detail (List ℕ) → Detail (List ℕ) → Bool
+unfoldable pub sameDetail : Detail (List ℕ) (List ℕ) → Detail (List ℕ) (List ℕ) → Bool
 sameDetail d e = eqb (typeByte d) (typeByte e) && (sameBytes (detailName d) (detailName e) && sameBytes (detailLibrary d) (detailLibrary e))
 
-unfoldable pub sameMembers : List (Member (List ℕ)) → List (Member (List ℕ)) → Bool
+unfoldable pub sameMembers : List (Member (List ℕ) (List ℕ)) → List (Member (List ℕ) (List ℕ)) → Bool
 sameMembers [] [] = true
 sameMembers [] (m ∷ ms) = false
 sameMembers (m ∷ ms) [] = false
@@ -84,11 +84,11 @@ allEntered (n ∷ ns) ls = allEntered ns (entered n ls)
 unfoldable pub libraryRecords : List (List ℕ) → Libraries → List Rec
 libraryRecords [] ls = []
 libraryRecords (n ∷ ns) ls =
-    pick (eqb (numberIn (sameBytes n) ls) 0) (library (suc (length ls)) n ∷ []) [] ++ libraryRecords ns (entered n ls)
+    pick (eqb (numberIn (sameBytes n) ls) 0) (library (suc (length ls)) (shortest n) ∷ []) [] ++ libraryRecords ns (entered n ls)
 
 -- ---- the libraries that a record names, in its field order
 
-abbrev pub detailNeeds : Detail (List ℕ) → List (List ℕ)
+abbrev pub detailNeeds : Detail (List ℕ) (List ℕ) → List (List ℕ)
 detailNeeds (primitive c) = []
 detailNeeds text = []
 detailNeeds object = []
@@ -98,7 +98,7 @@ detailNeeds objects = []
 detailNeeds texts = []
 detailNeeds (primitives c) = []
 
-abbrev pub membersNeed : List (Member (List ℕ)) → List (List ℕ)
+abbrev pub membersNeed : List (Member (List ℕ) (List ℕ)) → List (List ℕ)
 membersNeed [] = []
 membersNeed (m ∷ ms) = detailNeeds (m .type) ++ membersNeed ms
 
@@ -109,25 +109,33 @@ fromNeeds (theLibrary n) = n ∷ []
 abbrev pub classNeeds : Class → List (List ℕ)
 classNeeds c = membersNeed (c .members) ++ fromNeeds (c .from)
 
--- ---- records from what is said, libraries by their new numbers
+-- ---- records from what is said: libraries by their new numbers, every prefix the shortest
 
-abbrev pub detailBy : Libraries → Detail (List ℕ) → Detail ℕ
+-- a value of a code, and several
+abbrev pub valueBy : PrimitiveCode → List ℕ → Prefixed
+valueBy c v = pick (hasPrefix c) (shortest v) (bare v)
+
+abbrev pub valuesBy : PrimitiveCode → List (List ℕ) → List Prefixed
+valuesBy c [] = []
+valuesBy c (v ∷ vs) = valueBy c v ∷ valuesBy c vs
+
+abbrev pub detailBy : Libraries → Detail (List ℕ) (List ℕ) → Detail Prefixed ℕ
 detailBy ls (primitive c) = primitive c
 detailBy ls text = text
 detailBy ls object = object
-detailBy ls (system n) = system n
-detailBy ls (class n l) = class n (numberIn (sameBytes l) ls)
+detailBy ls (system n) = system (shortest n)
+detailBy ls (class n l) = class (shortest n) (numberIn (sameBytes l) ls)
 detailBy ls objects = objects
 detailBy ls texts = texts
 detailBy ls (primitives c) = primitives c
 
-abbrev pub membersBy : Libraries → List (Member (List ℕ)) → List (Member ℕ)
+abbrev pub membersBy : Libraries → List (Member (List ℕ) (List ℕ)) → List (Member Prefixed ℕ)
 membersBy ls [] = []
-membersBy ls (m ∷ ms) = record { name = m .name; type = detailBy ls (m .type) } ∷ membersBy ls ms
+membersBy ls (m ∷ ms) = record { name = shortest (m .name); type = detailBy ls (m .type) } ∷ membersBy ls ms
 
 abbrev pub classBy : Libraries → ℕ → Class → From → Rec
-classBy ls id c theSystem = systemClass id (c .name) (membersBy ls (c .members))
-classBy ls id c (theLibrary n) = libraryClass id (c .name) (membersBy ls (c .members)) (numberIn (sameBytes n) ls)
+classBy ls id c theSystem = systemClass id (shortest (c .name)) (membersBy ls (c .members))
+classBy ls id c (theLibrary n) = libraryClass id (shortest (c .name)) (membersBy ls (c .members)) (numberIn (sameBytes n) ls)
 
 -- an object: by its class's first object, or in full with the libraries that it is the first to need
 abbrev pub objectBy : ℕ → Progress → Class → List Rec
@@ -147,17 +155,17 @@ counted w = record { count = suc (w .count); classes = w .classes; libraries = w
 
 unfoldable pub recordsOf : Progress → What → List Rec
 recordsOf w (anObject c) = objectBy (numberIn (sameClass c) (w .classes)) w c
-recordsOf w (aString t) = string (suc (w .count)) t ∷ []
+recordsOf w (aString t) = string (suc (w .count)) (shortest t) ∷ []
 recordsOf w (anArray type lengths item items) =
     let ls = allEntered (detailNeeds item) (w .libraries) in
-    libraryRecords (detailNeeds item) (w .libraries) ++ (array (suc (w .count)) type lengths (detailBy ls item) items ∷ [])
-recordsOf w (aPrimitive code v) = typedPrimitive code v ∷ []
+    libraryRecords (detailNeeds item) (w .libraries) ++ (array (suc (w .count)) type lengths (detailBy ls item) (valuesBy (codeOf item) items) ∷ [])
+recordsOf w (aPrimitive code v) = typedPrimitive code (valueBy code v) ∷ []
 recordsOf w (aReference target) = reference target ∷ []
 recordsOf w aNull = null ∷ []
-recordsOf w (aPrimitiveArray n code items) = primitiveArray (suc (w .count)) n code items ∷ []
+recordsOf w (aPrimitiveArray n code items) = primitiveArray (suc (w .count)) n code (valuesBy code items) ∷ []
 recordsOf w (anObjectArray n) = objectArray (suc (w .count)) n ∷ []
 recordsOf w (aStringArray n) = stringArray (suc (w .count)) n ∷ []
-recordsOf w (aValue v) = value v ∷ []
+recordsOf w (aValue code v) = value code (valueBy code v) ∷ []
 
 unfoldable pub afterWhat : Progress → What → Progress
 afterWhat w (anObject c) = afterObject (numberIn (sameClass c) (w .classes)) w c
@@ -170,7 +178,7 @@ afterWhat w aNull = w
 afterWhat w (aPrimitiveArray n code items) = counted w
 afterWhat w (anObjectArray n) = counted w
 afterWhat w (aStringArray n) = counted w
-afterWhat w (aValue v) = w
+afterWhat w (aValue code v) = w
 
 -- a record and the object in whose slot it stands
 pub record Standing : Type 0 where
@@ -209,7 +217,7 @@ isNull (library i n) = false
 isNull (primitiveArray i n c v) = false
 isNull (objectArray i n) = false
 isNull (stringArray i n) = false
-isNull (value v) = false
+isNull (value c v) = false
 
 -- nulls of one object that wait to be written
 pub record Run : Type 0 where

@@ -1,7 +1,7 @@
 -- Primitive codes and types (01, Field rules and Records; 2.1.2.2 and 2.1.2.3): a member or item type with its detail, and the types of an object's slots.
 use Prim.Native.Nat.{ℕ, zero, suc, _+_}
 use mathlib.Core.Bool.{Bool, true, false, _&&_, _||_, not}
-use mathlib.Core.List.{List, _∷_}
+use mathlib.Core.List.{List}
 use lib.ListN.{length, getD}
 use lib.Dec.{ltb, leb, eqb}
 use Rattle.format.specs.declared.Refusal.the-variants as R

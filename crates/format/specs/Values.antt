@@ -1,6 +1,6 @@
 -- Primitive values (01, Field rules), and the items of a primitive array.
 use Prim.Native.Nat.{ℕ, zero, suc, _+_, _-_, _*_, _/_, _%_}
-use mathlib.Core.Bool.{Bool, true, false, _&&_, _||_}
+use mathlib.Core.Bool.{Bool, _&&_, _||_}
 use mathlib.Core.List.{List, [], _∷_}
 use lib.ListN.{length, getD}
 use lib.Dec.{ltb, leb, eqb}
@@ -12,12 +12,13 @@ use Rattle.format.specs.declared.Prefix.{Prefix}
 use Rattle.format.specs.declared.Prefix.the-variants as P
 use Rattle.format.specs.declared.Number64.{Number64}
 use Rattle.format.specs.declared.Number64.the-variants as N64
+use Rattle.format.specs.declared.Span.{Span}
 use Rattle.format.specs.declared.Field.{Field}
 use Rattle.format.specs.declared.Field.the-variants as F
 use Rattle.format.specs.Bytes.{pick, part}
 use Rattle.format.specs.Numbers.{u64At}
 use Rattle.format.specs.Prefix.{prefixAt}
-use Rattle.format.specs.Text.{needOf, wellFormed}
+use Rattle.format.specs.Text.{needOf, wellFormed, spanAt}
 
 -- n bytes at a place, whatever they are
 unfoldable pub bytesAt : List ℕ → ℕ → ℕ → Field
@@ -149,6 +150,30 @@ valueAt s C.DateTime at = dateTimeAt s at
 valueAt s C.UInt16 at = bytesAt s at 2
 valueAt s C.UInt32 at = bytesAt s at 4
 valueAt s C.UInt64 at = bytesAt s at 8
+
+-- ---- values that were judged before
+
+-- how many bytes a value has that has no prefix; 0 for a Decimal, which has one
+abbrev pub sizeFrom : List ℕ → PrimitiveCode → ℕ → ℕ
+sizeFrom s C.Boolean at = 1
+sizeFrom s C.Byte at = 1
+sizeFrom s C.Char at = needOf (getD s at 0) + 1
+sizeFrom s C.Decimal at = 0
+sizeFrom s C.Double at = 8
+sizeFrom s C.Int16 at = 2
+sizeFrom s C.Int32 at = 4
+sizeFrom s C.Int64 at = 8
+sizeFrom s C.SByte at = 1
+sizeFrom s C.Single at = 4
+sizeFrom s C.TimeSpan at = 8
+sizeFrom s C.DateTime at = 8
+sizeFrom s C.UInt16 at = 2
+sizeFrom s C.UInt32 at = 4
+sizeFrom s C.UInt64 at = 8
+
+-- where what a value says stands: of a Decimal the text behind its prefix, of any other all its bytes
+unfoldable pub valueSpan : List ℕ → PrimitiveCode → ℕ → Span
+valueSpan s c at = pick (eqb (sizeFrom s c at) 0) (spanAt s at) (record { from = at; to = at + sizeFrom s c at })
 
 -- ---- fields in a row
 

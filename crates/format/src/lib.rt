@@ -182,7 +182,7 @@ pub enum Text {
     Fault(Refusal),
 }
 
-// Where the text of a string begins and ends.
+// Where the text of a string, or what a value says, begins and ends.
 pub struct Span {
     pub from: usize,
     pub to: usize,
@@ -211,7 +211,7 @@ pub enum Slots {
 // ---- rows
 
 // A row of the table: kind; offset; offset after its own bytes; id; owner, a row number plus 1; first slot filled; link, a row number
-// plus 1; count. While a stream is read the link of a class's row is the place of its type bytes.
+// plus 1; count. While a stream is read the link of a class's row is the place of its type bytes, that of a member value's the number of its code.
 pub struct Row {
     pub kind: u32,
     pub offset: u32,

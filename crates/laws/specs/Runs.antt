@@ -7,7 +7,7 @@ use native.Mathlib.Omega.{arith}
 use lib.ListN.{length, length-append}
 use lib.Dec.{eqb}
 use Rattle.format.specs.Bytes.{pick, sameBytes}
-use Rattle.format.specs.Contents.{Rec, library, enc, encs}
+use Rattle.format.specs.Contents.{shortest, Rec, library, enc, encs}
 use Rattle.format.specs.Says.{Class, From, theSystem, theLibrary, What, anObject, aString, anArray, aPrimitive, aReference, aNull, aPrimitiveArray, anObjectArray, aStringArray, aValue}
 use Rattle.format.specs.Tidy.{sameClass, numberIn, Progress, Libraries, libraryRecords, allEntered, entered, classNeeds, detailNeeds, classBy, objectBy, recordsOf, Standing, ownedBy, runOf, isNull, Run, noRun, written, waiting, squeeze}
 
@@ -25,7 +25,7 @@ libraries-length (n ∷ ns) ls =
   where
     go : (b : Bool) (es : Libraries) → pick b (ls ++ ((suc (length ls), n) ∷ [])) ls ≡ es
         → length (libraryRecords ns es) + length es ≡ length (allEntered ns es)
-        → length (pick b (library (suc (length ls)) n ∷ []) [] ++ libraryRecords ns es) + length ls ≡ length (allEntered ns es)
+        → length (pick b (library (suc (length ls)) (shortest n) ∷ []) [] ++ libraryRecords ns es) + length ls ≡ length (allEntered ns es)
     go true es e again =
         let a : length es ≡ length ls + 1 = ap length (sym e) ∙ length-append ls ((suc (length ls), n) ∷ []) in
         omega arith
@@ -43,7 +43,7 @@ plain-libraries [] ls rs p = p
 plain-libraries (n ∷ ns) ls rs p = go (eqb (numberIn (sameBytes n) ls) 0) (plain-libraries ns (entered n ls) rs p)
   where
     go : (b : Bool) → Plain (libraryRecords ns (entered n ls) ++ rs)
-        → Plain ((pick b (library (suc (length ls)) n ∷ []) [] ++ libraryRecords ns (entered n ls)) ++ rs)
+        → Plain ((pick b (library (suc (length ls)) (shortest n) ∷ []) [] ++ libraryRecords ns (entered n ls)) ++ rs)
     go true q = more refl q
     go false q = q
 
@@ -73,7 +73,7 @@ sort-of w aNull = a-null
 sort-of w (aPrimitiveArray n code items) = plain (just refl)
 sort-of w (anObjectArray n) = plain (just refl)
 sort-of w (aStringArray n) = plain (just refl)
-sort-of w (aValue v) = plain (just refl)
+sort-of w (aValue c v) = plain (just refl)
 
 -- any other record ends a run
 pub squeeze-records : (w : Run) (o : ℕ) {rs : List Rec} → Plain rs → (rest : List Standing)

@@ -54,7 +54,7 @@ pub true-same : (x y : List ℕ) → x ≡ y → sameBytes x y ≡ true
 true-same x y e = rw e (same-refl y)
 
 -- a type by its byte, its name or code, and its library
-unfoldable detailOf : ℕ → List ℕ → List ℕ → Detail (List ℕ)
+unfoldable detailOf : ℕ → List ℕ → List ℕ → Detail (List ℕ) (List ℕ)
 detailOf t n l =
     pick (eqb t 0) (primitive (coded (primitiveOf (getD n 0 0))))
     (pick (eqb t 1) text
@@ -68,7 +68,7 @@ detailOf t n l =
 code-again : (c : PrimitiveCode) → coded (primitiveOf (codeNumber c)) ≡ c
 code-again c = ap coded (primitive-number c)
 
-detail-again : (d : Detail (List ℕ)) → detailOf (typeByte d) (detailName d) (detailLibrary d) ≡ d
+detail-again : (d : Detail (List ℕ) (List ℕ)) → detailOf (typeByte d) (detailName d) (detailLibrary d) ≡ d
 unfolding detailOf
 detail-again (primitive c) = ap primitive (code-again c)
 detail-again text = refl
@@ -79,7 +79,7 @@ detail-again objects = refl
 detail-again texts = refl
 detail-again (primitives c) = ap primitives (code-again c)
 
-pub detail-eq : (d e : Detail (List ℕ)) → sameDetail d e ≡ true → d ≡ e
+pub detail-eq : (d e : Detail (List ℕ) (List ℕ)) → sameDetail d e ≡ true → d ≡ e
 unfolding sameDetail
 detail-eq d e q =
     let names = sameBytes (detailName d) (detailName e) in
@@ -91,14 +91,14 @@ detail-eq d e q =
     let z = same-eq (detailLibrary d) (detailLibrary e) (v .1) in
     sym (detail-again d) ∙ (rw (x, y, z) (detail-again e))
 
-pub detail-refl : (d : Detail (List ℕ)) → sameDetail d d ≡ true
+pub detail-refl : (d : Detail (List ℕ) (List ℕ)) → sameDetail d d ≡ true
 unfolding sameDetail
 detail-refl d = rw (eq-eqb (typeByte d) (typeByte d) refl, same-refl (detailName d), same-refl (detailLibrary d))
 
-member-of : (m n : Member (List ℕ)) → m .name ≡ n .name → m .type ≡ n .type → m ≡ n
-member-of m n e f = ap (λ (x : List ℕ). record { name = x; type = m .type }) e ∙ ap (λ (d : Detail (List ℕ)). record { name = n .name; type = d }) f
+member-of : (m n : Member (List ℕ) (List ℕ)) → m .name ≡ n .name → m .type ≡ n .type → m ≡ n
+member-of m n e f = ap (λ (x : List ℕ). record { name = x; type = m .type }) e ∙ ap (λ (d : Detail (List ℕ) (List ℕ)). record { name = n .name; type = d }) f
 
-pub members-eq : (ms ns : List (Member (List ℕ))) → sameMembers ms ns ≡ true → ms ≡ ns
+pub members-eq : (ms ns : List (Member (List ℕ) (List ℕ))) → sameMembers ms ns ≡ true → ms ≡ ns
 unfolding sameMembers
 members-eq [] [] q = refl
 members-eq [] (n ∷ ns) q = apart q
@@ -111,7 +111,7 @@ members-eq (m ∷ ms) (n ∷ ns) q =
     let y = members-eq ms ns (w .1) in
     cc
 
-pub members-refl : (ms : List (Member (List ℕ))) → sameMembers ms ms ≡ true
+pub members-refl : (ms : List (Member (List ℕ) (List ℕ))) → sameMembers ms ms ≡ true
 unfolding sameMembers
 members-refl [] = refl
 members-refl (m ∷ ms) = rw (same-refl (m .name), detail-refl (m .type), members-refl ms)
@@ -130,7 +130,7 @@ pub class-of : (c d : Class) → c .name ≡ d .name → c .from ≡ d .from →
 class-of c d e f g =
     ap (λ (x : List ℕ). record { name = x; from = c .from; members = c .members }) e
     ∙ (ap (λ (x : From). record { name = d .name; from = x; members = c .members }) f
-    ∙ ap (λ (x : List (Member (List ℕ))). record { name = d .name; from = d .from; members = x }) g)
+    ∙ ap (λ (x : List (Member (List ℕ) (List ℕ))). record { name = d .name; from = d .from; members = x }) g)
 
 pub class-eq : (c d : Class) → sameClass c d ≡ true → c ≡ d
 unfolding sameClass

@@ -26,7 +26,7 @@ fn put_library(out: &mut [u8], s: &[u8], g: Row) -> usize
 {
     let a = heads::put_library_head(out, LibraryNo(g.link));
     let from = put::least(a, out.len());
-    let b = put::put_text(&mut out[from..], s, (g.offset as usize) + 5, g.end as usize);
+    let b = put::put_text(&mut out[from..], s, (g.offset as usize) + 5);
     put::add_up(a, b)
 }
 

@@ -8,16 +8,22 @@ ghost use Rattle.links.specs.Links.{hasLink, lostBy, Linking};
 
 // ---- one row
 
-// Whether row r has its link already: all but references and the header were given theirs with the row.
-fn has_link(r: Row) -> bool
-    ensures { λ q. ⌜ q ≡ hasLink r ⌝ }
+// Whether row r has its link already: all but references and the header were given theirs with the row. What is no row's number
+// goes unless it is to be kept.
+fn has_link(r: Row, keep: bool) -> bool
+    ensures { λ q. ⌜ q ≡ hasLink keep r ⌝ }
 {
     let kind = r.kind;
     match kind {
         9 => false,
         0 => false,
         1 => true,
-        _ => r.link == 0,
+        _ => {
+            if keep {
+                return true;
+            }
+            r.link == 0
+        }
     }
 }
 
@@ -48,14 +54,15 @@ fn is_lost(kind: u32, link: u32) -> bool
 // ---- all rows
 
 // Each of the first n rows gets its link, up to the first reference with no target: the number of its row plus 1; 0 if there is none.
-pub fn link_all(table: &mut [u32], n: usize) -> usize
+// With keep all rows but references and the header keep the link that they were read with.
+pub fn link_all(table: &mut [u32], n: usize, keep: bool) -> usize
     requires { ⌜ (n ≤ roomOf (now table)) × (n < 4294967296) ⌝ }
-    ensures { λ q. ⌜ Linking (rowsOf n (now (table .entry))) (rowsOf n (now (table .exit))) q ⌝ }
+    ensures { λ q. ⌜ Linking keep (rowsOf n (now (table .entry))) (rowsOf n (now (table .exit))) q ⌝ }
 {
     let mut i: usize = 0;
     while i < n {
         let r = table::row_at(table, n, i);
-        if has_link(r) {
+        if has_link(r, keep) {
             i += 1;
             continue;
         }

@@ -8,7 +8,7 @@ use lib.ListN.{getD, set}
 use borrow.Author.Tests.{eq-eqb, ne-eqb}
 use Rattle.format.specs.declared.Row.{Row}
 use Rattle.format.specs.Rows.{blank, isObject, isClass, withLink}
-use Rattle.marks.specs.Marks.{withId, withSlot, withCount, word, pass, numberOne, firstLibrary, typesPlace, placeOne, firstClass, firstOne, needed, firsts, placed, numbered, marked}
+use Rattle.marks.specs.Marks.{withId, withSlot, withCount, word, pass, numberOne, firstLibrary, placeOne, firstClass, firstOne, needed, firsts, placed, numbered, marked}
 
 -- ---- objects
 
@@ -31,10 +31,10 @@ module _ (s : List ℕ) (rows : List Row) (i : ℕ) (r : Row) (x : r ≡ getD ro
   place-library next a f k e g h = rw (← x, eq-eqb _ _ k, h, g, e)
 
   module _ (q : Bool) (k : r .kind ≡ 12 → ⊥) (y : q ≡ isClass (r .kind)) where
-    pub place-class : (next : List Row) (a : Row) (p v : ℕ) → q ≡ true → p ≡ typesPlace s r → v ≡ word p → a ≡ withSlot r v → next ≡ set rows i a
+    pub place-class : (next : List Row) (a : Row) → q ≡ true → a ≡ withSlot r (r .link) → next ≡ set rows i a
         → next ≡ placeOne s i rows
     unfolding placeOne
-    place-class next a p v z e f g h = rw (← x, ne-eqb _ _ k, ← y, z, h, g, f, e)
+    place-class next a z g h = rw (← x, ne-eqb _ _ k, ← y, z, h, g)
 
     pub place-other : q ≡ false → rows ≡ placeOne s i rows
     unfolding placeOne

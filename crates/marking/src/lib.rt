@@ -38,7 +38,7 @@ fn number_all(table: &mut [u32], n: usize)
 
 // ---- a library's first row with its name, and where a class's type bytes stand
 
-// A library's row gets the first row with its name, plus 1, as count; a class's row the place of its type bytes as slot.
+// A library's row gets the first row with its name, plus 1, as count; a class's row its link as slot, the place of its type bytes.
 fn place_one(s: &[u8], table: &mut [u32], n: usize, i: usize)
     requires { ⌜ (n ≤ roomOf (now table)) × (n < 4294967296) ⌝ }
     ensures { λ _. ⌜ rowsOf n (now (table .exit)) ≡ placeOne (now (s .entry)) i (rowsOf n (now (table .entry))) ⌝ }
@@ -50,8 +50,7 @@ fn place_one(s: &[u8], table: &mut [u32], n: usize, i: usize)
         return;
     }
     if lookups::is_class(r.kind) {
-        let place = marks::word(marks::types_place(s, r));
-        marks::put_named(table, n, i, marks::with_slot(r, place));
+        marks::put_named(table, n, i, marks::with_slot(r, r.link));
     }
 }
 

@@ -2,15 +2,16 @@
 -- row with its name, a class's row the place of its type bytes and the first row of its class, and a library's first row its new number and
 -- the place of the field that needs it first. All of it is total: rows, links and places may be invented.
 use Prim.Native.Nat.{ℕ, zero, suc, _+_, _-_, _*_, _%_}
-use mathlib.Core.Bool.{Bool, true, false, _&&_}
+use mathlib.Core.Bool.{Bool, true, false}
 use mathlib.Core.List.{List}
 use lib.ListN.{length, getD, set}
 use lib.Dec.{eqb}
 use Rattle.format.specs.declared.Row.{Row}
 use Rattle.format.specs.Bytes.{pick, samePart}
+use Rattle.format.specs.Text.{spanAt}
 use Rattle.format.specs.Types.{afterText, afterInfo}
 use Rattle.format.specs.Rows.{blank, isObject, isClass, findFrom, libraryRow, withLink}
-use Rattle.format.specs.Says.{afterTexts, numberFrom}
+use Rattle.format.specs.Says.{numberFrom}
 
 -- ---- rows
 
@@ -62,27 +63,25 @@ numbered rows = sweep numberOne (length rows) 0 (pass 0 rows) .rows
 
 -- ---- a library's first row with its name, and where a class's type bytes stand
 
--- two records have the same bytes from their k-th on
-unfoldable pub sameTail : List ℕ → ℕ → Row → Row → Bool
-sameTail s k a b =
-    pick (eqb (a .end - a .offset) (b .end - b .offset)) (samePart s (a .offset + k) (b .offset + k) (a .end - a .offset - k)) false
+-- the bytes from a to x and those from b to y are the same
+unfoldable pub sameBetween : List ℕ → ℕ → ℕ → ℕ → ℕ → Bool
+sameBetween s a x b y = pick (eqb (x - a) (y - b)) (samePart s a b (x - a)) false
+
+-- the strings at a and b have the same text
+unfoldable pub sameText : List ℕ → ℕ → ℕ → Bool
+sameText s a b = sameBetween s (spanAt s a .from) (spanAt s a .to) (spanAt s b .from) (spanAt s b .to)
 
 unfoldable pub sameName : List ℕ → Row → Row → Bool
-sameName s a b = pick (eqb (b .kind) 12) (sameTail s 5 a b) false
+sameName s a b = pick (eqb (b .kind) 12) (sameText s (a .offset + 5) (b .offset + 5)) false
 
 unfoldable pub firstLibrary : List ℕ → List Row → Row → ℕ
 firstLibrary s rows r = findFrom (sameName s r) 0 rows
 
--- after the class's name, its member count and its members' names
-unfoldable pub typesPlace : List ℕ → Row → ℕ
-typesPlace s r =
-    let names = afterText s (r .offset + 5) + 4 in
-    afterTexts s (r .count) names
-
+-- the link with which a class's row is read is the place of its type bytes
 abbrev pub placeRow : List ℕ → List Row → ℕ → Row → List Row
 placeRow s rows i r =
     pick (eqb (r .kind) 12) (set rows i (withCount r (firstLibrary s rows r)))
-    (pick (isClass (r .kind)) (set rows i (withSlot r (word (typesPlace s r)))) rows)
+    (pick (isClass (r .kind)) (set rows i (withSlot r (r .link))) rows)
 
 unfoldable pub placeOne : List ℕ → ℕ → List Row → List Row
 placeOne s i rows = placeRow s rows i (getD rows i blank)
@@ -96,25 +95,29 @@ placed s rows = sweep (placeOne s) (length rows) 0 rows
 unfoldable pub libraryAt : List ℕ → List Row → ℕ → ℕ
 libraryAt s rows p = rowAt rows (libraryRow (numberFrom s p) rows) .count
 
--- the bytes from a to x and those from b to y are the same
-unfoldable pub sameBetween : List ℕ → ℕ → ℕ → ℕ → ℕ → Bool
-sameBetween s a x b y = pick (eqb (x - a) (y - b)) (samePart s a b (x - a)) false
-
 -- details of one type, from a to x and from b to y
 unfoldable pub sameInfo : List ℕ → List Row → ℕ → ℕ → ℕ → ℕ → ℕ → Bool
 sameInfo s rows type a x b y =
     pick (eqb type 4)
-    (pick (sameBetween s a (x - 4) b (y - 4)) (eqb (libraryAt s rows (x - 4)) (libraryAt s rows (y - 4))) false)
-    (sameBetween s a x b y)
+    (pick (sameText s a b) (eqb (libraryAt s rows (x - 4)) (libraryAt s rows (y - 4))) false)
+    (pick (eqb type 3) (sameText s a b) (sameBetween s a x b y))
 
--- the details of n members, whose type bytes are alike
-unfoldable pub sameInfos : List ℕ → List Row → ℕ → ℕ → ℕ → ℕ → Bool
-sameInfos s rows zero types a b = true
-sameInfos s rows (suc n) types a b =
-    let type = getD s types 0 in
-    let x = afterInfo s type a in
-    let y = afterInfo s type b in
-    sameInfo s rows type a x b y && sameInfos s rows n (types + 1) x y
+-- n members of two classes: names at a and b, type bytes at t and u, details at p and q
+unfoldable pub sameMembersAt : List ℕ → List Row → ℕ → ℕ → ℕ → ℕ → ℕ → ℕ → ℕ → Bool
+sameMembersAt s rows zero a t p b u q = true
+sameMembersAt s rows (suc n) a t p b u q =
+    let type = getD s t 0 in
+    let x = afterInfo s type p in
+    let y = afterInfo s type q in
+    pick (sameText s a b)
+    (pick (eqb type (getD s u 0))
+    (pick (sameInfo s rows type p x q y) (sameMembersAt s rows n (afterText s a) (t + 1) x (afterText s b) (u + 1) y) false)
+    false)
+    false
+
+-- where the names of a class's members begin, after its name and its member count
+abbrev pub namesPlace : List ℕ → Row → ℕ
+namesPlace s r = afterText s (r .offset + 5) + 4
 
 -- where the details of a class's members begin
 abbrev pub infosPlace : Row → ℕ
@@ -124,15 +127,18 @@ infosPlace r = r .slot + r .count
 unfoldable pub sameOwn : List ℕ → List Row → Row → Row → Bool
 sameOwn s rows a b = pick (eqb (a .kind) 5) (eqb (libraryAt s rows (a .end - 4)) (libraryAt s rows (b .end - 4))) true
 
+-- the members of two classes, which have as many, and then their libraries
 abbrev pub sameDetails : List ℕ → List Row → Row → Row → Bool
 sameDetails s rows a b =
-    pick (sameInfos s rows (a .count) (a .slot) (infosPlace a) (infosPlace b)) (sameOwn s rows a b) false
+    pick (sameMembersAt s rows (a .count) (namesPlace s a) (a .slot) (infosPlace a) (namesPlace s b) (b .slot) (infosPlace b))
+    (sameOwn s rows a b)
+    false
 
--- name, member count, names and type bytes in one part; then the details
+-- kinds, member counts, names; then the members and the libraries
 unfoldable pub sameClassRow : List ℕ → List Row → Row → Row → Bool
 sameClassRow s rows a b =
     pick (eqb (b .kind) (a .kind))
-    (pick (sameBetween s (a .offset + 5) (infosPlace a) (b .offset + 5) (infosPlace b)) (sameDetails s rows a b) false)
+    (pick (eqb (b .count) (a .count)) (pick (sameText s (a .offset + 5) (b .offset + 5)) (sameDetails s rows a b) false) false)
     false
 
 unfoldable pub firstClass : List ℕ → List Row → Row → ℕ

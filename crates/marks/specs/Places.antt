@@ -8,13 +8,14 @@ use native.Mathlib.Omega.{arith}
 use native.Mathlib.Decide.{decLt}
 use lib.ListN.{length, getD, take, drop-of-length-le, List·getD-eq-default}
 use borrow.Author.Tests.{eq-eqb, ne-eqb}
+use Rattle.format.specs.declared.Span.{Span}
 use Rattle.format.specs.declared.Row.{Row}
 use Rattle.format.specs.Bytes.{part, samePart}
 use Rattle.format.specs.Numbers.{le}
-use Rattle.format.specs.Types.{afterText}
-use Rattle.format.specs.Says.{afterTexts, numberFrom}
+use Rattle.format.specs.Text.{spanAt}
+use Rattle.format.specs.Says.{numberFrom}
 use Rattle.fields.specs.Parts.{part-cons}
-use Rattle.marks.specs.Marks.{sameTail, sameName, sameBetween, typesPlace, itemType}
+use Rattle.marks.specs.Marks.{sameBetween, sameText, sameName, itemType}
 
 -- ---- four bytes
 
@@ -67,31 +68,7 @@ item-below s r b h =
     let p : ℕ = r .offset + 6 in
     omega (arith, number-bytes s p, b p, b (p + 1), b (p + 2), b (p + 3))
 
-pub types-is : (s : List ℕ) (r : Row) (a e : ℕ) → a ≡ afterText s (r .offset + 5) → e ≡ afterTexts s (r .count) (a + 4) → e ≡ typesPlace s r
-unfolding typesPlace
-types-is s r a e x y = rw (← x) y
-
 -- ---- parts that are the same
-
-module _ (s : List ℕ) (a b : Row) where
-  module _ (k m w : ℕ) (e : m ≡ a .end - a .offset) (f : w ≡ b .end - b .offset) where
-    pub tail-same : (n : ℕ) (q : Bool) → m ≡ w → n ≡ m - k → q ≡ samePart s (a .offset + k) (b .offset + k) n → q ≡ sameTail s k a b
-    unfolding sameTail
-    tail-same n q g h y =
-        let z : a .end - a .offset ≡ b .end - b .offset = sym e ∙ g ∙ f in
-        rw (eq-eqb _ _ z, ← e, ← h) y
-
-    pub tail-other : (m ≡ w → ⊥) → false ≡ sameTail s k a b
-    unfolding sameTail
-    tail-other g = rw (← e, ← f, ne-eqb _ _ g)
-
-  pub name-same : (q : Bool) → b .kind ≡ 12 → q ≡ sameTail s 5 a b → q ≡ sameName s a b
-  unfolding sameName
-  name-same q h e = rw (eq-eqb _ _ h) e
-
-  pub name-other : (b .kind ≡ 12 → ⊥) → false ≡ sameName s a b
-  unfolding sameName
-  name-other h = rw (ne-eqb _ _ h)
 
 module _ (s : List ℕ) (a x b y m w : ℕ) (e : m ≡ x - a) (f : w ≡ y - b) where
   pub between-same : (q : Bool) → m ≡ w → q ≡ samePart s a b m → q ≡ sameBetween s a x b y
@@ -103,3 +80,17 @@ module _ (s : List ℕ) (a x b y m w : ℕ) (e : m ≡ x - a) (f : w ≡ y - b) 
   pub between-other : (m ≡ w → ⊥) → false ≡ sameBetween s a x b y
   unfolding sameBetween
   between-other g = rw (← e, ← f, ne-eqb _ _ g)
+
+pub text-same : (s : List ℕ) (a b : ℕ) (x y : Span) (q : Bool) → x ≡ spanAt s a → y ≡ spanAt s b
+    → q ≡ sameBetween s (x .from) (x .to) (y .from) (y .to) → q ≡ sameText s a b
+unfolding sameText
+text-same s a b x y q e f h = rw (← e, ← f) h
+
+module _ (s : List ℕ) (a b : Row) where
+  pub name-same : (q : Bool) → b .kind ≡ 12 → q ≡ sameText s (a .offset + 5) (b .offset + 5) → q ≡ sameName s a b
+  unfolding sameName
+  name-same q h e = rw (eq-eqb _ _ h) e
+
+  pub name-other : (b .kind ≡ 12 → ⊥) → false ≡ sameName s a b
+  unfolding sameName
+  name-other h = rw (ne-eqb _ _ h)

@@ -8,7 +8,7 @@ ghost use Prim.Native.Nat.{_+_, _-_, _*_, _≤_};
 ghost use lib.ListN.{set};
 ghost use Rattle.format.specs.Rows.{roomOf, rowsOf, withLink};
 ghost use Rattle.format.specs.Says.{numberFrom};
-ghost use Rattle.marks.specs.Marks.{rowAt, withId, withSlot, withCount, word, sameTail, sameName, typesPlace, libraryAt, sameBetween, infosPlace, itemType, isFirst};
+ghost use Rattle.marks.specs.Marks.{rowAt, withId, withSlot, withCount, word, sameBetween, sameText, sameName, libraryAt, infosPlace, itemType, isFirst};
 
 // ---- numbers
 
@@ -198,15 +198,6 @@ pub fn item_type(s: &[u8], r: Row) -> usize
     (r.offset as usize) + 10 + 4 * (rank as usize)
 }
 
-// Where a class's type bytes stand: after its name, its member count and its members' names.
-pub fn types_place(s: &[u8], r: Row) -> usize
-    ensures { λ q. ⌜ q ≡ typesPlace (now (s .entry)) r ⌝ }
-{
-    let names = spans::after_text(s, (r.offset as usize) + 5) + 4;
-    let types = spans::after_texts(s, r.count, names);
-    types
-}
-
 // The first row, plus 1, of the library whose number stands at a place.
 pub fn library_at(s: &[u8], table: &[u32], n: usize, p: usize) -> u32
     requires { ⌜ n ≤ roomOf (now table) ⌝ }
@@ -220,34 +211,6 @@ pub fn library_at(s: &[u8], table: &[u32], n: usize, p: usize) -> u32
 
 // ---- the same bytes
 
-// Whether two records have the same bytes from their k-th on.
-pub fn same_tail(s: &[u8], k: u32, a: Row, b: Row) -> bool
-    ensures { λ q. ⌜ q ≡ sameTail (now (s .entry)) k a b ⌝ }
-{
-    let size = less(a.end as usize, a.offset as usize);
-    let other = less(b.end as usize, b.offset as usize);
-    if size == other {
-        let from = k as usize;
-        return same::same_part(
-            s,
-            (a.offset as usize) + from,
-            (b.offset as usize) + from,
-            less(size, from),
-        );
-    }
-    false
-}
-
-// Whether row b is a library with the name of library a.
-pub fn same_name(s: &[u8], a: Row, b: Row) -> bool
-    ensures { λ q. ⌜ q ≡ sameName (now (s .entry)) a b ⌝ }
-{
-    if b.kind == 12 {
-        return same_tail(s, 5, a, b);
-    }
-    false
-}
-
 // Whether the bytes from a to x and those from b to y are the same.
 pub fn same_between(s: &[u8], a: usize, x: usize, b: usize, y: usize) -> bool
     ensures { λ q. ⌜ q ≡ sameBetween (now (s .entry)) a x b y ⌝ }
@@ -256,6 +219,25 @@ pub fn same_between(s: &[u8], a: usize, x: usize, b: usize, y: usize) -> bool
     let other = less(y, b);
     if size == other {
         return same::same_part(s, a, b, size);
+    }
+    false
+}
+
+// Whether the strings at a and b have the same text, whatever their prefixes.
+pub fn same_text(s: &[u8], a: usize, b: usize) -> bool
+    ensures { λ q. ⌜ q ≡ sameText (now (s .entry)) a b ⌝ }
+{
+    let one = spans::span_at(s, a);
+    let other = spans::span_at(s, b);
+    same_between(s, one.from, one.to, other.from, other.to)
+}
+
+// Whether row b is a library with the name of library a.
+pub fn same_name(s: &[u8], a: Row, b: Row) -> bool
+    ensures { λ q. ⌜ q ≡ sameName (now (s .entry)) a b ⌝ }
+{
+    if b.kind == 12 {
+        return same_text(s, (a.offset as usize) + 5, (b.offset as usize) + 5);
     }
     false
 }

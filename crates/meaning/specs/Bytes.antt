@@ -3,36 +3,35 @@ use Prim.Native.Nat.{ℕ, zero, suc, _+_, _-_, _≤_, _<_}
 use mathlib.Core.Path.{_≡_, refl, sym, ap, ap₂, _∙_}
 use mathlib.Core.List.{List, [], _∷_, _++_, append-assoc}
 use native.Mathlib.Omega.{arith}
-use lib.ListN.{length, getD, drop, length-append, length-drop}
-use lib.Seq.{take-at}
+use native.Mathlib.Decide.{decLt}
+use lib.ListN.{length, getD}
 use lib.Dec.{eqb}
-use Rattle.format.specs.declared.Refusal.the-variants as R
 use Rattle.format.specs.declared.Number32.the-variants as N32
 use Rattle.format.specs.declared.Field.the-variants as F
 use Rattle.format.specs.declared.Row.{Row}
 use Rattle.format.specs.Bytes.{pick, part, sameBytes}
 use Rattle.format.specs.Numbers.{leBytes, u32At}
-use Rattle.format.specs.Prefix.{prefixBytes}
-use Rattle.format.specs.Text.{wellFormed, stringBytes}
+use Rattle.format.specs.Prefix.{prefixOf, prefixBytes}
+use Rattle.format.specs.Text.{spanAt}
 use Rattle.format.specs.Values.{onEnd, times}
 use Rattle.format.specs.Types.{codeNumber, codeAt, typeByteAt, nameAt, libraryIdAt, infoAt, afterText, afterInfo}
 use Rattle.format.specs.Records.{knownLibrary, infoKnown, infosAt}
-use Rattle.format.specs.Contents.{Detail, primitive, text, object, system, class, objects, texts, primitives, typeByte, infoBytes, infosBytes}
+use Rattle.format.specs.Contents.{bytesIn, shortest, Detail, primitive, text, object, system, class, objects, texts, primitives, typeByte, infoBytes, infosBytes}
 use Rattle.format.specs.Says.{textFrom, numberFrom, codeFrom, detailFrom, membersFrom}
 use Rattle.format.specs.Tidy.{numberIn, Libraries, detailNeeds, membersNeed, detailBy, membersBy}
 use Rattle.fields.specs.Parts.{length-part, part-cons}
-use Rattle.fields.specs.Judged.{judged-taken}
 use Rattle.fields.specs.Sequence.{through}
 use Rattle.num.specs.Le.{Bytes, bytes-part, leBytes-le}
 use Rattle.num.specs.Read.{u32-says}
-use Rattle.prefix.specs.Laws.{lenient-alike}
-use Rattle.strings.specs.Laws.{string-told, string-moves, string-converse}
 use Rattle.codes.specs.Codes.{number-primitive}
 use Rattle.types.specs.Keeps.{code-told, type-told, name-told, name-moves, library-told}
 use Rattle.laws.specs.Fields.{by-type}
-use Rattle.spans.specs.Judged.{string-text, name-after, info-after}
+use Rattle.spans.specs.Judged.{name-after, info-after}
+use Rattle.spans.specs.Spans.{span-within}
+use Rattle.prefix.specs.Widths.{shortest-bytes}
 use Rattle.class_info.specs.Moves.{known-moves, info-plain}
 use Rattle.put.specs.Out.{between, textOut}
+use Rattle.put.specs.Pieces.{span-small}
 use Rattle.pieces.specs.Copy.{libraryNumber, infoOut, infosOut}
 use Rattle.meaning.specs.Stands.{StringStands}
 use Rattle.meaning.specs.Marked.{All, none, both, infoFields, nameAtField, namesOf}
@@ -44,32 +43,29 @@ use Rattle.meaning.specs.Entered.{names-append}
 pub joined : (a b c l : List ℕ) → (a ++ (b ++ c)) ++ l ≡ a ++ (b ++ (c ++ l))
 joined a b c l = rw (append-assoc a (b ++ c) l, append-assoc b c l)
 
--- bytes that stand before what stands at e
-between-is : (s b : List ℕ) (p e : ℕ) → p ≤ e → e ≤ length s → drop p s ≡ b ++ drop e s → between s p e ≡ b
-between-is s b p e h g c =
-    let l : length b ≡ e - p = omega (arith, simp (length-append, length-drop) at (ap length c)) in
-    rw c (take-at b (drop e s) (e - p) l)
+-- a text, wherever it is looked for: it is as long as its span
+module _ (s : List ℕ) (p : ℕ) where
+  text-length : length (textFrom s p) ≡ spanAt s p .to - spanAt s p .from
+  text-length = go (decLt (length s) p)
+    where
+      go : Dec (length s < p) → length (textFrom s p) ≡ spanAt s p .to - spanAt s p .from
+      go (yes h) =
+          let w = span-within s p in
+          let z : spanAt s p .to - spanAt s p .from ≡ 0 = omega (arith, w .starts, w .rises, w .ends p (omega arith) (omega arith)) in
+          rw z
+      go (no h) =
+          let w = span-within s p in
+          length-part s (spanAt s p .from) (spanAt s p .to - spanAt s p .from) (omega (arith, w .rises, w .ends (length s) (omega arith) (omega arith)))
+
+  -- it is written with the shortest prefix
+  pub text-is : textOut s p ≡ bytesIn (shortest (textFrom s p))
+  unfolding textOut
+  text-is =
+      let n = spanAt s p .to - spanAt s p .from in
+      ap (λ (b : List ℕ). b ++ textFrom s p) (sym (shortest-bytes n (span-small s p)))
+      ∙ ap (λ (k : ℕ). prefixOf (length (prefixBytes k)) k ++ textFrom s p) (sym text-length)
 
 module _ (s : List ℕ) (byte : Bytes s) where
-  -- a string as it stands
-  pub text-kept : (p e : ℕ) → StringStands s p e → between s p e ≡ stringBytes (textFrom s p)
-  text-kept p e t =
-      let a = t .from in
-      let m = string-moves s p a e (t .text) in
-      rw (string-text s p a e (t .text)) (between-is s (stringBytes (part s a (e - a))) p e (omega arith) (m .2) (string-converse s byte p a e (t .text)))
-
-  -- and with its prefix written anew
-  pub text-is : (p e : ℕ) → StringStands s p e → textOut s p e ≡ stringBytes (textFrom s p)
-  unfolding textOut
-  text-is p e t =
-      let a = t .from in
-      let w = string-told s p a e (t .text) in
-      let m = string-moves s p a e (t .text) in
-      let k = judged-taken wellFormed R.BadText s a (w .0) e (w .1 .ends) in
-      let l : length (part s a (e - a)) ≡ e - a = length-part s a (e - a) (omega arith) in
-      let n : w .0 ≡ length (part s a (e - a)) = omega arith in
-      rw (string-text s p a e (t .text), lenient-alike s p (w .0) a (w .1 .says)) (ap (λ (k : ℕ). prefixBytes k ++ part s a (e - a)) n)
-
   -- any four bytes are a number
   pub number-there : (p : ℕ) → p + 4 ≤ length s → between s p (p + 4) ≡ leBytes 4 (numberFrom s p)
   number-there p h =
@@ -157,7 +153,7 @@ module _ (s : List ℕ) (rows : List Row) where
   needs-is (suc (suc (suc (suc (suc (suc (suc (suc type)))))))) p e h q = absurd (omega arith)
 
 -- a library's new number changes no type byte
-pub same-type : (ls : Libraries) (d : Detail (List ℕ)) → typeByte (detailBy ls d) ≡ typeByte d
+pub same-type : (ls : Libraries) (d : Detail (List ℕ) (List ℕ)) → typeByte (detailBy ls d) ≡ typeByte d
 same-type ls (primitive c) = refl
 same-type ls text = refl
 same-type ls object = refl
@@ -171,18 +167,18 @@ same-type ls (primitives c) = refl
 abbrev pub Numbered : List ℕ → List Row → List Row → Libraries → ℕ → Type 0
 Numbered s rows rs ls p = libraryNumber s rs p ≡ numberIn (sameBytes (nameAtField s rows p)) ls
 
-module _ (s : List ℕ) (byte : Bytes s) (rows rs : List Row) (ls : Libraries) where
+module _ (s : List ℕ) (rows rs : List Row) (ls : Libraries) where
   pub info-is : (type p e : ℕ) → type ≤ 7 → infoKnown s rows type p ≡ F.End e → (type ≡ 4 → Numbered s rows rs ls (e - 4))
       → infoOut s rs type p e ≡ infoBytes (detailBy ls (detailFrom s rows type p))
   unfolding infoOut infoAt detailFrom
   info-is zero p e h q f = code-kept s p e (info-plain s rows 0 p e q)
   info-is (suc zero) p e h q f = let z = info-plain s rows 1 p e q in between-none s p e (cc)
   info-is (suc (suc zero)) p e h q f = let z = info-plain s rows 2 p e q in between-none s p e (cc)
-  info-is (suc (suc (suc zero))) p e h q f = text-kept s byte p e (name-stands s p e (info-plain s rows 3 p e q))
+  info-is (suc (suc (suc zero))) p e h q f = text-is s p
   info-is (suc (suc (suc (suc zero)))) p e h q f =
       let c = class-info s rows p e q in
-      ap₂ (λ (a b : List ℕ). a ++ b) (text-kept s byte p (e - 4) (name-stands s p (e - 4) (c .named))) (ap (leBytes 4) (f refl))
-      ∙ ap (λ (d : Detail (List ℕ)). infoBytes (detailBy ls d)) (sym (class-detail s rows p e c))
+      ap₂ (λ (a b : List ℕ). a ++ b) (text-is s p) (ap (leBytes 4) (f refl))
+      ∙ ap (λ (d : Detail (List ℕ) (List ℕ)). infoBytes (detailBy ls d)) (sym (class-detail s rows p e c))
   info-is (suc (suc (suc (suc (suc zero))))) p e h q f = let z = info-plain s rows 5 p e q in between-none s p e (cc)
   info-is (suc (suc (suc (suc (suc (suc zero)))))) p e h q f = let z = info-plain s rows 6 p e q in between-none s p e (cc)
   info-is (suc (suc (suc (suc (suc (suc (suc zero))))))) p e h q f = code-kept s p e (info-plain s rows 7 p e q)
@@ -240,7 +236,7 @@ infos-need s rows (suc n) types names p e t q r =
     ∙ ap₂ (λ (a b : List (List ℕ)). a ++ b) (needs-is s rows type p next (f .low) (f .known))
     (infos-need s rows n (types + 1) (afterText s names) next e t (f .infos) (f .type-bytes))
 
-module _ (s : List ℕ) (byte : Bytes s) (rows rs : List Row) (ls : Libraries) where
+module _ (s : List ℕ) (rows rs : List Row) (ls : Libraries) where
   pub infos-is : (n types names p e t : ℕ) → infosAt s rows n types p ≡ F.End e → times (typeByteAt s) n types ≡ F.End t
       → All (Numbered s rows rs ls) (infoFields s n types p) → infosOut s rs n types p ≡ infosBytes (membersBy ls (membersFrom s rows n names types p))
   unfolding infoFields infosOut membersFrom
@@ -252,5 +248,5 @@ module _ (s : List ℕ) (byte : Bytes s) (rows rs : List Row) (ls : Libraries) w
       let own = pick (eqb type 4) ((next - 4) ∷ []) [] in
       let later = infoFields s n (types + 1) next in
       let b = field-of (Numbered s rows rs ls) type (next - 4) (all-left (Numbered s rows rs ls) own later a) in
-      ap₂ (λ (a b : List ℕ). a ++ b) (info-is s byte rows rs ls type p next (f .low) (f .known) b)
+      ap₂ (λ (a b : List ℕ). a ++ b) (info-is s rows rs ls type p next (f .low) (f .known) b)
       (infos-is n (types + 1) (afterText s names) next e t (f .infos) (f .type-bytes) (all-right (Numbered s rows rs ls) own later a))

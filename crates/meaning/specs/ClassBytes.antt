@@ -1,31 +1,28 @@
 -- The bytes written for a class record are those of the class that it says, with its new number and the new numbers of its libraries.
-use Prim.Native.Nat.{ℕ, zero, suc, _+_, _-_, _%_, _≤_}
+use Prim.Native.Nat.{ℕ, zero, suc, _+_, _-_, _%_}
 use mathlib.Core.Path.{_≡_, refl, sym, ap, ap₂, subst, _∙_}
 use mathlib.Core.List.{List, [], _∷_, _++_, append-assoc, append-nil}
 use native.Mathlib.Omega.{arith}
 use lib.ListN.{length, getD}
 use lib.Dec.{eqb}
-use Rattle.format.specs.declared.Number32.the-variants as N32
 use Rattle.format.specs.declared.Field.the-variants as F
 use Rattle.format.specs.declared.Row.{Row}
 use Rattle.format.specs.Bytes.{pick, sameBytes}
-use Rattle.format.specs.Numbers.{leBytes, u32At}
-use Rattle.format.specs.Text.{stringBytes}
+use Rattle.format.specs.Numbers.{leBytes}
 use Rattle.format.specs.Values.{times}
-use Rattle.format.specs.Types.{nameAt, typeByteAt, afterText, afterInfo}
-use Rattle.format.specs.Contents.{Member, namesBytes, typesBytes, infosBytes, classBytes, enc}
+use Rattle.format.specs.Types.{typeByteAt, afterText, afterInfo}
+use Rattle.format.specs.Contents.{Prefixed, bytesIn, shortest, Member, namesBytes, typesBytes, infosBytes, classBytes, enc}
 use Rattle.format.specs.Says.{From, theSystem, theLibrary, Class, textFrom, numberFrom, libraryName, detailFrom, membersFrom, classFrom}
 use Rattle.format.specs.Tidy.{numberIn, Libraries, membersNeed, fromNeeds, classNeeds, membersBy, classBy}
-use Rattle.fields.specs.Parts.{part-to, part-through}
+use Rattle.fields.specs.Parts.{part-to}
 use Rattle.fields.specs.Sequence.{through}
-use Rattle.num.specs.Le.{Bytes}
-use Rattle.types.specs.Keeps.{type-told, name-moves, names-within, types-end}
+use Rattle.types.specs.Keeps.{type-told, types-end}
 use Rattle.spans.specs.Judged.{name-after, names-after}
-use Rattle.put.specs.Out.{between, headOut}
-use Rattle.pieces.specs.Copy.{libraryNumber, infosOut, classOut, detailsOut}
+use Rattle.put.specs.Out.{between, textOut, textsOut, headOut}
+use Rattle.pieces.specs.Copy.{libraryNumber, infosOut, membersOut, classOut, detailsOut}
 use Rattle.meaning.specs.Stands.{OwnStands, of-system, of-library, ClassStands}
 use Rattle.meaning.specs.Marked.{All, infoFields, classFields, nameAtField, namesOf}
-use Rattle.meaning.specs.Bytes.{joined, text-kept, number-is, name-stands, between-none, type-is, same-type, Numbered, all-left, all-right, all-first, infos-need, infos-is}
+use Rattle.meaning.specs.Bytes.{text-is, between-none, type-is, same-type, Numbered, all-left, all-right, all-first, infos-need, infos-is}
 use Rattle.meaning.specs.Entered.{names-append}
 
 -- ---- names and type bytes
@@ -52,94 +49,86 @@ module _ (s : List ℕ) (rows : List Row) (ls : Libraries) where
       ∙ ap₂ (λ (b : ℕ) (l : List ℕ). b ∷ l) (sym (same-type ls (detailFrom s rows type infos) ∙ type-is s rows type infos (w .0)))
       (types-is n (afterText s names) (types + 1) (afterInfo s type infos) e r)
 
-module _ (s : List ℕ) (byte : Bytes s) (rows : List Row) (ls : Libraries) where
   -- wherever type bytes and details stand
-  pub names-is : (n names types infos e : ℕ) → times (nameAt s) n names ≡ F.End e
-      → between s names e ≡ namesBytes (membersBy ls (membersFrom s rows n names types infos))
-  unfolding times membersFrom
-  names-is zero names types infos e q = between-none s names e (cc)
-  names-is (suc n) names types infos e q =
-      let x = through (times (nameAt s) n) (nameAt s names) e q in
-      let d : afterText s names ≡ x .0 = name-after s names (x .0) (x .1) in
-      let r : times (nameAt s) n (afterText s names) ≡ F.End e = ap (times (nameAt s) n) d ∙ x .2 in
-      go (afterText s names) (x .1 ∙ ap F.End (sym d)) r
-      ∙ ap (λ (l : List ℕ). stringBytes (textFrom s names) ++ l) (names-is n (afterText s names) (types + 1) (afterInfo s (getD s types 0) infos) e r)
-    where
-      go : (m : ℕ) → nameAt s names ≡ F.End m → times (nameAt s) n m ≡ F.End e → between s names e ≡ stringBytes (textFrom s names) ++ between s m e
-      go m h r =
-          let a = name-moves s names m h in
-          let b = names-within s n m e (m + length s) (omega arith) (omega arith) r in
-          part-through s names m e (omega arith) (omega arith) ∙ ap (λ (l : List ℕ). l ++ between s m e) (text-kept s byte names m (name-stands s names m h))
+  pub names-are : (n names types infos : ℕ) → textsOut s n names ≡ namesBytes (membersBy ls (membersFrom s rows n names types infos))
+  unfolding textsOut membersFrom
+  names-are zero names types infos = refl
+  names-are (suc n) names types infos =
+      ap₂ (λ (x y : List ℕ). x ++ y) (text-is s names) (names-are n (afterText s names) (types + 1) (afterInfo s (getD s types 0) infos))
 
--- ---- what stands before the details
+-- ---- name, member count, names and type bytes
 
 module _ (s : List ℕ) (rows : List Row) (r : Row) (c : ClassStands s rows r) where
+  names-place : afterText s (r .offset + 5) + 4 ≡ c .name-end + 4
+  names-place = ap (λ (n : ℕ). n + 4) (name-after s (r .offset + 5) (c .name-end) (c .named))
+
   pub members-from : classFrom s rows r .members ≡ membersFrom s rows (r .count) (c .name-end + 4) (c .types) (c .types + r .count)
   unfolding classFrom
   members-from = rw (name-after s (r .offset + 5) (c .name-end) (c .named), names-after s (r .count) (c .name-end + 4) (c .types) (c .names))
 
-  module _ (byte : Bytes s) (ls : Libraries) where
-    -- name, member count, names and type bytes
-    pub head-is : between s (r .offset + 5) (c .types + r .count)
-        ≡ stringBytes (classFrom s rows r .name) ++ (leBytes 4 (length (membersBy ls (classFrom s rows r .members)))
-        ++ (namesBytes (membersBy ls (classFrom s rows r .members)) ++ typesBytes (membersBy ls (classFrom s rows r .members))))
-    unfolding classFrom
-    head-is =
-        go (r .offset + 5) (c .name-end) (r .count) (c .types) (classFrom s rows r .members) (c .named) (c .counted) (c .names) (c .type-bytes) members-from
-      where
-        go : (p ne n types : ℕ) (ms : List (Member (List ℕ))) → nameAt s p ≡ F.End ne → u32At s ne ≡ N32.Value n (ne + 4)
-            → times (nameAt s) n (ne + 4) ≡ F.End types → times (typeByteAt s) n types ≡ F.End (types + n) → ms ≡ membersFrom s rows n (ne + 4) types (types + n)
-            → between s p (types + n)
-            ≡ stringBytes (textFrom s p) ++ (leBytes 4 (length (membersBy ls ms)) ++ (namesBytes (membersBy ls ms) ++ typesBytes (membersBy ls ms)))
-        go p ne n types ms a b d f m =
-            let i = name-moves s p ne a in
-            let j = names-within s n (ne + 4) types (ne + 4 + length s) (omega arith) (omega arith) d in
-            rw (m, members-count s rows ls n (ne + 4) types (types + n))
-            (part-through s p ne (types + n) (omega arith) (omega arith)
-            ∙ ap₂ (λ (x y : List ℕ). x ++ y) (text-kept s byte p ne (name-stands s p ne a))
-            (part-through s ne (ne + 4) (types + n) (omega arith) (omega arith)
-            ∙ ap₂ (λ (x y : List ℕ). x ++ y) (number-is s byte ne n b)
-            (part-through s (ne + 4) types (types + n) (omega arith) (omega arith)
-            ∙ ap₂ (λ (x y : List ℕ). x ++ y) (names-is s byte rows ls n (ne + 4) types (types + n) types d)
-            (types-is s rows ls n (ne + 4) types (types + n) (types + n) f))))
+  pub class-name : classFrom s rows r .name ≡ textFrom s (r .offset + 5)
+  unfolding classFrom
+  class-name = refl
+
+  module _ (ls : Libraries) where
+    -- the members as they are written
+    abbrev members : List (Member Prefixed ℕ)
+    members = membersBy ls (classFrom s rows r .members)
+
+    members-so : members ≡ membersBy ls (membersFrom s rows (r .count) (c .name-end + 4) (c .types) (c .types + r .count))
+    members-so = ap (membersBy ls) members-from
+
+    pub count-is : leBytes 4 (r .count) ≡ leBytes 4 (length members)
+    count-is = ap (leBytes 4) (sym (ap length members-so ∙ members-count s rows ls (r .count) (c .name-end + 4) (c .types) (c .types + r .count)))
+
+    pub names-is : textsOut s (r .count) (afterText s (r .offset + 5) + 4) ≡ namesBytes members
+    names-is =
+        ap (textsOut s (r .count)) names-place
+        ∙ (names-are s rows ls (r .count) (c .name-end + 4) (c .types) (c .types + r .count) ∙ ap namesBytes (sym members-so))
+
+    pub type-bytes-are : between s (c .types) (c .types + r .count) ≡ typesBytes members
+    type-bytes-are =
+        types-is s rows ls (r .count) (c .name-end + 4) (c .types) (c .types + r .count) (c .types + r .count) (c .type-bytes)
+        ∙ ap typesBytes (sym members-so)
 
 -- ---- the record
 
 module _ (s : List ℕ) (q : Row) (kind offset end slot count : ℕ)
     (k : q .kind ≡ kind) (o : q .offset ≡ offset) (e : q .end ≡ end) (t : q .slot ≡ slot) (n : q .count ≡ count) where
   class-out : (rs : List Row) → classOut s rs q
-      ≡ headOut (kind % 256) (q .id) ++ (between s (offset + 5) (slot + count)
-      ++ (infosOut s rs count slot (slot + count) ++ pick (eqb kind 5) (leBytes 4 (libraryNumber s rs (end - 4))) []))
-  unfolding classOut detailsOut
+      ≡ headOut (kind % 256) (q .id) ++ (textOut s (offset + 5) ++ (leBytes 4 count ++ (textsOut s count (afterText s (offset + 5) + 4)
+      ++ (between s slot (slot + count) ++ (infosOut s rs count slot (slot + count) ++ pick (eqb kind 5) (leBytes 4 (libraryNumber s rs (end - 4))) [])))))
+  unfolding classOut membersOut detailsOut
   class-out rs = rw (k, o, e, t, n)
 
   class-fields : classFields s q ≡ infoFields s count slot (slot + count) ++ pick (eqb kind 5) ((end - 4) ∷ []) []
   unfolding classFields
   class-fields = rw (k, e, t, n)
 
-module _ (ls : Libraries) (id : ℕ) (c : Class) (head infos : List ℕ)
-    (h : head ≡ stringBytes (c .name) ++ (leBytes 4 (length (membersBy ls (c .members)))
-    ++ (namesBytes (membersBy ls (c .members)) ++ typesBytes (membersBy ls (c .members)))))
-    (i : infos ≡ infosBytes (membersBy ls (c .members))) where
-  both-parts : head ++ infos ≡ classBytes (c .name) (membersBy ls (c .members))
-  both-parts =
-      let ms = membersBy ls (c .members) in
-      ap₂ (λ (x y : List ℕ). x ++ y) h i ∙ joined (stringBytes (c .name)) (leBytes 4 (length ms)) (namesBytes ms ++ typesBytes ms) (infosBytes ms)
-      ∙ ap (λ (l : List ℕ). stringBytes (c .name) ++ (leBytes 4 (length ms) ++ l)) (append-assoc (namesBytes ms) (typesBytes ms) (infosBytes ms))
+module _ (ls : Libraries) (id : ℕ) (c : Class) (name count names types infos : List ℕ)
+    (f : name ≡ bytesIn (shortest (c .name))) (g : count ≡ leBytes 4 (length (membersBy ls (c .members)))) (h : names ≡ namesBytes (membersBy ls (c .members)))
+    (j : types ≡ typesBytes (membersBy ls (c .members))) (i : infos ≡ infosBytes (membersBy ls (c .members))) where
+  all-parts : name ++ (count ++ (names ++ (types ++ infos))) ≡ classBytes (shortest (c .name)) (membersBy ls (c .members))
+  all-parts = rw (f, g, h, j, i)
 
-  system-bytes : c .from ≡ theSystem → headOut 4 id ++ (head ++ (infos ++ [])) ≡ enc (classBy ls id c (c .from))
+  system-bytes : c .from ≡ theSystem → headOut 4 id ++ (name ++ (count ++ (names ++ (types ++ (infos ++ []))))) ≡ enc (classBy ls id c (c .from))
   unfolding enc
-  system-bytes f =
-      ap (λ (z : List ℕ). headOut 4 id ++ (head ++ z)) (append-nil infos) ∙ ap (λ (z : List ℕ). 4 ∷ (leBytes 4 id ++ z)) both-parts
-      ∙ ap (λ (z : From). enc (classBy ls id c z)) (sym f)
+  system-bytes o =
+      ap (λ (z : List ℕ). headOut 4 id ++ (name ++ (count ++ (names ++ (types ++ z))))) (append-nil infos)
+      ∙ ap (λ (z : List ℕ). 4 ∷ (leBytes 4 id ++ z)) all-parts
+      ∙ ap (λ (z : From). enc (classBy ls id c z)) (sym o)
 
-  library-bytes : (name : List ℕ) (number : ℕ) → c .from ≡ theLibrary name → number ≡ numberIn (sameBytes name) ls
-      → headOut 5 id ++ (head ++ (infos ++ leBytes 4 number)) ≡ enc (classBy ls id c (c .from))
+  -- what follows the parts
+  parts-then : (l : List ℕ) → name ++ (count ++ (names ++ (types ++ (infos ++ l)))) ≡ (name ++ (count ++ (names ++ (types ++ infos)))) ++ l
+  parts-then l = sym (simp append-assoc)
+
+  library-bytes : (own : List ℕ) (number : ℕ) → c .from ≡ theLibrary own → number ≡ numberIn (sameBytes own) ls
+      → headOut 5 id ++ (name ++ (count ++ (names ++ (types ++ (infos ++ leBytes 4 number))))) ≡ enc (classBy ls id c (c .from))
   unfolding enc
-  library-bytes name number f g =
+  library-bytes own number o z =
       ap (λ (z : List ℕ). 5 ∷ (leBytes 4 id ++ z))
-      (sym (append-assoc head infos (leBytes 4 number)) ∙ ap₂ (λ (x y : List ℕ). x ++ y) both-parts (ap (leBytes 4) g))
-      ∙ ap (λ (z : From). enc (classBy ls id c z)) (sym f)
+      (parts-then (leBytes 4 number) ∙ ap₂ (λ (x y : List ℕ). x ++ y) all-parts (ap (leBytes 4) z))
+      ∙ ap (λ (z : From). enc (classBy ls id c z)) (sym o)
 
 module _ (s : List ℕ) (rows : List Row) (r : Row) where
   pub from-system : r .kind ≡ 4 → classFrom s rows r .from ≡ theSystem
@@ -172,15 +161,18 @@ module _ (s : List ℕ) (rows : List Row) (r : Row) (c : ClassStands s rows r) (
       own-need (of-library h z) =
           ap (λ (x : ℕ). namesOf s rows (pick (eqb x 5) ((r .end - 4) ∷ []) [])) h ∙ ap fromNeeds (sym (from-library s rows r h))
 
-  pub class-is : (byte : Bytes s) (rs : List Row) (ls : Libraries) → All (Numbered s rows rs ls) (classFields s q)
+  pub class-is : (rs : List Row) (ls : Libraries) → All (Numbered s rows rs ls) (classFields s q)
       → classOut s rs q ≡ enc (classBy ls (q .id) (classFrom s rows r) (classFrom s rows r .from))
-  class-is byte rs ls a = go (c .own)
+  class-is rs ls a = go (c .own)
     where
       infos : List ℕ
       infos = infosOut s rs (r .count) (c .types) (c .types + r .count)
 
-      head : List ℕ
-      head = between s (r .offset + 5) (c .types + r .count)
+      of : Class
+      of = classFrom s rows r
+
+      name-so : textOut s (r .offset + 5) ≡ bytesIn (shortest (classFrom s rows r .name))
+      name-so = text-is s (r .offset + 5) ∙ ap (λ (t : List ℕ). bytesIn (shortest t)) (sym (class-name s rows r c))
 
       fields : List ℕ
       fields = infoFields s (r .count) (c .types) (c .types + r .count)
@@ -193,17 +185,19 @@ module _ (s : List ℕ) (rows : List Row) (r : Row) (c : ClassStands s rows r) (
 
       infos-so : All P fields → infos ≡ infosBytes (membersBy ls (classFrom s rows r .members))
       infos-so b =
-          infos-is s byte rows rs ls (r .count) (c .types) (c .name-end + 4) (c .types + r .count) (c .infos-end) (c .types + r .count) (c .infos) (c .type-bytes) b
-          ∙ ap (λ (m : List (Member (List ℕ))). infosBytes (membersBy ls m)) (sym (members-from s rows r c))
+          infos-is s rows rs ls (r .count) (c .types) (c .name-end + 4) (c .types + r .count) (c .infos-end) (c .types + r .count) (c .infos) (c .type-bytes) b
+          ∙ ap (λ (m : List (Member (List ℕ) (List ℕ))). infosBytes (membersBy ls m)) (sym (members-from s rows r c))
 
       go : OwnStands s rows r (c .infos-end) → classOut s rs q ≡ enc (classBy ls (q .id) (classFrom s rows r) (classFrom s rows r .from))
       go (of-system h z) =
           let b = there 4 (k ∙ h) in
           class-out s q 4 (r .offset) (r .end) (c .types) (r .count) (k ∙ h) o e t n rs
-          ∙ system-bytes ls (q .id) (classFrom s rows r) head infos (head-is s rows r c byte ls) (infos-so (all-left P fields [] b)) (from-system s rows r h)
+          ∙ system-bytes ls (q .id) of _ _ _ _ infos name-so (count-is s rows r c ls) (names-is s rows r c ls) (type-bytes-are s rows r c ls)
+          (infos-so (all-left P fields [] b)) (from-system s rows r h)
       go (of-library h z) =
           let b = there 5 (k ∙ h) in
           class-out s q 5 (r .offset) (r .end) (c .types) (r .count) (k ∙ h) o e t n rs
-          ∙ library-bytes ls (q .id) (classFrom s rows r) head infos (head-is s rows r c byte ls) (infos-so (all-left P fields ((r .end - 4) ∷ []) b))
+          ∙ library-bytes ls (q .id) of _ _ _ _ infos name-so (count-is s rows r c ls) (names-is s rows r c ls) (type-bytes-are s rows r c ls)
+          (infos-so (all-left P fields ((r .end - 4) ∷ []) b))
           (nameAtField s rows (r .end - 4)) (libraryNumber s rs (r .end - 4)) (from-library s rows r h)
           (all-first P (r .end - 4) [] (all-right P fields ((r .end - 4) ∷ []) b))

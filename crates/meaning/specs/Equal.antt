@@ -3,132 +3,32 @@
 use Prim.Native.Nat.{ℕ, suc, _+_, _-_, _≤_, _<_}
 use mathlib.Core.Path.{_≡_, refl, sym, ap, subst, _∙_}
 use mathlib.Core.Bool.{Bool, true, false, _&&_}
-use mathlib.Core.List.{List, map}
+use mathlib.Core.List.{List}
 use native.Mathlib.Omega.{arith}
 use lib.ListN.{length, getD}
 use lib.Dec.{eqb}
 use borrow.Author.Tests.{eq-eqb, eqb-true, ne-eqb}
 use Rattle.format.specs.declared.Field.the-variants as F
-use Rattle.format.specs.declared.Number32.the-variants as N32
 use Rattle.format.specs.declared.Row.{Row}
-use Rattle.format.specs.Bytes.{pick, part, sameBytes}
-use Rattle.format.specs.Numbers.{le, leBytes, u32At}
+use Rattle.format.specs.Bytes.{pick, sameBytes}
 use Rattle.format.specs.Types.{nameAt}
 use Rattle.format.specs.Values.{times}
 use Rattle.format.specs.Rows.{blank, isClass, findFrom}
 use Rattle.format.specs.Records.{ownLibraryAt}
-use Rattle.format.specs.Contents.{Member}
 use Rattle.format.specs.Says.{From, theSystem, theLibrary, Class, textFrom, numberFrom, libraryName, membersFrom, classFrom, orderOf}
 use Rattle.format.specs.Tidy.{sameClass}
-use Rattle.fields.specs.Parts.{length-part}
-use Rattle.num.specs.Le.{Bytes, bytes-part, leBytes-le}
-use Rattle.num.specs.Read.{u32-says}
-use Rattle.codes.specs.Ends.{name-end}
-use Rattle.types.specs.Keeps.{name-told, name-moves}
-use Rattle.same.specs.Laws.{SameParts, same-eq}
+use Rattle.same.specs.Laws.{same-eq}
 use Rattle.lookups.specs.Find.{find-hit}
 use Rattle.laws.specs.Tests.{bool-ext, both-of, both-true, apart, pick-of, pick-true, true-same, class-of, class-eq, true-class, class-refl}
 use Rattle.laws.specs.Firsts.{find-alike, find-some}
 use Rattle.spans.specs.Judged.{name-after, names-after}
-use Rattle.marks.specs.Marks.{withId, withSlot, libraryAt, sameBetween, sameInfos, infosPlace, sameOwn, sameDetails, sameClassRow, firstClass}
+use Rattle.marks.specs.Marks.{withId, withSlot, libraryAt, namesPlace, sameText, sameMembersAt, sameOwn, sameDetails, sameClassRow, firstClass}
 use Rattle.meaning.specs.Stands.{OwnStands, of-system, of-library, ClassStands, Stands}
 use Rattle.meaning.specs.Marked.{Placed, nameAtField, classFirst}
-use Rattle.meaning.specs.Alike.{parts-first, parts-last, parts-join, between-of, true-between, string-shift, string-same}
+use Rattle.meaning.specs.Alike.{same-texts}
+use Rattle.meaning.specs.Bytes.{name-stands}
 use Rattle.meaning.specs.Names.{class-at, class-places, own-names, placed-class, placed-kind, same-library}
-use Rattle.meaning.specs.Members.{namesFrom, members-zipped, members-names, members-types, members-count, names-shift, names-same, Infos, details-of, details-same}
-
--- ---- name, count, names and type bytes
-
-module _ (s : List ℕ) (rows : List Row) (r q : Row) (a : ClassStands s rows r) (b : ClassStands s rows q) where
-  -- what two classes have in common whose first fields are alike
-  record Heads : Type 0 where
-    name : textFrom s (r .offset + 5) ≡ textFrom s (q .offset + 5)
-    count : r .count ≡ q .count
-    names : namesFrom s (r .count) (a .name-end + 4) ≡ namesFrom s (r .count) (b .name-end + 4)
-    types : SameParts s (a .types) (b .types) (r .count)
-
-  -- the bytes of a's first fields stand at b's place
-  heads-of : SameParts s (r .offset + 5) (q .offset + 5) (a .types + r .count - (r .offset + 5)) → Heads
-  heads-of w =
-      let p = r .offset + 5 in
-      let o = q .offset + 5 in
-      let m = a .name-end in
-      let e = a .types + r .count in
-      let t = name-told s p m (a .named) in
-      let i = name-moves s p m (a .named) in
-      let l = class-places s rows r a in
-      let k : e - p ≡ m - p + (e - m) = omega (arith, l .0, i .0) in
-      let w1 = rw k at w in
-      let z = string-shift s p o (t .0) m (t .1) (parts-first s p o (m - p) (e - m) w1) in
-      let g = name-end s o (o + (t .0 - p)) (o + (m - p)) (z .0) in
-      let h : o + (m - p) ≡ b .name-end = let c = b .named in cc in
-      let f : p + (m - p) ≡ m = omega (arith, i .0) in
-      let j : e - m ≡ 4 + (e - (m + 4)) = omega (arith, l .0) in
-      let w2 : SameParts s m (b .name-end) (4 + (e - (m + 4))) = rw (f, h, j) at (parts-last s p o (m - p) (e - m) w1) in
-      let c = counts (parts-first s m (b .name-end) 4 (e - (m + 4)) w2) in
-      let n : e - (m + 4) ≡ a .types - (m + 4) + r .count = omega (arith, l .0) in
-      let w3 = rw n at (parts-last s m (b .name-end) 4 (e - (m + 4)) w2) in
-      let y : times (nameAt s) (r .count) (b .name-end + 4) ≡ F.End (b .types)
-      = subst (λ (x : ℕ). times (nameAt s) x (b .name-end + 4) ≡ F.End (b .types)) (sym c) (b .names) in
-      let u = names-shift s (r .count) (m + 4) (b .name-end + 4) (a .types) (b .types) (omega (arith, l .0, l .1)) (a .names) y
-      (parts-first s (m + 4) (b .name-end + 4) (a .types - (m + 4)) (r .count) w3) in
-      let v : m + 4 + (a .types - (m + 4)) ≡ a .types = omega (arith, l .0) in
-      record {
-        name = z .1;
-        count = c;
-        names = u .1;
-        types = rw (v, ← (u .0)) at (parts-last s (m + 4) (b .name-end + 4) (a .types - (m + 4)) (r .count) w3);
-      }
-    where
-      counts : SameParts s (a .name-end) (b .name-end) 4 → r .count ≡ q .count
-      counts w =
-          let u = u32-says s (a .name-end) (r .count) (a .name-end + 4) (a .counted) in
-          let v = u32-says s (b .name-end) (q .count) (b .name-end + 4) (b .counted) in
-          u .value ∙ (ap le (w .equal) ∙ sym (v .value))
-
-  heads-same : Bytes s → Heads
-      → (a .types + r .count - (r .offset + 5) ≡ b .types + q .count - (q .offset + 5))
-      × SameParts s (r .offset + 5) (q .offset + 5) (a .types + r .count - (r .offset + 5))
-  heads-same bytes w =
-      let p = r .offset + 5 in
-      let o = q .offset + 5 in
-      let m = a .name-end in
-      let t = name-told s p m (a .named) in
-      let i = name-moves s p m (a .named) in
-      let l = class-places s rows r a in
-      let u = name-told s o (b .name-end) (b .named) in
-      let j = name-moves s o (b .name-end) (b .named) in
-      let k = class-places s rows q b in
-      let x = string-same s bytes p o (t .0) m (u .0) (b .name-end) (t .1) (u .1) (w .name) in
-      let y : times (nameAt s) (r .count) (b .name-end + 4) ≡ F.End (b .types)
-      = subst (λ (x : ℕ). times (nameAt s) x (b .name-end + 4) ≡ F.End (b .types)) (sym (w .count)) (b .names) in
-      let z = names-same s bytes (r .count) (m + 4) (b .name-end + 4) (a .types) (b .types) (omega (arith, l .0, l .1)) (omega (arith, k .0, k .1))
-      (a .names) y (w .names) in
-      let c = w .count in
-      let w1 = parts-join s (m + 4) (b .name-end + 4) (a .types - (m + 4)) (r .count) (z .1)
-      (moved (m + 4 + (a .types - (m + 4))) (b .name-end + 4 + (a .types - (m + 4))) (omega (arith, l .0)) (omega (arith, k .0, z .0)) (w .types)) in
-      let w2 = parts-join s m (b .name-end) 4 (a .types - (m + 4) + r .count) (counted bytes c) w1 in
-      let w3 = parts-join s p o (m - p) (4 + (a .types - (m + 4) + r .count)) (x .1)
-      (moved (p + (m - p)) (o + (m - p)) (omega (arith, i .0)) (omega (arith, j .0, x .0)) w2) in
-      let d : a .types + r .count - p ≡ m - p + (4 + (a .types - (m + 4) + r .count)) = omega (arith, l .0, i .0) in
-      (omega (arith, l .0, i .0, k .0, j .0, x .0, z .0), rw d w3)
-    where
-      moved : {m k n : ℕ} (x y : ℕ) → x ≡ m → y ≡ k → SameParts s m k n → SameParts s x y n
-      moved {m} {k} {n} x y e f w = subst (λ (z : ℕ). SameParts s x z n) (sym f) (subst (λ (z : ℕ). SameParts s z k n) (sym e) w)
-
-      number : Bytes s → (p v : ℕ) → u32At s p ≡ N32.Value v (p + 4) → part s p 4 ≡ leBytes 4 v
-      number bytes p v h =
-          let u = u32-says s p v (p + 4) h in
-          let l = length-part s p 4 (u .within) in
-          rw (u .value) (sym (rw l at (leBytes-le (part s p 4) (bytes-part s p 4 bytes))))
-
-      counted : Bytes s → r .count ≡ q .count → SameParts s (a .name-end) (b .name-end) 4
-      counted bytes e =
-          record {
-            first = u32-says s (a .name-end) (r .count) (a .name-end + 4) (a .counted) .within;
-            second = u32-says s (b .name-end) (q .count) (b .name-end + 4) (b .counted) .within;
-            equal = number bytes (a .name-end) (r .count) (a .counted) ∙ (ap (leBytes 4) e ∙ sym (number bytes (b .name-end) (q .count) (b .counted)));
-          }
+use Rattle.meaning.specs.Members.{members-count, Infos, members-of, members-same}
 
 -- ---- where a class comes from
 
@@ -223,30 +123,46 @@ module _ (s : List ℕ) (rows ps : List Row) (st : Stands s rows) (pl : Placed s
     other-infos : r .count ≡ q .count → Infos s rows (r .count) (b .types) (b .types + q .count)
     other-infos e = subst (λ (n : ℕ). Infos s rows n (b .types) (b .types + q .count)) (sym e) (class-infos q b)
 
-    abbrev headTest : Bool
-    headTest = sameBetween s (r .offset + 5) (a .types + r .count) (q .offset + 5) (b .types + q .count)
+    -- the names of a row's members
+    names-place : (x : Row) (c : ClassStands s rows x) → namesPlace s x ≡ c .name-end + 4
+    names-place x c = ap (λ (n : ℕ). n + 4) (name-after s (x .offset + 5) (c .name-end) (c .named))
 
-    abbrev infosTest : Bool
-    infosTest = sameInfos s ps (r .count) (a .types) (a .types + r .count) (b .types + q .count)
+    other-names : r .count ≡ q .count → times (nameAt s) (r .count) (b .name-end + 4) ≡ F.End (b .types)
+    other-names e = subst (λ (n : ℕ). times (nameAt s) n (b .name-end + 4) ≡ F.End (b .types)) (sym e) (b .names)
+
+    abbrev nameTest : Bool
+    nameTest = sameText s (r .offset + 5) (q .offset + 5)
+
+    abbrev membersTest : Bool
+    membersTest =
+        sameMembersAt s ps (r .count) (namesPlace s r) (a .types) (a .types + r .count) (namesPlace s q) (b .types) (b .types + q .count)
 
     abbrev rowTest : Bool
-    rowTest = pick (eqb (q .kind) (r .kind)) (pick headTest (pick infosTest (ownTest s ps r q) false) false) false
+    rowTest =
+        pick (eqb (q .kind) (r .kind))
+        (pick (eqb (q .count) (r .count)) (pick nameTest (pick membersTest (ownTest s ps r q) false) false) false)
+        false
+
+    name-test : nameTest ≡ sameBytes (textFrom s (r .offset + 5)) (textFrom s (q .offset + 5))
+    name-test =
+        same-texts s (r .offset + 5) (a .name-end) (q .offset + 5) (b .name-end)
+        (name-stands s (r .offset + 5) (a .name-end) (a .named)) (name-stands s (q .offset + 5) (b .name-end) (b .named))
 
     said-of : rowTest ≡ true → said s rows r a ≡ said s rows q b
     said-of t =
-        let w = pick-of (eqb (q .kind) (r .kind)) (pick headTest (pick infosTest (ownTest s ps r q) false) false) t in
-        let v = pick-of headTest (pick infosTest (ownTest s ps r q) false) (w .1) in
-        let u = pick-of infosTest (ownTest s ps r q) (v .1) in
-        let h = heads-of s rows r q a b (between-of s (r .offset + 5) (a .types + r .count) (q .offset + 5) (b .types + q .count) (v .0) .1) in
-        let d = details-of s rows ps st pl (r .count) (a .types) (b .types) (a .types + r .count) (b .types + q .count)
-        (class-infos r a) (other-infos (h .count)) (h .types) (u .0) in
-        let m : membersFrom s rows (r .count) (a .name-end + 4) (a .types) (a .types + r .count)
-        ≡ membersFrom s rows (r .count) (b .name-end + 4) (b .types) (b .types + q .count)
-        = members-zipped s rows (r .count) (a .name-end + 4) (a .types) (a .types + r .count)
-        ∙ (rw (h .names, d) (sym (members-zipped s rows (r .count) (b .name-end + 4) (b .types) (b .types + q .count)))) in
-        class-of (said s rows r a) (said s rows q b) (h .name)
-        (own-of s rows ps st pl r q (a .infos-end) (b .infos-end) (a .own) (b .own) (eqb-true (q .kind) (r .kind) (w .0)) (u .1))
-        (m ∙ ap (λ (n : ℕ). membersFrom s rows n (b .name-end + 4) (b .types) (b .types + q .count)) (h .count))
+        let own = ownTest s ps r q in
+        let x = pick-of (eqb (q .kind) (r .kind)) (pick (eqb (q .count) (r .count)) (pick nameTest (pick membersTest own false) false) false) t in
+        let w = pick-of (eqb (q .count) (r .count)) (pick nameTest (pick membersTest own false) false) (x .1) in
+        let v = pick-of nameTest (pick membersTest own false) (w .1) in
+        let u = pick-of membersTest own (v .1) in
+        let count : r .count ≡ q .count = sym (eqb-true (q .count) (r .count) (w .0)) in
+        let m = members-of s rows ps st pl (r .count) (a .name-end + 4) (a .types) (a .types + r .count) (b .name-end + 4) (b .types) (b .types + q .count)
+        (a .types) (b .types) (a .names) (other-names count) (class-infos r a) (other-infos count)
+        (rw (names-place r a, names-place q b) at (u .0)) in
+        class-of (said s rows r a) (said s rows q b)
+        (same-eq (textFrom s (r .offset + 5)) (textFrom s (q .offset + 5)) (sym name-test ∙ v .0))
+        (own-of s rows ps st pl r q (a .infos-end) (b .infos-end) (a .own) (b .own) (eqb-true (q .kind) (r .kind) (x .0)) (u .1))
+        (m ∙ ap (λ (n : ℕ). membersFrom s rows n (b .name-end + 4) (b .types) (b .types + q .count)) count)
 
     said-same : said s rows r a ≡ said s rows q b → rowTest ≡ true
     said-same e =
@@ -258,18 +174,16 @@ module _ (s : List ℕ) (rows ps : List Row) (st : Stands s rows) (pl : Placed s
         = sym (members-count s rows (r .count) (a .name-end + 4) (a .types) (a .types + r .count))
         ∙ (ap length members ∙ members-count s rows (q .count) (b .name-end + 4) (b .types) (b .types + q .count)) in
         let m = members ∙ ap (λ (n : ℕ). membersFrom s rows n (b .name-end + 4) (b .types) (b .types + q .count)) (sym count) in
-        let names = sym (members-names s rows (r .count) (a .name-end + 4) (a .types) (a .types + r .count))
-        ∙ (ap (map (λ (x : Member (List ℕ)). x .name)) m ∙ members-names s rows (r .count) (b .name-end + 4) (b .types) (b .types + q .count)) in
-        let details = sym (members-types s rows (r .count) (a .name-end + 4) (a .types) (a .types + r .count))
-        ∙ (ap (map (λ (x : Member (List ℕ)). x .type)) m ∙ members-types s rows (r .count) (b .name-end + 4) (b .types) (b .types + q .count)) in
-        let d = details-same s rows ps st pl (r .count) (a .types) (b .types) (a .types + r .count) (b .types + q .count)
-        (class-infos r a) (other-infos count) details in
-        let h = heads-same s rows r q a b (st .bytes) (record { name = name; count = count; names = names; types = d .0 }) in
         let o = own-same s rows ps st pl r q (a .infos-end) (b .infos-end) (a .own) (b .own) from in
-        pick-true (eqb (q .kind) (r .kind)) (pick headTest (pick infosTest (ownTest s ps r q) false) false) (eq-eqb (q .kind) (r .kind) (o .0))
-        (pick-true headTest (pick infosTest (ownTest s ps r q) false)
-        (true-between s (r .offset + 5) (a .types + r .count) (q .offset + 5) (b .types + q .count) (h .0) (h .1))
-        (pick-true infosTest (ownTest s ps r q) (d .1) (o .1)))
+        let own = ownTest s ps r q in
+        let there : membersTest ≡ true = rw (names-place r a, names-place q b)
+        (members-same s rows ps st pl (r .count) (a .name-end + 4) (a .types) (a .types + r .count) (b .name-end + 4) (b .types) (b .types + q .count)
+        (a .types) (b .types) (a .names) (other-names count) (class-infos r a) (other-infos count) m) in
+        pick-true (eqb (q .kind) (r .kind)) (pick (eqb (q .count) (r .count)) (pick nameTest (pick membersTest own false) false) false)
+        (eq-eqb (q .kind) (r .kind) (o .0))
+        (pick-true (eqb (q .count) (r .count)) (pick nameTest (pick membersTest own false) false) (eq-eqb (q .count) (r .count) (sym count))
+        (pick-true nameTest (pick membersTest own false) (name-test ∙ true-same (textFrom s (r .offset + 5)) (textFrom s (q .offset + 5)) name)
+        (pick-true membersTest own there (o .1))))
 
     same-said : (m n : ℕ) → sameClassRow s ps (withSlot (withId r m) (a .types)) (withSlot (withId q n) (b .types)) ≡ sameClass (said s rows r a) (said s rows q b)
     unfolding sameClassRow sameOwn
@@ -293,7 +207,7 @@ module _ (s : List ℕ) (rows ps : List Row) (st : Stands s rows) (pl : Placed s
   other-class : (a b : Row) → isClass (a .kind) ≡ true → isClass (b .kind) ≡ false → sameClassRow s ps a b ≡ false
   unfolding sameClassRow
   other-class a b k l =
-      ap (λ (t : Bool). pick t (pick (sameBetween s (a .offset + 5) (infosPlace a) (b .offset + 5) (infosPlace b)) (sameDetails s ps a b) false) false)
+      ap (λ (t : Bool). pick t (pick (eqb (b .count) (a .count)) (pick (sameText s (a .offset + 5) (b .offset + 5)) (sameDetails s ps a b) false) false) false)
       (ne-eqb (b .kind) (a .kind) (λ e. apart (sym l ∙ (ap isClass e ∙ k))))
 
   -- scans over the rows by a class's bytes and by what it says

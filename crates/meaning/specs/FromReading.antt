@@ -1,6 +1,6 @@
 -- The rows of an accepted stream stand in it: what each record's fields say where the row says they do, with the links in the rows.
 use Prim.Native.Nat.{ℕ, suc, _+_, _-_, _≤_, _<_}
-use mathlib.Core.Path.{_≡_, sym, ap, subst, _∙_}
+use mathlib.Core.Path.{_≡_, refl, sym, ap, subst, _∙_}
 use mathlib.Core.Bool.{Bool, true, false}
 use mathlib.Core.List.{List}
 use native.Mathlib.Omega.{arith}
@@ -8,23 +8,25 @@ use lib.ListN.{length, getD, take}
 use Rattle.format.specs.declared.Number32.the-variants as N32
 use Rattle.format.specs.declared.Field.the-variants as F
 use Rattle.format.specs.declared.Row.{Row}
-use Rattle.format.specs.Values.{times}
+use Rattle.format.specs.Values.{valueAt, times}
 use Rattle.format.specs.Types.{typeByteAt, nameAt}
-use Rattle.format.specs.Rows.{blank, isClass, withLink, linkOf, linked}
+use Rattle.format.specs.Rows.{blank, isClass, withLink, linkOf, boundLink, bound}
 use Rattle.format.specs.Records.{infosAt, afterInfos}
 use Rattle.format.specs.Says.{isNulls}
-use Rattle.format.specs.Machine.{accepted, readOf}
+use Rattle.format.specs.Machine.{accepted, rawOf, readOf}
 use Rattle.types.specs.Keeps.{name-told}
-use Rattle.links.specs.Links.{length-linked, linked-at}
 use Rattle.standing.specs.Standing.{Known, Recorded, Owned, apart, within, record-at, row-moves}
 use Rattle.standing.specs.Standing as K
-use Rattle.standing.specs.Accepted.{Taken, accepted-stands}
+use Rattle.standing.specs.Accepted.{Raw, raw-stands, accepted-stands}
 use Rattle.standing.specs.Fields.{Class, class-places, system-row, class-row}
 use Rattle.standing.specs.Plain.{string-row, library-row, typed-row, end-row, null-row, nulls-row, long-nulls-row}
 use Rattle.standing.specs.Arrays.{array-row, primitives-row, objects-row, strings-row}
-use Rattle.standing.specs.Linked.{same-kind, same-offset, same-end, same-owner, same-slot, to-class-linked, ToObject, to-object-linked, reference-link, root-link, owned-linked}
+use Rattle.standing.specs.Linked.{relinked, linked-is, bound-is, length-all, row-at, same-kind, same-offset, same-end, same-owner, same-slot, to-class-linked, ToObject, reference-link, root-link, owned-linked, Links, by-link, by-bound, bound-own}
 use Rattle.standing.specs.Known.{Later, first-later, own-later, info-later, infos-later}
+use Rattle.standing.specs.Codes.{value-code}
 use Rattle.standing.specs.Members.{membersIn, members-fit, members-linked}
+use Rattle.laws.specs.Kinds.{class-kind}
+use Rattle.meaning.specs.Marked.{TypesThere, ValueThere}
 use Rattle.meaning.specs.Stands.{Target, StringStands, OwnStands, of-system, of-library, ClassStands, ArrayStands, Owner, no-owner, owned, RowStands, the-header, by-id, a-class, a-string, an-array, a-primitive, a-reference, nulls, the-end, a-library, primitives, objects, texts, a-value, Stands}
 
 -- ---- links and owners
@@ -89,53 +91,55 @@ module _ {s : List ℕ} {before rows : List Row} {r : Row} (later : Later before
         info-end = a .info-end;
         info = info-later s later _ _ (a .info-end) (a .info-at);
         items = a .items;
+        items-at = a .items-at;
+        no-items = a .no-items;
         inside = inside;
       }
 
 -- ---- the rows of an accepted stream
 
-module _ {s : List ℕ} {room : ℕ} {rows : List Row} (bytes : (i : ℕ) → getD s i 0 < 256) (t : Taken s room rows) where
+module _ {s : List ℕ} {room : ℕ} {raw : List Row} (bytes : (i : ℕ) → getD s i 0 < 256) (t : Raw s room raw) (f : Row → ℕ) (L : Links raw f) where
   abbrev all : List Row
-  all = linked (t .raw)
+  all = relinked f raw
 
-  size : length all ≡ length (t .raw)
-  size = length-linked (t .raw)
+  size : length all ≡ length raw
+  size = length-all f raw
 
   root-target : Target all (getD all 0 blank .link)
-  root-target = target all _ _ (to-object-linked (t .raw) _ _ (root-link t))
+  root-target = target all _ _ (root-link t f (L .root _ (t .stands .headed)))
 
-  module _ (i : ℕ) (h : i < length (t .raw)) where
+  module _ (i : ℕ) (h : i < length raw) where
     abbrev row : Row
-    row = getD (t .raw) i blank
+    row = getD raw i blank
 
     moves : (row .offset < row .end) × (row .end ≤ length s)
     moves = row-moves (t .stands) i h
 
-    known : Later (take i (t .raw)) all
-    known = first-later i (t .raw)
+    known : Later (take i raw) all
+    known = first-later f i raw
 
-    recorded : (n : ℕ) → n < 32 → row .kind ≡ n → Recorded s (take i (t .raw)) row
+    recorded : (n : ℕ) → n < 32 → row .kind ≡ n → Recorded s (take i raw) row
     recorded n l k = record-at (t .stands) i h (λ e. omega arith)
 
-    with-link : RowStands s all i (withLink row (linkOf (t .raw) row)) → RowStands s all i (getD all i blank)
-    with-link x = subst (λ (r : Row). RowStands s all i r) (sym (linked-at (t .raw) i h)) x
+    with-link : RowStands s all i (withLink row (f row)) → RowStands s all i (getD all i blank)
+    with-link x = subst (λ (r : Row). RowStands s all i r) (sym (row-at f raw i h)) x
 
     by-kind : Known (row .kind) → RowStands s all i (getD all i blank)
     by-kind (K.header k) =
         let z : 0 ≡ i = sym (t .stands .header-first i h k) in
-        the-header (sym z) (same-kind (t .raw) i ∙ k) (subst (λ (j : ℕ). Target all (getD all j blank .link)) z root-target)
+        the-header (sym z) (same-kind f raw i ∙ k) (subst (λ (j : ℕ). Target all (getD all j blank .link)) z root-target)
     by-kind (K.class-by-id k) =
-        let c = to-class-linked (t .stands) i h k in
+        let c = to-class-linked (t .stands) i h k f (L .own _ k) in
         let a = c .some in
-        by-id (same-kind (t .raw) i ∙ k) (getD all i blank .link - 1) (omega arith) (c .before) (c .class)
+        by-id (same-kind f raw i ∙ k) (getD all i blank .link - 1) (omega arith) (c .before) (c .class)
     by-kind (K.system-class k) = with-link (a-class (ap isClass k) (system-stands known (recorded 4 (omega arith) k) (moves .1) _ k))
     by-kind (K.class k) = with-link (a-class (ap isClass k) (library-class-stands known (recorded 5 (omega arith) k) (moves .1) _ k))
     by-kind (K.string k) = with-link (a-string k (string-stands s _ _ (string-row (recorded 6 (omega arith) k) k)))
     by-kind (K.binary-array k) = with-link (an-array k (array-stands known (recorded 7 (omega arith) k) (moves .1) _ k))
     by-kind (K.typed-primitive k) =
         let w = typed-row (recorded 8 (omega arith) k) k in
-        with-link (a-primitive k (w .0) (omega (arith, w .1)) (moves .1))
-    by-kind (K.reference k) = a-reference (same-kind (t .raw) i ∙ k) (target all _ _ (to-object-linked (t .raw) _ _ (reference-link t i h k)))
+        with-link (a-primitive k (w .0) (w .2) (moves .1))
+    by-kind (K.reference k) = a-reference (same-kind f raw i ∙ k) (target all _ _ (reference-link t f i h k (L .reference _ k)))
     by-kind (K.null k) = with-link (nulls (ap isNulls k) (null-row (recorded 10 (omega arith) k) k))
     by-kind (K.ending k) =
         let e : suc i ≡ length all = t .stands .end-last i h k ∙ sym size in
@@ -145,7 +149,7 @@ module _ {s : List ℕ} {room : ℕ} {rows : List Row} (bytes : (i : ℕ) → ge
     by-kind (K.long-nulls k) = with-link (nulls (ap isNulls k) (long-nulls-row (recorded 14 (omega arith) k) k))
     by-kind (K.primitive-array k) =
         let w = primitives-row (recorded 15 (omega arith) k) k in
-        with-link (primitives k (w .count-at) (w .code-at) (w .items) (moves .1))
+        with-link (primitives k (w .count-at) (w .code-at) (w .items-at) (moves .1))
     by-kind (K.object-array k) =
         let w = objects-row (recorded 16 (omega arith) k) k in
         with-link (objects k (w .count-at) (w .ends))
@@ -156,70 +160,137 @@ module _ {s : List ℕ} {room : ℕ} {rows : List Row} (bytes : (i : ℕ) → ge
 
     kind-byte : (getD all i blank .kind ≡ 32 → ⊥) → getD s (getD all i blank .offset) 0 ≡ getD all i blank .kind
     kind-byte n =
-        ap (λ (p : ℕ). getD s p 0) (same-offset (t .raw) i)
-        ∙ (record-at (t .stands) i h (λ e. n (same-kind (t .raw) i ∙ e)) .byte ∙ sym (same-kind (t .raw) i))
+        ap (λ (p : ℕ). getD s p 0) (same-offset f raw i)
+        ∙ (record-at (t .stands) i h (λ e. n (same-kind f raw i ∙ e)) .byte ∙ sym (same-kind f raw i))
 
     forward : getD all i blank .offset < getD all i blank .end
     forward =
-        let a = same-offset (t .raw) i in
-        let b = same-end (t .raw) i in
+        let a = same-offset f raw i in
+        let b = same-end f raw i in
         omega (arith, moves .0)
 
     inside : getD all i blank .end ≤ length s
     inside =
-        let b = same-end (t .raw) i in
+        let b = same-end f raw i in
         omega (arith, moves .1)
 
     owner : Owner all (getD all i blank .owner)
     owner =
         let l = size in
         owner-is all i _ (omega arith)
-        (subst (λ (o : ℕ). Owned all i o) (sym (same-owner (t .raw) i)) (owned-linked (t .raw) i _ (t .stands .owners i h)))
+        (subst (λ (o : ℕ). Owned all i o) (sym (same-owner f raw i)) (owned-linked f raw i _ (t .stands .owners i h)))
 
   all-stand : Stands s all
   all-stand =
       let l = size in
       let w = t .stands in
       let c = w .counted in
-      let f = w .fits in
+      let g = w .fits in
       let n = w .some in
-      let within : (i : ℕ) → i < length all → i < length (t .raw) = λ i h. omega arith in
+      let within : (i : ℕ) → i < length all → i < length raw = λ i h. omega arith in
       record {
         bytes = bytes;
-        small = f;
+        small = g;
         few = omega arith;
         some = omega arith;
-        first = same-kind (t .raw) 0 ∙ w .headed;
+        first = same-kind f raw 0 ∙ w .headed;
         last =
-            same-kind (t .raw) (length all - 1)
-            ∙ subst (λ (n : ℕ). getD (t .raw) (n - 1) blank .kind ≡ 11) (sym l) (w .closed);
+            same-kind f raw (length all - 1)
+            ∙ subst (λ (n : ℕ). getD raw (n - 1) blank .kind ≡ 11) (sym l) (w .closed);
         each = λ i h. by-kind i (within i h) (w .kinds i (within i h));
         owners = λ i h. owner i (within i h);
         kind-byte = λ i h. kind-byte i (within i h);
         forward = λ i h. forward i (within i h);
-        next = λ i h. same-offset (t .raw) (suc i) ∙ (w .next i (within (suc i) h) ∙ sym (same-end (t .raw) i));
+        next = λ i h. same-offset f raw (suc i) ∙ (w .next i (within (suc i) h) ∙ sym (same-end f raw i));
         inside = λ i h. inside i (within i h);
       }
 
+-- the rows of a reading, with their links
 pub stands : (s : List ℕ) → ((i : ℕ) → getD s i 0 < 256) → (room : ℕ) (rows : List Row) → readOf s room ≡ accepted rows → Stands s rows
 stands s bytes room rows e =
     let t = accepted-stands s room rows e in
-    subst (λ (rows : List Row). Stands s rows) (sym (t .same)) (all-stand bytes t)
+    let raw = t .raw in
+    subst (λ (rows : List Row). Stands s rows) (sym (t .same ∙ linked-is raw)) (all-stand bytes (raw-stands s room raw (t .reads)) (linkOf raw) (by-link raw))
 
--- the members of all classes are no more than the stream has bytes
-pub members-small : (s : List ℕ) (room : ℕ) (rows : List Row) → readOf s room ≡ accepted rows → membersIn rows ≤ length s
-members-small s room rows e =
-    let t = accepted-stands s room rows e in
-    let a = members-fit (t .stands) in
-    let b : membersIn rows ≡ membersIn (t .raw) = ap membersIn (t .same) ∙ members-linked (t .raw) in
-    omega arith
+-- ---- the rows that tidying begins with
 
--- a library fills no slot
-pub library-slots : (s : List ℕ) (room : ℕ) (rows : List Row) → readOf s room ≡ accepted rows
-    → (i : ℕ) → i < length rows → getD rows i blank .kind ≡ 12 → getD rows i blank .slot ≡ 0
-library-slots s room rows e =
-    let t = accepted-stands s room rows e in
-    subst (λ (rows : List Row). (i : ℕ) → i < length rows → getD rows i blank .kind ≡ 12 → getD rows i blank .slot ≡ 0) (sym (t .same))
-    (λ i h k.
-    let l : length (linked (t .raw)) ≡ length (t .raw) = length-linked (t .raw) in
-    same-slot (t .raw) i ∙ t .stands .libraries i (omega arith) (sym (same-kind (t .raw) i) ∙ k))
+module _ (s : List ℕ) (room : ℕ) (raw : List Row) (e : rawOf s room ≡ accepted raw) where
+  t : Raw s room raw
+  t = raw-stands s room raw e
+
+  pub bound-stand : ((i : ℕ) → getD s i 0 < 256) → Stands s (bound raw)
+  bound-stand bytes = subst (λ (rows : List Row). Stands s rows) (sym (bound-is raw)) (all-stand bytes t (boundLink raw) (by-bound raw))
+
+  -- a class's row keeps the place of its type bytes
+  types-raw : (i : ℕ) → i < length raw → isClass (getD raw i blank .kind) ≡ true → TypesThere s (withLink (getD raw i blank) (boundLink raw (getD raw i blank)))
+  types-raw i h k =
+      class-kind (getD raw i blank .kind) k (λ (n : ℕ). getD raw i blank .kind ≡ n → TypesThere s (withLink r (boundLink raw r)))
+      (λ q. there false (λ z. omega arith) (λ z. omega arith) (λ z. omega arith) (λ x. system-row x q))
+      (λ q. there true (λ z. omega arith) (λ z. omega arith) (λ z. omega arith) (λ x. class-row x q))
+      refl
+    where
+      r : Row
+      r = getD raw i blank
+
+      there : (own : Bool) → (r .kind ≡ 32 → ⊥) → (r .kind ≡ 9 → ⊥) → (r .kind ≡ 0 → ⊥) → ((x : Recorded s (take i raw) r) → Class s (take i raw) own (r .offset) (x .head))
+          → TypesThere s (withLink r (boundLink raw r))
+      there own a b c class =
+          let x = record-at (t .stands) i h a in
+          let w = class x in
+          let places = class-places s (take i raw) own (r .offset) (x .head) w in
+          let n : x .head .count ≡ r .count = sym (x .same-count) in
+          let l : x .head .link ≡ boundLink raw r = sym (x .same-link) ∙ sym (bound-own raw r b c) in
+          record {
+            name-end = w .counts;
+            named = subst (λ (p : ℕ). nameAt s p ≡ F.End (w .counts)) (places .0) (w .name-at);
+            names =
+                subst (λ (p : ℕ). times (nameAt s) (r .count) p ≡ F.End (boundLink raw r)) (places .1)
+                (subst (λ (k : ℕ). times (nameAt s) k (w .names) ≡ F.End (boundLink raw r)) n (w .names-at ∙ ap F.End l));
+          }
+
+  pub bound-types : (i : ℕ) → i < length (bound raw) → isClass (getD (bound raw) i blank .kind) ≡ true → TypesThere s (getD (bound raw) i blank)
+  bound-types =
+      subst (λ (rows : List Row). (i : ℕ) → i < length rows → isClass (getD rows i blank .kind) ≡ true → TypesThere s (getD rows i blank)) (sym (bound-is raw))
+      (λ i h k.
+      let l = length-all (boundLink raw) raw in
+      let g : i < length raw = omega arith in
+      subst (TypesThere s) (sym (row-at (boundLink raw) raw i g)) (types-raw i g (ap isClass (sym (same-kind (boundLink raw) raw i)) ∙ k)))
+
+  -- the members of all classes are no more than the stream has bytes
+  pub members-small : membersIn (bound raw) ≤ length s
+  members-small =
+      let a = members-fit (t .stands) in
+      let b : membersIn (bound raw) ≡ membersIn raw = ap membersIn (bound-is raw) ∙ members-linked (boundLink raw) raw in
+      omega arith
+
+  -- a library fills no slot
+  pub library-slots : (i : ℕ) → i < length (bound raw) → getD (bound raw) i blank .kind ≡ 12 → getD (bound raw) i blank .slot ≡ 0
+  library-slots =
+      subst (λ (rows : List Row). (i : ℕ) → i < length rows → getD rows i blank .kind ≡ 12 → getD rows i blank .slot ≡ 0) (sym (bound-is raw))
+      (λ i h k.
+      let l = length-all (boundLink raw) raw in
+      same-slot (boundLink raw) raw i ∙ t .stands .libraries i (omega arith) (sym (same-kind (boundLink raw) raw i) ∙ k))
+
+  -- a member value's row keeps the number of its code
+  abbrev all-bound : List Row
+  all-bound = relinked (boundLink raw) raw
+
+  value-raw : (i : ℕ) → i < length raw → getD raw i blank .kind ≡ 32 → ValueThere s all-bound (getD all-bound i blank)
+  value-raw i h k =
+      let w = value-code s room raw e i h k in
+      let r = getD raw i blank in
+      let at = row-at (boundLink raw) raw i h in
+      let l : boundLink raw r ≡ r .link = bound-own raw r (λ z. omega arith) (λ z. omega arith) in
+      record {
+        code = w .code;
+        link-is = ap (λ (x : Row). x .link) at ∙ (l ∙ w .link-is);
+        reads = ap (λ (x : Row). valueAt s (w .code) (x .offset)) at ∙ (w .reads ∙ ap F.End (sym (ap (λ (x : Row). x .end) at)));
+        said = w .said-by (boundLink raw) (by-bound raw);
+      }
+
+  pub bound-values : (i : ℕ) → i < length (bound raw) → getD (bound raw) i blank .kind ≡ 32 → ValueThere s (bound raw) (getD (bound raw) i blank)
+  bound-values =
+      subst (λ (rows : List Row). (i : ℕ) → i < length rows → getD rows i blank .kind ≡ 32 → ValueThere s rows (getD rows i blank)) (sym (bound-is raw))
+      (λ i h k.
+      let l = length-all (boundLink raw) raw in
+      value-raw i (omega arith) (sym (same-kind (boundLink raw) raw i) ∙ k))

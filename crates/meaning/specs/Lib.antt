@@ -6,6 +6,7 @@ pub mod Names
 pub mod Members
 pub mod Equal
 pub mod Bytes
+pub mod ValueBytes
 pub mod ClassBytes
 pub mod ArrayBytes
 pub mod RecordBytes
@@ -24,3 +25,4 @@ pub mod Rising
 pub mod Words
 pub mod RowLibraries
 pub mod Link
+pub mod Bound

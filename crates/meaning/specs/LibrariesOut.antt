@@ -9,7 +9,7 @@ use lib.Dec.{eqb}
 use borrow.Author.Tests.{eqb-true}
 use Rattle.format.specs.declared.Row.{Row}
 use Rattle.format.specs.Bytes.{pick, sameBytes}
-use Rattle.format.specs.Contents.{Rec, library, enc, encs}
+use Rattle.format.specs.Contents.{shortest, Rec, library, enc, encs}
 use Rattle.format.specs.Types.{afterInfo}
 use Rattle.format.specs.Tidy.{numberIn, Libraries, entered, allEntered, libraryRecords}
 use Rattle.same.specs.Laws.{same-refl}
@@ -61,7 +61,7 @@ module _ (s : List ℕ) (rs : List Row) where
 -- a row that stands where the first row of the library at p stands writes this library, by the row's number
 pub record Spelled (s : List ℕ) (rows fs : List Row) (p : ℕ) : Type 0 where
   pub writes : (g : Row) → g .offset ≡ rowAt fs (libraryAt s fs p) .offset → g .end ≡ rowAt fs (libraryAt s fs p) .end
-      → libraryOut s g ≡ enc (library (g .link) (nameAtField s rows p))
+      → libraryOut s g ≡ enc (library (g .link) (shortest (nameAtField s rows p)))
 
 module _ (s : List ℕ) (rows fs : List Row) (F : Fields s rows fs) where
   field-number : (p : ℕ) → libraryNumber s (needed s fs) p ≡ rowAt (needed s fs) (libraryAt s fs p) .link
@@ -70,7 +70,7 @@ module _ (s : List ℕ) (rows fs : List Row) (F : Fields s rows fs) where
 
   field-out : (ls : Libraries) (p : ℕ) (more : List Rec) → Counted ls → Numbered s rows fs ls p → Spelled s rows fs p
       → needOut s (needed s fs) p ++ encs more
-      ≡ encs (pick (eqb (numberIn (sameBytes (nameAtField s rows p)) ls) 0) (library (suc (length ls)) (nameAtField s rows p) ∷ []) [] ++ more)
+      ≡ encs (pick (eqb (numberIn (sameBytes (nameAtField s rows p)) ls) 0) (library (suc (length ls)) (shortest (nameAtField s rows p)) ∷ []) [] ++ more)
   unfolding needOut encs
   field-out ls p more c v w =
       rw (like-at s fs (needed s fs) (needed-same s rows fs F) p, v .stamp) (go (eqb (numberIn (sameBytes n) ls) 0) refl)
@@ -84,16 +84,16 @@ module _ (s : List ℕ) (rows fs : List Row) (F : Fields s rows fs) where
       alike : unneeded g ≡ unneeded (rowAt fs (libraryAt s fs p))
       alike = needed-same s rows fs F .like (libraryAt s fs p - 1)
 
-      bytes : libraryOut s g ≡ enc (library (g .link) n)
+      bytes : libraryOut s g ≡ enc (library (g .link) (shortest n))
       bytes = w .writes g (ap (λ (r : Row). r .offset) alike) (ap (λ (r : Row). r .end) alike)
 
       go : (t : Bool) → eqb (numberIn (sameBytes n) ls) 0 ≡ t
-          → pick t (libraryOut s g) [] ++ encs more ≡ encs (pick t (library (suc (length ls)) n ∷ []) [] ++ more)
+          → pick t (libraryOut s g) [] ++ encs more ≡ encs (pick t (library (suc (length ls)) (shortest n) ∷ []) [] ++ more)
       go true q =
           let z = eqb-true (numberIn (sameBytes n) ls) 0 q in
           let l : g .link ≡ suc (length ls) =
           v .number ∙ (ap (numberIn (sameBytes n)) (entered-new n ls z) ∙ number-new (sameBytes n) ls (length ls) n c (same-refl n) z) in
-          ap (λ (b : List ℕ). b ++ encs more) (bytes ∙ ap (λ (k : ℕ). enc (library k n)) l)
+          ap (λ (b : List ℕ). b ++ encs more) (bytes ∙ ap (λ (k : ℕ). enc (library k (shortest n))) l)
       go false q = refl
 
   -- one field more

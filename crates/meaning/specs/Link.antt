@@ -7,26 +7,27 @@ use native.Mathlib.Omega.{arith}
 use lib.ListN.{length, getD}
 use lib.Dec.{eqb}
 use borrow.Author.Tests.{eqb-true, eqb-false}
+use Rattle.format.specs.declared.PrimitiveCode.{PrimitiveCode}
 use Rattle.format.specs.declared.Row.{Row}
-use Rattle.format.specs.Bytes.{pick, part}
+use Rattle.format.specs.Bytes.{pick}
 use Rattle.format.specs.Rows.{blank, isObject, isClass}
-use Rattle.format.specs.Contents.{Detail, Rec, header, classById, string, array, typedPrimitive, reference, end, primitiveArray, objectArray, stringArray, value, enc, encs}
-use Rattle.format.specs.Says.{Class, textFrom, codeFrom, classFrom, orderOf, whatFrom, isNulls, isSilent, says}
-use Rattle.format.specs.Tidy.{Progress, Libraries, numberIn, sameClass, allEntered, libraryRecords, classNeeds, detailNeeds, detailBy, classBy, objectBy, recordsOf, tidyOf}
+use Rattle.format.specs.Contents.{shortest, Detail, Rec, header, classById, string, array, typedPrimitive, reference, end, primitiveArray, objectArray, stringArray, value, enc, encs}
+use Rattle.format.specs.Says.{Class, textFrom, codeFrom, contentFrom, itemsFrom, codeOf, valueCode, classFrom, orderOf, whatFrom, isNulls, isSilent, says}
+use Rattle.format.specs.Tidy.{Progress, Libraries, numberIn, sameClass, allEntered, libraryRecords, classNeeds, detailNeeds, detailBy, valueBy, valuesBy, classBy, objectBy, recordsOf, tidyOf}
 use Rattle.laws.specs.Tests.{pick-of, class-eq, class-refl, differ, either}
 use Rattle.laws.specs.Kinds.{class-kind, class-is-object}
 use Rattle.laws.specs.Runs.{encs-append}
-use Rattle.put.specs.Out.{between, headOut, byIdOut, headerOut}
+use Rattle.put.specs.Out.{headOut, byIdOut, headerOut}
 use Rattle.marks.specs.Marks.{rowAt, withId, itemType, numbered, placed, firsts, needed, marked, isFirst}
 use Rattle.pieces.specs.Copy.{needClassOut, classOut, objectOut, arrayOut, bodyOut, needInfoOut, recordOut, copyOf}
 use Rattle.pieces.specs.Laws.{recordAs, record-as}
 use Rattle.meaning.specs.Stands.{RowStands, the-header, by-id, a-class, a-string, an-array, a-primitive, a-reference, nulls, the-end, a-library, primitives, objects, texts, a-value, ArrayStands, Stands}
-use Rattle.meaning.specs.Marked.{Placed, Firsts, classFields, arrayFields, rowFields, fieldsFrom, All, classFirst}
+use Rattle.meaning.specs.Marked.{TypesThere, ValueThere, Placed, Firsts, classFields, arrayFields, rowFields, fieldsFrom, All, classFirst}
 use Rattle.meaning.specs.Names.{class-at, array-at}
 use Rattle.meaning.specs.Bytes.{Numbered}
 use Rattle.meaning.specs.ClassBytes.{class-is}
-use Rattle.meaning.specs.ArrayBytes.{arrayItem, arrayLengths, itemsPlace, array-is}
-use Rattle.meaning.specs.RecordBytes.{header-is, by-id-is, reference-is, value-is, end-is, typed-is, string-is, primitives-is, objects-is, texts-is}
+use Rattle.meaning.specs.ArrayBytes.{arrayItem, arrayItems, arrayLengths, itemsPlace, array-is}
+use Rattle.meaning.specs.RecordBytes.{header-is, by-id-is, reference-is, member-is, end-is, typed-is, string-is, primitives-is, objects-is, texts-is}
 use Rattle.meaning.specs.Said.{records-by-id, records-system, records-class, records-string, records-array, records-typed, records-reference, records-primitives, records-objects, records-texts, records-value}
 use Rattle.meaning.specs.Passes.{object-not-library, placed-rows, firsts-rows}
 use Rattle.meaning.specs.Stamps.{Fields, needed-same}
@@ -104,7 +105,7 @@ module _ (s : List ℕ) (rows ps fs : List Row) (st : Stands s rows) (pl : Place
           let c = class-words s rows ps fs st pl fi i h k in
           let b : classOut s ms q ≡ enc (classBy ls (suc (w .count)) class (class .from)) =
           class-is s rows r (class-at s rows st i h k) q (ap (λ (z : Row). z .kind) c) (ap (λ (z : Row). z .offset) c) (ap (λ (z : Row). z .end) c)
-          (ap (λ (z : Row). z .count) c) (ap (λ (z : Row). z .slot) c) (st .bytes) ms ls numbers
+          (ap (λ (z : Row). z .count) c) (ap (λ (z : Row). z .slot) c) ms ls numbers
           ∙ ap (λ (n : ℕ). enc (classBy ls n class (class .from))) class-number in
           let f : classFirst s rows class ≡ i + 1 =
           eqb-true (classFirst s rows class) (i + 1) (pick-of (isClass (r .kind)) (eqb (classFirst s rows class) (i + 1)) e .1) in
@@ -187,7 +188,7 @@ module _ (s : List ℕ) (rows ps fs : List Row) (st : Stands s rows) (pl : Place
         let q : Row = getD fs i blank in
         let w : Progress = progressTo s rows i in
         let e : q ≡ withId r (orderOf rows (suc i)) = object-words s rows ps fs st pl fi i h (ap isObject k) (ap isClass k) in
-        let item : Detail (List ℕ) = arrayItem s rows r in
+        let item : Detail (List ℕ) (List ℕ) = arrayItem s rows r in
         let ls : Libraries = allEntered (detailNeeds item) (w .libraries) in
         let c : ArrayStands s rows r = array-at s rows st i h k in
         let kind : q .kind ≡ 7 = first-kind s rows ps fs st pl fi i h ∙ k in
@@ -200,9 +201,9 @@ module _ (s : List ℕ) (rows ps fs : List Row) (st : Stands s rows) (pl : Place
         let a : need ≡ encs (libraryRecords (detailNeeds item) (w .libraries)) =
         array-out s ms q ∙ row-out s rows ps fs st pl fi F i h (arrayFields s q) (detailNeeds item) fields needs spelled in
         let numbers : All (Numbered s rows ms ls) (arrayFields s q) = row-numbers s rows ps fs st pl fi F i h (arrayFields s q) (detailNeeds item) fields needs in
-        let whole : ℕ → Rec = λ (n : ℕ). array n (getD s (r .offset + 5) 0) (arrayLengths s r) (detailBy ls item) (between s (itemsPlace s r) (r .end)) in
+        let whole : ℕ → Rec = λ (n : ℕ). array n (getD s (r .offset + 5) 0) (arrayLengths s r) (detailBy ls item) (valuesBy (codeOf item) (arrayItems s r)) in
         let b : body ≡ enc (whole (suc (w .count))) =
-        array-is s rows r c q (ap (λ (z : Row). z .offset) e) (ap (λ (z : Row). z .end) e) ms (st .bytes) ls numbers
+        array-is s rows r c q (ap (λ (z : Row). z .offset) e) (ap (λ (z : Row). z .end) e) (ap (λ (z : Row). z .count) e) ms (st .bytes) ls numbers
         ∙ ap (λ (n : ℕ). enc (whole n)) (ap (λ (z : Row). z .id) e ∙ next-number (ap isObject k)) in
         from-first (ap isObject k)
         ∙ (record-as s ms i q 7 kind
@@ -275,15 +276,15 @@ module _ (s : List ℕ) (rows ps fs : List Row) (st : Stands s rows) (pl : Place
         said (getD rows i blank .kind) refl (class-kind (getD rows i blank .kind) k (λ (n : ℕ). isSilent n ≡ false) refl refl) (class-writes k)
     written (a-string k t) =
         said 6 k refl
-        (object-writes 6 (λ (n : ℕ). string n (textFrom s (getD rows i blank .offset + 5))) k refl refl
-        (string-is s (st .bytes) renumbered (getD rows i blank) refl refl t) (records-string s rows (getD rows i blank) (progressTo s rows i) k))
+        (object-writes 6 (λ (n : ℕ). string n (shortest (textFrom s (getD rows i blank .offset + 5)))) k refl refl
+        (string-is s (st .bytes) renumbered (getD rows i blank) refl refl) (records-string s rows (getD rows i blank) (progressTo s rows i) k))
     written (an-array k a) = said 7 k refl (array-writes k)
     written (a-primitive k c a b) =
-        let o = getD rows i blank .offset in
-        let e = getD rows i blank .end in
+        let r : Row = getD rows i blank in
+        let code = codeFrom s (r .offset + 1) in
         said 8 k refl
-        (other-writes 8 (typedPrimitive (codeFrom s (o + 1)) (part s (o + 2) (e - (o + 2)))) k refl refl
-        (typed-is s o e (st .kind-byte i h (λ z. absurd (omega arith)) ∙ k) c a) (records-typed s rows (getD rows i blank) (progressTo s rows i) k))
+        (other-writes 8 (typedPrimitive code (valueBy code (contentFrom s code (r .offset + 2)))) k refl refl
+        (typed-is s (st .bytes) r (st .kind-byte i h (λ z. absurd (omega arith)) ∙ k) c a) (records-typed s rows r (progressTo s rows i) k))
     written (a-reference k t) =
         let target : ℕ = orderOf rows (getD rows i blank .link) in
         said 9 k refl
@@ -308,9 +309,10 @@ module _ (s : List ℕ) (rows ps fs : List Row) (st : Stands s rows) (pl : Place
         record { first = λ z. absurd (omega arith); last = λ z. absurd (omega arith); each = λ a b. differ (sym (ap isSilent k) ∙ a) }
     written (primitives k u c a b) =
         let r : Row = getD rows i blank in
+        let code = codeFrom s (r .offset + 9) in
         said 15 k refl
-        (object-writes 15 (λ (n : ℕ). primitiveArray n (r .count) (codeFrom s (r .offset + 9)) (part s (r .offset + 10) (r .end - (r .offset + 10)))) k refl refl
-        (primitives-is s (st .bytes) renumbered r refl refl u k c a) (records-primitives s rows r (progressTo s rows i) k))
+        (object-writes 15 (λ (n : ℕ). primitiveArray n (r .count) code (valuesBy code (itemsFrom s code (r .count) (r .offset + 10)))) k refl refl
+        (primitives-is s (st .bytes) renumbered r refl refl u refl c a) (records-primitives s rows r (progressTo s rows i) k))
     written (objects k u e) =
         let r : Row = getD rows i blank in
         said 16 k refl
@@ -322,10 +324,14 @@ module _ (s : List ℕ) (rows ps fs : List Row) (st : Stands s rows) (pl : Place
         (object-writes 17 (λ (n : ℕ). stringArray n (r .count)) k refl refl
         (texts-is s (st .bytes) renumbered r refl refl u k e) (records-texts s rows r (progressTo s rows i) k))
     written (a-value k a b) =
-        let o = getD rows i blank .offset in
-        let e = getD rows i blank .end in
+        let r : Row = getD rows i blank in
+        let w = pl .values i h k in
+        let code = valueCode s rows r in
         said 32 k refl
-        (other-writes 32 (value (part s o (e - o))) k refl refl (value-is s o e) (records-value s rows (getD rows i blank) (progressTo s rows i) k))
+        (other-writes 32 (value code (valueBy code (contentFrom s code (r .offset)))) k refl refl
+        (member-is s (st .bytes) r (w .code) (w .link-is) (w .reads)
+        ∙ ap (λ (c : PrimitiveCode). enc (value c (valueBy c (contentFrom s c (r .offset))))) (sym (w .said)))
+        (records-value s rows r (progressTo s rows i) k))
 
   -- marked rows write what the rows say
   pub writes : Writes s rows ms
@@ -344,13 +350,15 @@ module _ (s : List ℕ) (rows ps fs : List Row) (st : Stands s rows) (pl : Place
 
 -- ---- the link
 
-pub copy-is-tidy : (s : List ℕ) (rows : List Row) → Stands s rows
+pub copy-of-rows : (s : List ℕ) (rows : List Row) → Stands s rows
+    → ((i : ℕ) → i < length rows → isClass (getD rows i blank .kind) ≡ true → TypesThere s (getD rows i blank))
+    → ((i : ℕ) → i < length rows → getD rows i blank .kind ≡ 32 → ValueThere s rows (getD rows i blank))
     → ((i : ℕ) → i < length rows → getD rows i blank .kind ≡ 12 → getD rows i blank .slot ≡ 0) → copyOf s (marked s rows) ≡ tidyOf (says s rows)
 unfolding marked
-copy-is-tidy s rows st fresh =
+copy-of-rows s rows st types values fresh =
     let ps : List Row = placed s (numbered rows) in
     let fs : List Row = firsts s ps in
     let few = st .few in
-    let pl : Placed s rows ps = placed-rows s rows (omega arith) in
+    let pl : Placed s rows ps = placed-rows s rows (omega arith) types values in
     let fi : Firsts s rows ps fs = firsts-rows s rows ps in
     copied s rows (needed s fs) st (writes s rows ps fs st pl fi (fields-hold s rows ps fs st pl fi fresh) (fields-spelled s rows ps fs st pl fi))

@@ -1,15 +1,16 @@
--- Members: names that are alike, and types with their details that pass the test of the marks where they are equal.
+-- Members: names, and types with their details, pass the test of the marks where they are equal.
 use Prim.Native.Nat.{ℕ, zero, suc, _+_, _-_, _≤_, _<_}
 use mathlib.Core.Path.{_≡_, refl, sym, ap, ap₂, subst, _∙_}
-use mathlib.Core.Bool.{true}
-use mathlib.Core.List.{List, [], _∷_, map}
+use mathlib.Core.Bool.{true, false}
+use mathlib.Core.List.{List, [], _∷_}
 use native.Mathlib.Omega.{arith}
 use lib.ListN.{length, getD}
 use lib.Dec.{eqb}
+use borrow.Author.Tests.{eq-eqb, eqb-true}
 use Rattle.format.specs.declared.Coded.{Coded}
 use Rattle.format.specs.declared.Field.the-variants as F
 use Rattle.format.specs.declared.Row.{Row}
-use Rattle.format.specs.Bytes.{sameBytes}
+use Rattle.format.specs.Bytes.{pick, sameBytes}
 use Rattle.format.specs.Types.{codeNumber, coded, primitiveOf, codeAt, typeByteAt, nameAt, infoAt, afterText, afterInfo}
 use Rattle.format.specs.Values.{times}
 use Rattle.format.specs.Records.{infoKnown, infosAt}
@@ -17,62 +18,26 @@ use Rattle.format.specs.Contents.{Detail, primitive, text, object, system, clas
 use Rattle.format.specs.Says.{textFrom, numberFrom, codeFrom, libraryName, detailFrom, membersFrom}
 use Rattle.fields.specs.Parts.{part-cons}
 use Rattle.fields.specs.Sequence.{through}
-use Rattle.num.specs.Le.{Bytes}
-use Rattle.codes.specs.Ends.{name-end}
 use Rattle.codes.specs.Codes.{number-primitive}
-use Rattle.types.specs.Keeps.{code-told, type-told, name-told, name-moves}
+use Rattle.types.specs.Keeps.{code-told, type-told, name-told}
 use Rattle.spans.specs.Judged.{name-after}
-use Rattle.class_info.specs.Moves.{names-there, info-plain, info-known-moves}
+use Rattle.class_info.specs.Moves.{info-plain, info-known-moves}
 use Rattle.same.specs.Laws.{SameParts, same-eq}
-use Rattle.laws.specs.Tests.{both-of, both-true, pick-of, pick-true, true-same}
+use Rattle.laws.specs.Tests.{pick-of, pick-true, true-same}
 use Rattle.laws.specs.Fields.{by-type}
-use Rattle.marks.specs.Marks.{libraryAt, sameBetween, sameInfo, sameInfos}
+use Rattle.marks.specs.Marks.{libraryAt, sameBetween, sameText, sameInfo, sameMembersAt}
 use Rattle.meaning.specs.Stands.{Stands}
 use Rattle.meaning.specs.Marked.{Placed, nameAtField}
-use Rattle.meaning.specs.Alike.{parts-first, parts-last, parts-join, between-of, true-between, string-shift, string-same, same-strings}
+use Rattle.meaning.specs.Alike.{between-of, true-between, same-texts}
 use Rattle.meaning.specs.Bytes.{info-place, type-is}
 use Rattle.meaning.specs.Names.{class-info, same-library}
 
--- ---- members: their names, and their types
+-- ---- how many members
 
-unfoldable pub namesFrom : List ℕ → ℕ → ℕ → List (List ℕ)
-namesFrom s zero p = []
-namesFrom s (suc n) p = textFrom s p ∷ namesFrom s n (afterText s p)
-
-unfoldable pub detailsFrom : List ℕ → List Row → ℕ → ℕ → ℕ → List (Detail (List ℕ))
-detailsFrom s rows zero types p = []
-detailsFrom s rows (suc n) types p = detailFrom s rows (getD s types 0) p ∷ detailsFrom s rows n (types + 1) (afterInfo s (getD s types 0) p)
-
-unfoldable pub zipped : List (List ℕ) → List (Detail (List ℕ)) → List (Member (List ℕ))
-zipped [] ds = []
-zipped (n ∷ ns) [] = []
-zipped (n ∷ ns) (d ∷ ds) = record { name = n; type = d } ∷ zipped ns ds
-
-module _ (s : List ℕ) (rows : List Row) where
-  pub members-zipped : (n names types p : ℕ) → membersFrom s rows n names types p ≡ zipped (namesFrom s n names) (detailsFrom s rows n types p)
-  unfolding membersFrom namesFrom detailsFrom zipped
-  members-zipped zero names types p = refl
-  members-zipped (suc n) names types p =
-      ap (λ (ms : List (Member (List ℕ))). record { name = textFrom s names; type = detailFrom s rows (getD s types 0) p } ∷ ms)
-      (members-zipped n (afterText s names) (types + 1) (afterInfo s (getD s types 0) p))
-
-  pub members-names : (n names types p : ℕ) → map (λ (m : Member (List ℕ)). m .name) (membersFrom s rows n names types p) ≡ namesFrom s n names
-  unfolding membersFrom namesFrom
-  members-names zero names types p = refl
-  members-names (suc n) names types p =
-      ap (λ (l : List (List ℕ)). textFrom s names ∷ l) (members-names n (afterText s names) (types + 1) (afterInfo s (getD s types 0) p))
-
-  pub members-types : (n names types p : ℕ) → map (λ (m : Member (List ℕ)). m .type) (membersFrom s rows n names types p) ≡ detailsFrom s rows n types p
-  unfolding membersFrom detailsFrom
-  members-types zero names types p = refl
-  members-types (suc n) names types p =
-      ap (λ (l : List (Detail (List ℕ))). detailFrom s rows (getD s types 0) p ∷ l)
-      (members-types n (afterText s names) (types + 1) (afterInfo s (getD s types 0) p))
-
-  pub members-count : (n names types p : ℕ) → length (membersFrom s rows n names types p) ≡ n
-  unfolding membersFrom
-  members-count zero names types p = refl
-  members-count (suc n) names types p = ap suc (members-count n (afterText s names) (types + 1) (afterInfo s (getD s types 0) p))
+pub members-count : (s : List ℕ) (rows : List Row) (n names types p : ℕ) → length (membersFrom s rows n names types p) ≡ n
+unfolding membersFrom
+members-count s rows zero names types p = refl
+members-count s rows (suc n) names types p = ap suc (members-count s rows n (afterText s names) (types + 1) (afterInfo s (getD s types 0) p))
 
 -- ---- single bytes and names
 
@@ -91,74 +56,11 @@ module _ (s : List ℕ) where
       let e = w .equal in
       cc
 
-  -- n names whose bytes are alike
-  pub names-shift : (n p q e f : ℕ) → p ≤ length s → times (nameAt s) n p ≡ F.End e → times (nameAt s) n q ≡ F.End f → SameParts s p q (e - p)
-      → (f ≡ q + (e - p)) × (namesFrom s n p ≡ namesFrom s n q)
-  unfolding times namesFrom
-  names-shift zero p q e f h x y w =
-      let a : p ≡ e = cc in
-      let b : q ≡ f = cc in
-      (omega arith, refl)
-  names-shift (suc n) p q e f h x y w =
-      let u = through (times (nameAt s) n) (nameAt s p) e x in
-      let v = through (times (nameAt s) n) (nameAt s q) f y in
-      let m = u .0 in
-      let i = name-moves s p m (u .1) in
-      let j = names-there s n m e (i .1) (u .2) in
-      let t = name-told s p m (u .1) in
-      let k : e - p ≡ m - p + (e - m) = omega arith in
-      let w2 = rw k at w in
-      let z = string-shift s p q (t .0) m (t .1) (parts-first s p q (m - p) (e - m) w2) in
-      let g = name-end s q (q + (t .0 - p)) (q + (m - p)) (z .0) in
-      let o : v .0 ≡ q + (m - p) = let c = v .1 in cc in
-      let a : p + (m - p) ≡ m = omega arith in
-      let w3 : SameParts s m (q + (m - p)) (e - m) = rw a at (parts-last s p q (m - p) (e - m) w2) in
-      let y2 : times (nameAt s) n (q + (m - p)) ≡ F.End f = rw o at (v .2) in
-      let r = names-shift n m (q + (m - p)) e f (i .1) (u .2) y2 w3 in (
-        omega (arith, r .0),
-        ap₂ (λ (x : List ℕ) (l : List (List ℕ)). x ∷ l) (z .1)
-            (ap (namesFrom s n) (name-after s p m (u .1)) ∙ (r .1 ∙ ap (namesFrom s n) (sym (name-after s q (q + (m - p)) g)))),
-      )
-
-  module _ (bytes : Bytes s) where
-    -- n names that are alike
-    pub names-same : (n p q e f : ℕ) → p ≤ length s → q ≤ length s → times (nameAt s) n p ≡ F.End e → times (nameAt s) n q ≡ F.End f
-        → namesFrom s n p ≡ namesFrom s n q → (e - p ≡ f - q) × SameParts s p q (e - p)
-    unfolding times namesFrom
-    names-same zero p q e f h g x y l =
-        let a : p ≡ e = cc in
-        let b : q ≡ f = cc in
-        let c : e - p ≡ 0 = omega arith in
-        (omega arith, rw c (parts-none p q h g))
-    names-same (suc n) p q e f h g x y l =
-        let u = through (times (nameAt s) n) (nameAt s p) e x in
-        let v = through (times (nameAt s) n) (nameAt s q) f y in
-        let l2 = rw (name-after s p (u .0) (u .1), name-after s q (v .0) (v .1)) at l in
-        names-step n p q (u .0) (v .0) e f (u .1) (v .1) (u .2) (v .2) (cc)
-        (names-same n (u .0) (v .0) e f (name-moves s p (u .0) (u .1) .1) (name-moves s q (v .0) (v .1) .1) (u .2) (v .2) (cc))
-      where
-        names-step : (n p q m k e f : ℕ) → nameAt s p ≡ F.End m → nameAt s q ≡ F.End k → times (nameAt s) n m ≡ F.End e → times (nameAt s) n k ≡ F.End f
-            → textFrom s p ≡ textFrom s q → (e - m ≡ f - k) × SameParts s m k (e - m) → (e - p ≡ f - q) × SameParts s p q (e - p)
-        names-step n p q m k e f a b x y t r =
-            let i = name-moves s p m a in
-            let j = name-moves s q k b in
-            let o = names-there s n m e (i .1) x in
-            let u = names-there s n k f (j .1) y in
-            let c = name-told s p m a in
-            let d = name-told s q k b in
-            let z = string-same s bytes p q (c .0) m (d .0) k (c .1) (d .1) t in
-            let g : e - p ≡ m - p + (e - m) = omega arith in
-            let v : m ≡ p + (m - p) = omega arith in
-            let w : k ≡ q + (m - p) = omega (arith, z .0) in
-            let last : SameParts s (p + (m - p)) (q + (m - p)) (e - m)
-            = subst (λ (y : ℕ). SameParts s (p + (m - p)) y (e - m)) w (subst (λ (x : ℕ). SameParts s x k (e - m)) v (r .1)) in
-            (omega (arith, z .0, r .0), rw g (parts-join s p q (m - p) (e - m) (z .1) last))
-
-    name-same : (p q m k : ℕ) → nameAt s p ≡ F.End m → nameAt s q ≡ F.End k → sameBetween s p m q k ≡ sameBytes (textFrom s p) (textFrom s q)
-    name-same p q m k a b =
-        let c = name-told s p m a in
-        let d = name-told s q k b in
-        same-strings s bytes p m q k (record { from = c .0; text = c .1 }) (record { from = d .0; text = d .1 })
+  name-same : (p q m k : ℕ) → nameAt s p ≡ F.End m → nameAt s q ≡ F.End k → sameText s p q ≡ sameBytes (textFrom s p) (textFrom s q)
+  name-same p q m k a b =
+      let c = name-told s p m a in
+      let d = name-told s q k b in
+      same-texts s p m q k (record { from = c .0; text = c .1 }) (record { from = d .0; text = d .1 })
 
   -- two codes
   code-number : (p e : ℕ) → codeAt s p ≡ F.End e → codeNumber (codeFrom s p) ≡ getD s p 0
@@ -204,13 +106,13 @@ module _ (s : List ℕ) (rows ps : List Row) (st : Stands s rows) (pl : Placed s
       let j : v .1 ≡ y - 4 = omega (arith, v .3) in
       let m : nameAt s a ≡ F.End (x - 4) = rw i at (u .2) in
       let n : nameAt s b ≡ F.End (y - 4) = rw j at (v .2) in
-      let names = name-same s (st .bytes) a b (x - 4) (y - 4) m n in
+      let names = name-same s a b (x - 4) (y - 4) m n in
       let libraries = same-library s rows ps st pl (x - 4) (y - 4) (u .0) (v .0) in
       let k = nameAtField s rows (x - 4) in
       let l = nameAtField s rows (y - 4) in
       let c : detailFrom s rows 4 a ≡ class (textFrom s a) k = ap (λ (z : ℕ). class (textFrom s a) (libraryName s rows (numberFrom s z))) (name-after s a (x - 4) m) in
       let d : detailFrom s rows 4 b ≡ class (textFrom s b) l = ap (λ (z : ℕ). class (textFrom s b) (libraryName s rows (numberFrom s z))) (name-after s b (y - 4) n) in
-      let test = sameBetween s a (x - 4) b (y - 4) in
+      let test = sameText s a b in
       let firsts = eqb (libraryAt s ps (x - 4)) (libraryAt s ps (y - 4)) in (
         (λ t.
             let w = pick-of test firsts t in
@@ -239,11 +141,11 @@ module _ (s : List ℕ) (rows ps : List Row) (st : Stands s rows) (pl : Placed s
   fair-system : Fair s rows ps 3
   unfolding sameInfo detailFrom infoAt
   fair-system a x b y h g p q =
-      let w = name-same s (st .bytes) a b x y (info-plain s rows 3 a x p) (info-plain s rows 3 b y q) in
+      let w = name-same s a b x y (info-plain s rows 3 a x p) (info-plain s rows 3 b y q) in
       ((λ t. ap system (same-eq (textFrom s a) (textFrom s b) (sym w ∙ t))), (λ t. w ∙ true-same (textFrom s a) (textFrom s b) cc))
 
   -- a type without a detail
-  fair-none : (d : Detail (List ℕ)) (t : ℕ) → ((p : ℕ) → infoAt s t p ≡ F.End p) → ((p : ℕ) → detailFrom s rows t p ≡ d)
+  fair-none : (d : Detail (List ℕ) (List ℕ)) (t : ℕ) → ((p : ℕ) → infoAt s t p ≡ F.End p) → ((p : ℕ) → detailFrom s rows t p ≡ d)
       → ((a x b y : ℕ) → sameInfo s ps t a x b y ≡ sameBetween s a x b y) → Fair s rows ps t
   fair-none d t i f k a x b y h g p q = (
     (λ e. f a ∙ sym (f b)),
@@ -303,56 +205,77 @@ next-info s rows n t p w =
           };
     }
 
-module _ (s : List ℕ) (rows ps : List Row) (st : Stands s rows) (pl : Placed s rows ps) where
-  -- details that pass the test, their type bytes alike
-  pub details-of : (n t u p q : ℕ) → Infos s rows n t p → Infos s rows n u q → SameParts s t u n → sameInfos s ps n t p q ≡ true
-      → detailsFrom s rows n t p ≡ detailsFrom s rows n u q
-  unfolding sameInfos detailsFrom
-  details-of zero t u p q v w a e = refl
-  details-of (suc n) t u p q v w a e =
-      let x = next-info s rows n t p v in
-      let y = next-info s rows n u q w in
-      let b = getD s t 0 in
-      let m = x .info-end in
-      let k = y .info-end in
-      let o : suc n ≡ 1 + n = omega arith in
-      let a2 = rw o at a in
-      let c : b ≡ getD s u 0 = byte-of s t u (parts-first s t u 1 n a2) in
-      let j : infoKnown s rows b q ≡ F.End k = subst (λ (z : ℕ). infoKnown s rows z q ≡ F.End k) (sym c) (y .info) in
-      let f = info-place s rows b p m (x .info) in
-      let g = info-place s rows b q k j in
-      let h = both-of (sameInfo s ps b p m q k) (sameInfos s ps n (t + 1) m k) (rw (f, g) at e) in
-      let i = fair s rows ps st pl b (x .type) p m q k (v .inside) (w .inside) (x .info) j .0 (h .0) in
-      let r = details-of n (t + 1) (u + 1) m k (x .others) (y .others) (parts-last s t u 1 n a2) (h .1) in
-      ap (λ (z : ℕ). detailFrom s rows b p ∷ detailsFrom s rows n (t + 1) z) f
-      ∙ (ap (λ (d : Detail (List ℕ)). d ∷ detailsFrom s rows n (t + 1) m) i
-      ∙ (ap (λ (l : List (Detail (List ℕ))). detailFrom s rows b q ∷ l) r
-      ∙ (ap (λ (z : ℕ). detailFrom s rows b q ∷ detailsFrom s rows n (u + 1) z) (sym g)
-      ∙ ap (λ (z : ℕ). detailFrom s rows z q ∷ detailsFrom s rows n (u + 1) (afterInfo s z q)) c)))
+-- ---- members
 
-  -- equal details pass the test, and their type bytes are alike
-  pub details-same : (n t u p q : ℕ) → Infos s rows n t p → Infos s rows n u q → detailsFrom s rows n t p ≡ detailsFrom s rows n u q
-      → SameParts s t u n × (sameInfos s ps n t p q ≡ true)
-  unfolding sameInfos detailsFrom
-  details-same zero t u p q v w e = (parts-none s t u (v .begins) (w .begins), refl)
-  details-same (suc n) t u p q v w e =
+joined : {n m : List ℕ} {d e : Detail (List ℕ) (List ℕ)} {ms ns : List (Member (List ℕ) (List ℕ))} → n ≡ m → d ≡ e → ms ≡ ns
+    → _≡_ {A = List (Member (List ℕ) (List ℕ))} (record { name = n; type = d } ∷ ms) (record { name = m; type = e } ∷ ns)
+joined p q r = rw (p, q, r)
+
+apart-at : {x y : Member (List ℕ) (List ℕ)} {ms ns : List (Member (List ℕ) (List ℕ))} → x ∷ ms ≡ y ∷ ns → (x ≡ y) × (ms ≡ ns)
+apart-at e = (cc, cc)
+
+-- n members of two classes: names from a and b on, type bytes from t and u on, details from p and q on
+module _ (s : List ℕ) (rows ps : List Row) (st : Stands s rows) (pl : Placed s rows ps) where
+  pub members-of : (n a t p b u q e f : ℕ) → times (nameAt s) n a ≡ F.End e → times (nameAt s) n b ≡ F.End f → Infos s rows n t p → Infos s rows n u q
+      → sameMembersAt s ps n a t p b u q ≡ true → membersFrom s rows n a t p ≡ membersFrom s rows n b u q
+  unfolding times sameMembersAt membersFrom
+  members-of zero a t p b u q e f g h v w z = refl
+  members-of (suc n) a t p b u q e f g h v w z =
       let x = next-info s rows n t p v in
       let y = next-info s rows n u q w in
-      let b = getD s t 0 in
+      let i = through (times (nameAt s) n) (nameAt s a) e g in
+      let j = through (times (nameAt s) n) (nameAt s b) f h in
+      let type = getD s t 0 in
       let m = x .info-end in
       let k = y .info-end in
-      let o : suc n ≡ 1 + n = omega arith in
-      let d : detailFrom s rows b p ≡ detailFrom s rows (getD s u 0) q = cc in
-      let l : detailsFrom s rows n (t + 1) (afterInfo s b p) ≡ detailsFrom s rows n (u + 1) (afterInfo s (getD s u 0) q) = cc in
-      let c : b ≡ getD s u 0 = sym (type-is s rows b p (x .type)) ∙ (ap typeByte d ∙ type-is s rows (getD s u 0) q (y .type)) in
-      let j : infoKnown s rows b q ≡ F.End k = subst (λ (z : ℕ). infoKnown s rows z q ≡ F.End k) (sym c) (y .info) in
-      let f = info-place s rows b p m (x .info) in
-      let g = info-place s rows b q k j in
-      let l2 : detailsFrom s rows n (t + 1) m ≡ detailsFrom s rows n (u + 1) k
-      = ap (detailsFrom s rows n (t + 1)) (sym f) ∙ (l ∙ ap (detailsFrom s rows n (u + 1)) (info-place s rows (getD s u 0) q k (y .info))) in
-      let i = fair s rows ps st pl b (x .type) p m q k (v .inside) (w .inside) (x .info) j .1
-      (d ∙ ap (λ (z : ℕ). detailFrom s rows z q) (sym c)) in
-      let r = details-same n (t + 1) (u + 1) m k (x .others) (y .others) l2 in (
-        rw o (parts-join s t u 1 n (byte-same s t u (x .there) (y .there) c) (r .0)),
-        rw (f, g) (both-true (sameInfo s ps b p m q k) (sameInfos s ps n (t + 1) m k) i (r .1)),
-      )
+      let same = sameInfo s ps type p (afterInfo s type p) q (afterInfo s type q) in
+      let rest = sameMembersAt s ps n (afterText s a) (t + 1) (afterInfo s type p) (afterText s b) (u + 1) (afterInfo s type q) in
+      let one = pick-of (sameText s a b) (pick (eqb type (getD s u 0)) (pick same rest false) false) z in
+      let two = pick-of (eqb type (getD s u 0)) (pick same rest false) (one .1) in
+      let three = pick-of same rest (two .1) in
+      let c : type ≡ getD s u 0 = eqb-true type (getD s u 0) (two .0) in
+      let known : infoKnown s rows type q ≡ F.End k = subst (λ (z : ℕ). infoKnown s rows z q ≡ F.End k) (sym c) (y .info) in
+      let o = info-place s rows type p m (x .info) in
+      let r = info-place s rows type q k known in
+      let d = name-after s a (i .0) (i .1) in
+      let l = name-after s b (j .0) (j .1) in
+      let detail = fair s rows ps st pl type (x .type) p m q k (v .inside) (w .inside) (x .info) known .0 (rw (o, r) at (three .0)) in
+      let name = same-eq (textFrom s a) (textFrom s b) (sym (name-same s a b (i .0) (j .0) (i .1) (j .1)) ∙ one .0) in
+      let more = members-of n (i .0) (t + 1) m (j .0) (u + 1) k e f (i .2) (j .2) (x .others) (y .others) (rw (d, l, o, r) at (three .1)) in
+      joined name (detail ∙ ap (λ (z : ℕ). detailFrom s rows z q) c)
+      (ap₂ (λ (x y : ℕ). membersFrom s rows n x (t + 1) y) d o
+      ∙ (more ∙ sym (ap₂ (λ (x y : ℕ). membersFrom s rows n x (u + 1) y) l (info-place s rows (getD s u 0) q k (y .info)))))
+
+  pub members-same : (n a t p b u q e f : ℕ) → times (nameAt s) n a ≡ F.End e → times (nameAt s) n b ≡ F.End f → Infos s rows n t p → Infos s rows n u q
+      → membersFrom s rows n a t p ≡ membersFrom s rows n b u q → sameMembersAt s ps n a t p b u q ≡ true
+  unfolding times sameMembersAt membersFrom
+  members-same zero a t p b u q e f g h v w z = refl
+  members-same (suc n) a t p b u q e f g h v w z =
+      let x = next-info s rows n t p v in
+      let y = next-info s rows n u q w in
+      let i = through (times (nameAt s) n) (nameAt s a) e g in
+      let j = through (times (nameAt s) n) (nameAt s b) f h in
+      let type = getD s t 0 in
+      let m = x .info-end in
+      let k = y .info-end in
+      let both = apart-at z in
+      let name : textFrom s a ≡ textFrom s b = ap (λ (x : Member (List ℕ) (List ℕ)). x .name) (both .0) in
+      let detail : detailFrom s rows type p ≡ detailFrom s rows (getD s u 0) q = ap (λ (x : Member (List ℕ) (List ℕ)). x .type) (both .0) in
+      let c : type ≡ getD s u 0 = sym (type-is s rows type p (x .type)) ∙ (ap typeByte detail ∙ type-is s rows (getD s u 0) q (y .type)) in
+      let known : infoKnown s rows type q ≡ F.End k = subst (λ (z : ℕ). infoKnown s rows z q ≡ F.End k) (sym c) (y .info) in
+      let o = info-place s rows type p m (x .info) in
+      let r = info-place s rows type q k known in
+      let d = name-after s a (i .0) (i .1) in
+      let l = name-after s b (j .0) (j .1) in
+      let same = sameInfo s ps type p (afterInfo s type p) q (afterInfo s type q) in
+      let rest = sameMembersAt s ps n (afterText s a) (t + 1) (afterInfo s type p) (afterText s b) (u + 1) (afterInfo s type q) in
+      let more : membersFrom s rows n (i .0) (t + 1) m ≡ membersFrom s rows n (j .0) (u + 1) k
+      = sym (ap₂ (λ (x y : ℕ). membersFrom s rows n x (t + 1) y) d o)
+      ∙ (both .1 ∙ ap₂ (λ (x y : ℕ). membersFrom s rows n x (u + 1) y) l (info-place s rows (getD s u 0) q k (y .info))) in
+      pick-true (sameText s a b) (pick (eqb type (getD s u 0)) (pick same rest false) false)
+      (name-same s a b (i .0) (j .0) (i .1) (j .1) ∙ true-same (textFrom s a) (textFrom s b) name)
+      (pick-true (eqb type (getD s u 0)) (pick same rest false) (eq-eqb type (getD s u 0) c)
+      (pick-true same rest
+      (rw (o, r)
+      (fair s rows ps st pl type (x .type) p m q k (v .inside) (w .inside) (x .info) known .1 (detail ∙ ap (λ (z : ℕ). detailFrom s rows z q) (sym c))))
+      (rw (d, l, o, r) (members-same n (i .0) (t + 1) m (j .0) (u + 1) k e f (i .2) (j .2) (x .others) (y .others) more))))

@@ -10,32 +10,30 @@ use lib.ListN.{length, getD, List·getD-eq-default}
 use lib.Dec.{eqb}
 use borrow.Author.Tests.{eq-eqb, eqb-true, eqb-false}
 use Rattle.format.specs.declared.Refusal.the-variants as R
+use Rattle.format.specs.declared.Field.{Field}
 use Rattle.format.specs.declared.Field.the-variants as F
 use Rattle.format.specs.declared.Row.{Row}
-use Rattle.format.specs.Bytes.{pick, sameBytes, samePart}
+use Rattle.format.specs.Bytes.{pick, sameBytes}
 use Rattle.format.specs.Types.{nameAt, libraryIdAt, infoAt, afterInfo}
-use Rattle.format.specs.Values.{onEnd}
+use Rattle.format.specs.Values.{onEnd, times}
 use Rattle.format.specs.Rows.{blank, isObject, isClass, findFrom, libraryRow, withLink}
 use Rattle.format.specs.Records.{knownLibrary, infoKnown, infosAt, ownLibraryAt}
 use Rattle.format.specs.Says.{textFrom, numberFrom, libraryName, isNulls, orderOf}
-use Rattle.num.specs.Le.{Bytes}
 use Rattle.num.specs.Read.{u32-says}
 use Rattle.fields.specs.Judged.{no-end, picked}
 use Rattle.fields.specs.Sequence.{through}
 use Rattle.types.specs.Keeps.{library-told}
-use Rattle.spans.specs.Judged.{name-after, names-after}
 use Rattle.class_info.specs.Moves.{names-there, types-there, infos-moves}
 use Rattle.same.specs.Laws.{same-eq}
 use Rattle.lookups.specs.Find.{find-hit, library-at}
-use Rattle.strings.specs.Laws.{string-moves}
 use Rattle.laws.specs.Tests.{bool-ext, both-of, both-true, apart, pick-of, true-same}
 use Rattle.laws.specs.Kinds.{class-kind}
 use Rattle.laws.specs.Firsts.{find-alike, find-some}
-use Rattle.marks.specs.Marks.{sameTail, sameName, firstLibrary, libraryAt, sameBetween, typesPlace, itemType, word, withId, withSlot, firstClass, isFirst}
+use Rattle.marks.specs.Marks.{sameText, sameName, firstLibrary, libraryAt, itemType, withId, withSlot, firstClass, isFirst}
 use Rattle.meaning.specs.Stands.{StringStands, OwnStands, of-system, of-library, ClassStands, ArrayStands, RowStands, the-header, by-id, a-class, a-string, an-array, a-primitive, a-reference, nulls, the-end, a-library, primitives, objects, texts, a-value, Stands}
-use Rattle.meaning.specs.Marked.{Placed, Firsts, infoFields, classFields, arrayFields, rowFields, fieldsFrom, All, none, both, nameAtField, libraryFirst}
+use Rattle.meaning.specs.Marked.{TypesThere, Placed, Firsts, infoFields, classFields, arrayFields, rowFields, fieldsFrom, All, none, both, nameAtField, libraryFirst}
 use Rattle.meaning.specs.Bytes.{info-place}
-use Rattle.meaning.specs.Alike.{same-strings}
+use Rattle.meaning.specs.Alike.{same-texts}
 
 -- ---- what stands at a row, by its kind
 
@@ -106,29 +104,16 @@ module _ (s : List ℕ) (rows : List Row) (st : Stands s rows) (i : ℕ) (h : i 
 
 -- ---- two library rows
 
-tail-between : (s : List ℕ) (a b : Row) → a .offset + 5 ≤ a .end → b .offset + 5 ≤ b .end
-    → sameTail s 5 a b ≡ sameBetween s (a .offset + 5) (a .end) (b .offset + 5) (b .end)
-unfolding sameTail sameBetween
-tail-between s a b h g =
-    let p : a .end - a .offset - 5 ≡ a .end - (a .offset + 5) = omega arith in
-    let t = bool-ext (eqb (a .end - a .offset) (b .end - b .offset)) (eqb (a .end - (a .offset + 5)) (b .end - (b .offset + 5)))
-    (λ e. eq-eqb (a .end - (a .offset + 5)) (b .end - (b .offset + 5)) (omega (arith, eqb-true (a .end - a .offset) (b .end - b .offset) e)))
-    (λ e. eq-eqb (a .end - a .offset) (b .end - b .offset) (omega (arith, eqb-true (a .end - (a .offset + 5)) (b .end - (b .offset + 5)) e))) in
-    ap (λ (x : Bool). pick x (samePart s (a .offset + 5) (b .offset + 5) (a .end - a .offset - 5)) false) t
-    ∙ ap (λ (n : ℕ). pick (eqb (a .end - (a .offset + 5)) (b .end - (b .offset + 5))) (samePart s (a .offset + 5) (b .offset + 5) n) false) p
-
-pub same-name : (s : List ℕ) → Bytes s → (a b : Row) → StringStands s (a .offset + 5) (a .end) → StringStands s (b .offset + 5) (b .end)
+pub same-name : (s : List ℕ) (a b : Row) → StringStands s (a .offset + 5) (a .end) → StringStands s (b .offset + 5) (b .end)
     → b .kind ≡ 12 → sameName s a b ≡ sameBytes (textFrom s (a .offset + 5)) (textFrom s (b .offset + 5))
 unfolding sameName
-same-name s bytes a b v w k =
-    let m = string-moves s (a .offset + 5) (v .from) (a .end) (v .text) in
-    let n = string-moves s (b .offset + 5) (w .from) (b .end) (w .text) in
-    ap (λ (x : ℕ). pick (eqb x 12) (sameTail s 5 a b) false) k
-    ∙ (tail-between s a b (omega arith) (omega arith) ∙ same-strings s bytes (a .offset + 5) (a .end) (b .offset + 5) (b .end) v w)
+same-name s a b v w k =
+    ap (λ (x : ℕ). pick (eqb x 12) (sameText s (a .offset + 5) (b .offset + 5)) false) k
+    ∙ same-texts s (a .offset + 5) (a .end) (b .offset + 5) (b .end) v w
 
 other-kind : (s : List ℕ) (a b : Row) → eqb (b .kind) 12 ≡ false → sameName s a b ≡ false
 unfolding sameName
-other-kind s a b e = ap (λ (x : Bool). pick x (sameTail s 5 a b) false) e
+other-kind s a b e = ap (λ (x : Bool). pick x (sameText s (a .offset + 5) (b .offset + 5)) false) e
 
 -- ---- the fields that name libraries
 
@@ -236,10 +221,13 @@ module _ (s : List ℕ) (rows : List Row) where
 -- ---- the place of a class's type bytes, in the stream and in its row
 
 module _ (s : List ℕ) (rows : List Row) (r : Row) (c : ClassStands s rows r) where
-  pub types-place : typesPlace s r ≡ c .types
-  unfolding typesPlace
-  types-place =
-      rw (name-after s (r .offset + 5) (c .name-end) (c .named)) (names-after s (r .count) (c .name-end + 4) (c .types) (c .names))
+  types-place : TypesThere s r → r .link ≡ c .types
+  types-place t =
+      let e : t .name-end ≡ c .name-end = end-same (t .named) (c .named) in
+      end-same (t .names) (ap (λ (p : ℕ). times (nameAt s) (r .count) (p + 4)) e ∙ c .names)
+    where
+      end-same : {f : Field} {a b : ℕ} → f ≡ F.End a → f ≡ F.End b → a ≡ b
+      end-same p q = cc
 
   pub class-places : (c .name-end + 4 ≤ c .types) × (c .types + r .count ≤ length s) × (c .types + r .count ≤ c .infos-end) × (c .infos-end ≤ length s)
   class-places =
@@ -264,12 +252,7 @@ module _ (s : List ℕ) (rows ps : List Row) (st : Stands s rows) (pl : Placed s
   placed-class i h k =
       let r = getD rows i blank in
       let c = class-at s rows st i h k in
-      let w = class-places s rows r c in
-      let e : word (typesPlace s r) ≡ c .types = ap word (types-place s rows r c) ∙ small (c .types) (omega (arith, st .small, w .1)) in
-      pl .class i h k ∙ ap (λ (x : ℕ). withSlot (withId r (orderOf rows (suc i))) x) e
-    where
-      small : (n : ℕ) → n ≤ 16777216 → word n ≡ n
-      small n h = omega arith
+      pl .class i h k ∙ ap (λ (x : ℕ). withSlot (withId r (orderOf rows (suc i))) x) (types-place s rows r c (pl .types i h k))
 
   -- ---- the library that a number names, in the placed rows
 
@@ -321,7 +304,7 @@ module _ (s : List ℕ) (rows ps : List Row) (st : Stands s rows) (pl : Placed s
           → sameName s (getD rows j blank) (getD rows i blank) ≡ eqb (getD rows i blank .kind) 12 && sameBytes name (textFrom s (getD rows i blank .offset + 5))
       go i l true e =
           let q = eqb-true (getD rows i blank .kind) 12 e in
-          same-name s (st .bytes) (getD rows j blank) (getD rows i blank) (library-row s rows st j h k) (library-row s rows st i l q) q
+          same-name s (getD rows j blank) (getD rows i blank) (library-row s rows st j h k) (library-row s rows st i l q) q
           ∙ sym (ap (λ (b : Bool). b && sameBytes name (textFrom s (getD rows i blank .offset + 5))) e)
       go i l false e = other-kind s (getD rows j blank) (getD rows i blank) e ∙ sym (ap (λ (b : Bool). b && sameBytes name (textFrom s (getD rows i blank .offset + 5))) e)
 

@@ -10,9 +10,9 @@ use lib.Seq.{take-suc, take-add}
 use lib.Dec.{eqb, leb}
 use borrow.Author.Tests.{eqb-true, eqb-false, eq-eqb, ne-eqb, le-leb, lt-leb, leb-true, leb-false}
 use Rattle.format.specs.declared.Row.{Row}
-use Rattle.format.specs.Bytes.{pick, part}
+use Rattle.format.specs.Bytes.{pick}
 use Rattle.format.specs.Rows.{blank, isObject, isClass, findFrom}
-use Rattle.format.specs.Says.{Class, What, anObject, aString, aPrimitive, aReference, aPrimitiveArray, anObjectArray, aStringArray, aValue, node, textFrom, codeFrom, detailFrom, classFrom, arrayFrom, objectsIn, orderOf, whatFrom, spread, isNulls, isSilent, nodesOf}
+use Rattle.format.specs.Says.{Class, What, anObject, aString, aPrimitive, aReference, aPrimitiveArray, anObjectArray, aStringArray, aValue, node, textFrom, codeFrom, detailFrom, classFrom, arrayFrom, objectsIn, orderOf, whatFrom, spread, isNulls, isSilent, nodesOf, contentFrom, itemsFrom, valueCode}
 use Rattle.format.specs.Tidy.{sameClass, numberIn, Progress, nothing, allEntered, detailNeeds, classNeeds, afterObject, counted, afterWhat}
 use Rattle.lookups.specs.Find.{find-hit}
 use Rattle.laws.specs.Tests.{both-of, differ, either, neither}
@@ -61,12 +61,12 @@ module _ (s : List ℕ) (rows : List Row) (r : Row) where
       (pick (eqb k 5) (anObject (classFrom s rows r))
       (pick (eqb k 6) (aString (textFrom s (r .offset + 5)))
       (pick (eqb k 7) (arrayFrom s rows r)
-      (pick (eqb k 8) (aPrimitive (codeFrom s (r .offset + 1)) (part s (r .offset + 2) (r .end - (r .offset + 2))))
+      (pick (eqb k 8) (aPrimitive (codeFrom s (r .offset + 1)) (contentFrom s (codeFrom s (r .offset + 1)) (r .offset + 2)))
       (pick (eqb k 9) (aReference (orderOf rows (r .link)))
-      (pick (eqb k 15) (aPrimitiveArray (r .count) (codeFrom s (r .offset + 9)) (part s (r .offset + 10) (r .end - (r .offset + 10))))
+      (pick (eqb k 15) (aPrimitiveArray (r .count) (codeFrom s (r .offset + 9)) (itemsFrom s (codeFrom s (r .offset + 9)) (r .count) (r .offset + 10)))
       (pick (eqb k 16) (anObjectArray (r .count))
       (pick (eqb k 17) (aStringArray (r .count))
-      (aValue (part s (r .offset) (r .end - r .offset))))))))))))
+      (aValue (valueCode s rows r) (contentFrom s (valueCode s rows r) (r .offset))))))))))))
 
   pub what-as : (k : ℕ) → r .kind ≡ k → whatFrom s rows r ≡ whatAs k
   unfolding whatFrom
@@ -169,8 +169,8 @@ module _ (s : List ℕ) (rows : List Row) (w : Progress) (r : Row) where
     where
       go : (p q x y : Bool)
           → pick p w (pick q w (afterWhat w
-          (pick x (aPrimitive (codeFrom s (r .offset + 1)) (part s (r .offset + 2) (r .end - (r .offset + 2))))
-          (pick y (aReference (orderOf rows (r .link))) (aValue (part s (r .offset) (r .end - r .offset))))))) ≡ w
+          (pick x (aPrimitive (codeFrom s (r .offset + 1)) (contentFrom s (codeFrom s (r .offset + 1)) (r .offset + 2)))
+          (pick y (aReference (orderOf rows (r .link))) (aValue (valueCode s rows r) (contentFrom s (valueCode s rows r) (r .offset))))))) ≡ w
       go true q x y = refl
       go false true x y = refl
       go false false true y = refl

@@ -12,13 +12,13 @@ use borrow.Author.Tests.{eqb-true, eqb-false, eq-eqb, ne-eqb, leb-true, leb-fals
 use Rattle.format.specs.declared.Row.{Row}
 use Rattle.format.specs.Bytes.{pick}
 use Rattle.format.specs.Rows.{blank, isObject, isClass, findFrom, libraryRow, withLink}
-use Rattle.format.specs.Types.{afterInfo}
+use Rattle.format.specs.Types.{afterText, afterInfo}
 use Rattle.format.specs.Says.{objectsIn, orderOf, numberFrom}
 use Rattle.laws.specs.Kinds.{class-is-object}
 use Rattle.laws.specs.Firsts.{find-alike}
 use Rattle.laws.specs.Orders.{order-next}
-use Rattle.marks.specs.Marks.{Pass, pass, sweep, word, withId, withSlot, withCount, numberRow, numberOne, numbered, placed, firsts, sameName, sameTail, firstLibrary, typesPlace, placeOne, libraryAt, sameInfo, sameInfos, sameOwn, sameClassRow, firstClass, firstOne}
-use Rattle.meaning.specs.Marked.{Placed, Firsts}
+use Rattle.marks.specs.Marks.{Pass, pass, sweep, word, withId, withSlot, withCount, numberRow, numberOne, numbered, placed, firsts, sameName, firstLibrary, placeOne, libraryAt, namesPlace, sameInfo, sameMembersAt, sameOwn, sameClassRow, firstClass, firstOne}
+use Rattle.meaning.specs.Marked.{TypesThere, ValueThere, Placed, Firsts}
 
 -- ---- sweeps
 
@@ -153,7 +153,7 @@ module _ (rows : List Row) (few : length rows < 4294967296) where
 
 unfoldable placedRow : List ℕ → List Row → ℕ → Row → Row
 placedRow s rows i r =
-    pick (eqb (r .kind) 12) (withCount r (firstLibrary s rows r)) (pick (isClass (r .kind)) (withSlot r (word (typesPlace s r))) r)
+    pick (eqb (r .kind) 12) (withCount r (firstLibrary s rows r)) (pick (isClass (r .kind)) (withSlot r (r .link)) r)
 
 -- what neither numbering nor placing changes
 abbrev unmarked : Row → Row
@@ -171,7 +171,7 @@ placed-unmarked : (s : List ℕ) (rows : List Row) (j : ℕ) (r : Row) → unmar
 unfolding placedRow
 placed-unmarked s rows j r = go (eqb (r .kind) 12) (isClass (r .kind))
   where
-    go : (a b : Bool) → unmarked (pick a (withCount r (firstLibrary s rows r)) (pick b (withSlot r (word (typesPlace s r))) r)) ≡ unmarked r
+    go : (a b : Bool) → unmarked (pick a (withCount r (firstLibrary s rows r)) (pick b (withSlot r (r .link)) r)) ≡ unmarked r
     go true b = refl
     go false true = refl
     go false false = refl
@@ -179,7 +179,7 @@ placed-unmarked s rows j r = go (eqb (r .kind) 12) (isClass (r .kind))
 -- a library's first row is found by its name
 library-alike : (s : List ℕ) (rs rows : List Row) (r : Row) → length rs ≡ length rows → ((j : ℕ) → unmarked (getD rs j blank) ≡ unmarked (getD rows j blank))
     → firstLibrary s rs r ≡ firstLibrary s rows r
-unfolding firstLibrary sameName sameTail
+unfolding firstLibrary sameName
 library-alike s rs rows r l f = find-alike (sameName s r) (sameName s r) 0 rs rows l (λ j h. ap (sameName s r) (f j))
 
 module _ (s : List ℕ) (rows : List Row) where
@@ -192,8 +192,8 @@ module _ (s : List ℕ) (rows : List Row) where
       r : Row
       r = getD rows i blank
 
-      go : (a b : Bool) → Half (placedRow s rows) rows (i + 1) (set rs i (pick a (withCount r (firstLibrary s rows r)) (pick b (withSlot r (word (typesPlace s r))) r)))
-          → Half (placedRow s rows) rows (i + 1) (pick a (set rs i (withCount r (firstLibrary s rows r))) (pick b (set rs i (withSlot r (word (typesPlace s r)))) rs))
+      go : (a b : Bool) → Half (placedRow s rows) rows (i + 1) (set rs i (pick a (withCount r (firstLibrary s rows r)) (pick b (withSlot r (r .link)) r)))
+          → Half (placedRow s rows) rows (i + 1) (pick a (set rs i (withCount r (firstLibrary s rows r))) (pick b (set rs i (withSlot r (r .link))) rs))
       go true b h = h
       go false true h = h
       go false false h =
@@ -219,7 +219,7 @@ module _ (s : List ℕ) (rows : List Row) (i : ℕ) (r : Row) where
   unfolding placedRow
   placed-library e = rw e
 
-  placed-class : eqb (r .kind) 12 ≡ false → isClass (r .kind) ≡ true → placedRow s rows i r ≡ withSlot r (word (typesPlace s r))
+  placed-class : eqb (r .kind) 12 ≡ false → isClass (r .kind) ≡ true → placedRow s rows i r ≡ withSlot r (r .link)
   unfolding placedRow
   placed-class e f = rw (e, f)
 
@@ -227,21 +227,19 @@ module _ (s : List ℕ) (rows : List Row) (i : ℕ) (r : Row) where
   unfolding placedRow
   placed-other e f = rw (e, f)
 
--- the place of types does not depend on the number
-types-alike : (s : List ℕ) (r : Row) (id : ℕ) → typesPlace s (withId r id) ≡ typesPlace s r
-unfolding typesPlace
-types-alike s r id = refl
-
-pub placed-rows : (s : List ℕ) (rows : List Row) → length rows < 4294967296 → Placed s rows (placed s (numbered rows))
-placed-rows s rows few =
+pub placed-rows : (s : List ℕ) (rows : List Row) → length rows < 4294967296
+    → ((i : ℕ) → i < length rows → isClass (getD rows i blank .kind) ≡ true → TypesThere s (getD rows i blank))
+    → ((i : ℕ) → i < length rows → getD rows i blank .kind ≡ 32 → ValueThere s rows (getD rows i blank)) → Placed s rows (placed s (numbered rows))
+placed-rows s rows few types values =
     record {
       size = P .size ∙ N .size;
       class = λ i l c.
           let o = class-is-object (getD rows i blank .kind) c in
           at i l
           ∙ (ap (placedRow s ns i) (numbered-object rows i (getD rows i blank) o)
-          ∙ (placed-class s ns i (withId (getD rows i blank) (orderOf rows (suc i))) (object-not-library (getD rows i blank .kind) o) c
-          ∙ ap (λ (t : ℕ). withSlot (withId (getD rows i blank) (orderOf rows (suc i))) (word t)) (types-alike s (getD rows i blank) (orderOf rows (suc i)))));
+          ∙ placed-class s ns i (withId (getD rows i blank) (orderOf rows (suc i))) (object-not-library (getD rows i blank .kind) o) c);
+      types = types;
+      values = values;
       library = λ i l k.
           at i l
           ∙ (ap (placedRow s ns i) (numbered-other rows i (getD rows i blank) (library-not-object (getD rows i blank .kind) k))
@@ -295,13 +293,13 @@ module _ (s : List ℕ) (rs rows : List Row) (f : (p : ℕ) → libraryAt s rs p
   unfolding sameInfo
   info-alike type a x b y = rw (f (x - 4), f (y - 4))
 
-  infos-alike : (n types a b : ℕ) → sameInfos s rs n types a b ≡ sameInfos s rows n types a b
-  unfolding sameInfos
-  infos-alike zero types a b = refl
-  infos-alike (suc n) types a b =
-      let x = afterInfo s (getD s types 0) a in
-      let y = afterInfo s (getD s types 0) b in
-      rw (info-alike (getD s types 0) a x b y, infos-alike n (types + 1) x y)
+  members-alike : (n a t p b u q : ℕ) → sameMembersAt s rs n a t p b u q ≡ sameMembersAt s rows n a t p b u q
+  unfolding sameMembersAt
+  members-alike zero a t p b u q = refl
+  members-alike (suc n) a t p b u q =
+      let x = afterInfo s (getD s t 0) p in
+      let y = afterInfo s (getD s t 0) q in
+      rw (info-alike (getD s t 0) p x q y, members-alike n (afterText s a) (t + 1) x (afterText s b) (u + 1) y)
 
   own-alike : (a b : Row) → sameOwn s rs a b ≡ sameOwn s rows a b
   unfolding sameOwn
@@ -309,7 +307,8 @@ module _ (s : List ℕ) (rs rows : List Row) (f : (p : ℕ) → libraryAt s rs p
 
   class-alike : (a b : Row) → sameClassRow s rs a b ≡ sameClassRow s rows a b
   unfolding sameClassRow
-  class-alike a b = rw (infos-alike (a .count) (a .slot) (a .slot + a .count) (b .slot + b .count), own-alike a b)
+  class-alike a b =
+      rw (members-alike (a .count) (namesPlace s a) (a .slot) (a .slot + a .count) (namesPlace s b) (b .slot) (b .slot + b .count), own-alike a b)
 
 -- what the library at a place is found by: kind and number, and its first row, which stands in the count
 abbrev pub looked : Row → Row

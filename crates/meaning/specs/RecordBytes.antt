@@ -2,24 +2,27 @@
 -- references, objects by their class's first, the header and the end.
 use Prim.Native.Nat.{ℕ, _+_, _-_, _%_, _≤_}
 use mathlib.Core.Path.{_≡_, refl, ap, ap₂, _∙_}
-use mathlib.Core.List.{List, _∷_, _++_}
+use mathlib.Core.List.{List, [], _∷_, _++_, append-assoc}
 use native.Mathlib.Omega.{arith}
 use lib.ListN.{length, getD}
+use lib.Dec.{eqb}
+use Rattle.format.specs.declared.PrimitiveCode.{PrimitiveCode}
 use Rattle.format.specs.declared.Number32.the-variants as N32
 use Rattle.format.specs.declared.Field.the-variants as F
 use Rattle.format.specs.declared.Row.{Row}
-use Rattle.format.specs.Bytes.{part}
 use Rattle.format.specs.Numbers.{leBytes, u32At}
-use Rattle.format.specs.Types.{codeAt}
-use Rattle.format.specs.Contents.{header, classById, string, typedPrimitive, reference, end, library, primitiveArray, objectArray, stringArray, value, enc}
-use Rattle.format.specs.Says.{textFrom, codeFrom}
+use Rattle.format.specs.Values.{valueAt, itemsAt}
+use Rattle.format.specs.Types.{codeNumber, codeAt}
+use Rattle.format.specs.Contents.{shortest, itemsBytes, header, classById, string, typedPrimitive, reference, end, library, primitiveArray, objectArray, stringArray, value, enc}
+use Rattle.format.specs.Says.{textFrom, codeFrom, contentFrom, itemsFrom}
+use Rattle.format.specs.Tidy.{valueBy, valuesBy}
 use Rattle.fields.specs.Parts.{part-to, part-through}
 use Rattle.num.specs.Le.{Bytes}
 use Rattle.types.specs.Keeps.{code-told}
 use Rattle.put.specs.Out.{between, textOut, headOut, byIdOut, headerOut}
-use Rattle.pieces.specs.Copy.{libraryOut, keptOut, stringOut}
-use Rattle.meaning.specs.Stands.{StringStands}
-use Rattle.meaning.specs.Bytes.{text-is, number-is, code-kept}
+use Rattle.pieces.specs.Copy.{libraryOut, valueOut, valuesOut, typedOut, memberOut, primitiveItemsOut, primitivesOut, keptOut, stringOut}
+use Rattle.meaning.specs.Bytes.{text-is, number-is, code-is, code-kept}
+use Rattle.meaning.specs.ValueBytes.{value-is, items-are}
 
 -- ---- records of numbers alone
 
@@ -35,44 +38,50 @@ pub reference-is : (id : ℕ) → headOut 9 id ≡ enc (reference id)
 unfolding enc
 reference-is id = refl
 
--- ---- parts of the stream from o to e
+-- ---- records by their places, from o to e
 
-module _ (s : List ℕ) (o e : ℕ) where
-  pub value-is : between s o e ≡ enc (value (part s o (e - o)))
-  unfolding enc
-  value-is = refl
+pub end-is : (s : List ℕ) (o e : ℕ) → getD s o 0 ≡ 11 → e ≡ o + 1 → e ≤ length s → between s o e ≡ enc end
+unfolding enc
+end-is s o e k h g =
+    let z : e - (o + 1) ≡ 0 = omega arith in
+    part-to s o e (omega arith) (omega arith) ∙ rw (k, z)
 
-  pub end-is : getD s o 0 ≡ 11 → e ≡ o + 1 → e ≤ length s → between s o e ≡ enc end
+module _ (s : List ℕ) (byte : Bytes s) (r : Row) where
+  pub member-is : (c : PrimitiveCode) → r .link ≡ codeNumber c → valueAt s c (r .offset) ≡ F.End (r .end)
+      → memberOut s r ≡ enc (value c (valueBy c (contentFrom s c (r .offset))))
   unfolding enc
-  end-is k h g =
-      let z : e - (o + 1) ≡ 0 = omega arith in
-      part-to s o e (omega arith) (omega arith) ∙ rw (k, z)
+  member-is c l q = ap (λ (n : ℕ). valueOut s (eqb n 5) (r .offset) (r .end)) l ∙ value-is s byte c (r .offset) (r .end) q
 
-  pub typed-is : getD s o 0 ≡ 8 → codeAt s (o + 1) ≡ F.End (o + 2) → o + 2 ≤ e
-      → between s o e ≡ enc (typedPrimitive (codeFrom s (o + 1)) (part s (o + 2) (e - (o + 2))))
-  unfolding enc
-  typed-is k c h =
+  pub typed-is : getD s (r .offset) 0 ≡ 8 → codeAt s (r .offset + 1) ≡ F.End (r .offset + 2)
+      → valueAt s (codeFrom s (r .offset + 1)) (r .offset + 2) ≡ F.End (r .end)
+      → typedOut s r
+      ≡ enc (typedPrimitive (codeFrom s (r .offset + 1)) (valueBy (codeFrom s (r .offset + 1)) (contentFrom s (codeFrom s (r .offset + 1)) (r .offset + 2))))
+  unfolding typedOut enc
+  typed-is k c q =
+      let o = r .offset in
       let w = code-told s (o + 1) (o + 2) c in
-      part-to s o e (omega arith) (omega arith)
-      ∙ ap₂ (λ (b : ℕ) (l : List ℕ). b ∷ l) k
-      (part-through s (o + 1) (o + 2) e (omega arith) h ∙ ap (λ (l : List ℕ). l ++ between s (o + 2) e) (code-kept s (o + 1) (o + 2) c))
+      let a : between s o (o + 2) ≡ 8 ∷ codeNumber (codeFrom s (o + 1)) ∷ [] =
+      part-to s o (o + 2) (omega arith) (omega arith) ∙ ap₂ (λ (b : ℕ) (l : List ℕ). b ∷ l) k (code-kept s (o + 1) (o + 2) c) in
+      ap₂ (λ (x y : List ℕ). x ++ y) a
+      (ap (λ (n : ℕ). valueOut s (eqb n 5) (o + 2) (r .end)) (code-is s (o + 1) (o + 2) c)
+      ∙ value-is s byte (codeFrom s (o + 1)) (o + 2) (r .end) q)
 
 -- ---- records that are kept but for their number
 
 -- a row q that is as r is, but for its number
 module _ (s : List ℕ) (byte : Bytes s) (q r : Row) (o : q .offset ≡ r .offset) (e : q .end ≡ r .end) where
-  pub string-is : StringStands s (r .offset + 5) (r .end) → stringOut s q ≡ enc (string (q .id) (textFrom s (r .offset + 5)))
+  pub string-is : stringOut s q ≡ enc (string (q .id) (shortest (textFrom s (r .offset + 5))))
   unfolding stringOut enc
-  string-is t =
-      ap₂ (λ (x y : ℕ). 6 ∷ (leBytes 4 (q .id) ++ textOut s (x + 5) y)) o e
-      ∙ ap (λ (l : List ℕ). 6 ∷ (leBytes 4 (q .id) ++ l)) (text-is s byte (r .offset + 5) (r .end) t)
+  string-is =
+      ap (λ (x : ℕ). 6 ∷ (leBytes 4 (q .id) ++ textOut s (x + 5))) o
+      ∙ ap (λ (l : List ℕ). 6 ∷ (leBytes 4 (q .id) ++ l)) (text-is s (r .offset + 5))
 
   -- a library's number stands in its link word
-  pub library-is : StringStands s (r .offset + 5) (r .end) → libraryOut s q ≡ enc (library (q .link) (textFrom s (r .offset + 5)))
+  pub library-is : libraryOut s q ≡ enc (library (q .link) (shortest (textFrom s (r .offset + 5))))
   unfolding libraryOut enc
-  library-is t =
-      ap₂ (λ (x y : ℕ). 12 ∷ (leBytes 4 (q .link) ++ textOut s (x + 5) y)) o e
-      ∙ ap (λ (l : List ℕ). 12 ∷ (leBytes 4 (q .link) ++ l)) (text-is s byte (r .offset + 5) (r .end) t)
+  library-is =
+      ap (λ (x : ℕ). 12 ∷ (leBytes 4 (q .link) ++ textOut s (x + 5))) o
+      ∙ ap (λ (l : List ℕ). 12 ∷ (leBytes 4 (q .link) ++ l)) (text-is s (r .offset + 5))
 
   kept-out : (kind : ℕ) → q .kind ≡ kind → keptOut s q ≡ headOut (kind % 256) (q .id) ++ between s (r .offset + 5) (r .end)
   unfolding keptOut
@@ -85,16 +94,26 @@ module _ (s : List ℕ) (byte : Bytes s) (q r : Row) (o : q .offset ≡ r .offse
       rw d at (number-is s byte (p + 5) (r .count) (rw d u))
 
   module _ (u : u32At s (r .offset + 5) ≡ N32.Value (r .count) (r .offset + 9)) where
-    pub primitives-is : q .kind ≡ 15 → codeAt s (r .offset + 9) ≡ F.End (r .offset + 10) → r .offset + 10 ≤ r .end
-        → keptOut s q ≡ enc (primitiveArray (q .id) (r .count) (codeFrom s (r .offset + 9)) (part s (r .offset + 10) (r .end - (r .offset + 10))))
-    unfolding enc
-    primitives-is k c h =
-        kept-out 15 k
-        ∙ ap (λ (l : List ℕ). 15 ∷ (leBytes 4 (q .id) ++ l))
-        (part-through s (r .offset + 5) (r .offset + 9) (r .end) (omega arith) (omega arith)
-        ∙ ap₂ (λ (x y : List ℕ). x ++ y) (counted (r .offset) u)
-        (part-through s (r .offset + 9) (r .offset + 10) (r .end) (omega arith) h
-        ∙ ap (λ (l : List ℕ). l ++ between s (r .offset + 10) (r .end)) (code-kept s (r .offset + 9) (r .offset + 10) c)))
+    pub primitives-is : q .count ≡ r .count → codeAt s (r .offset + 9) ≡ F.End (r .offset + 10)
+        → itemsAt s (codeFrom s (r .offset + 9)) (r .count) (r .offset + 10) ≡ F.End (r .end)
+        → primitivesOut s q
+        ≡ enc (primitiveArray (q .id) (r .count) (codeFrom s (r .offset + 9)) (valuesBy (codeFrom s (r .offset + 9)) (itemsFrom s (codeFrom s (r .offset + 9)) (r .count) (r .offset + 10))))
+    unfolding primitivesOut primitiveItemsOut enc
+    primitives-is n c i =
+        let p = r .offset in
+        let code = codeFrom s (p + 9) in
+        let w = code-told s (p + 9) (p + 10) c in
+        let items = itemsBytes (valuesBy code (itemsFrom s code (r .count) (p + 10))) in
+        let head : between s (p + 5) (p + 10) ≡ leBytes 4 (r .count) ++ (codeNumber code ∷ []) =
+        part-through s (p + 5) (p + 9) (p + 10) (omega arith) (omega arith)
+        ∙ ap₂ (λ (x y : List ℕ). x ++ y) (counted p u) (code-kept s (p + 9) (p + 10) c) in
+        let whole : primitiveItemsOut s q ≡ between s (p + 5) (p + 10) ++ valuesOut s (eqb (getD s (p + 9) 0) 5) (r .count) (p + 10) (r .end) = rw (o, e, n) in
+        ap (λ (l : List ℕ). 15 ∷ (leBytes 4 (q .id) ++ l))
+        (whole
+        ∙ (ap₂ (λ (x y : List ℕ). x ++ y) head
+        (ap (λ (b : ℕ). valuesOut s (eqb b 5) (r .count) (p + 10) (r .end)) (code-is s (p + 9) (p + 10) c)
+        ∙ items-are s byte code (r .count) (p + 10) (r .end) (omega arith) i)
+        ∙ append-assoc (leBytes 4 (r .count)) (codeNumber code ∷ []) items))
 
     slots : r .end ≡ r .offset + 9 → between s (r .offset + 5) (r .end) ≡ leBytes 4 (r .count)
     slots h = ap (between s (r .offset + 5)) h ∙ counted (r .offset) u

@@ -15,7 +15,7 @@ use Rattle.format.specs.Rows.{blank, isObject, isClass}
 use Rattle.format.specs.Records.{infoKnown, infosAt}
 use Rattle.format.specs.Types.{afterInfo}
 use Rattle.format.specs.Says.{numberFrom}
-use Rattle.format.specs.Contents.{library, enc}
+use Rattle.format.specs.Contents.{shortest, library, enc}
 use Rattle.num.specs.Read.{u32-says}
 use Rattle.fields.specs.Judged.{picked}
 use Rattle.fields.specs.Sequence.{through}
@@ -26,7 +26,7 @@ use Rattle.marks.specs.Marks.{rowAt, libraryAt, itemType, isFirst}
 use Rattle.meaning.specs.Stands.{OwnStands, of-system, of-library, ClassStands, ArrayStands, Stands}
 use Rattle.meaning.specs.Marked.{Placed, Firsts, infoFields, classFields, arrayFields, rowFields, fieldsFrom, All}
 use Rattle.meaning.specs.Bytes.{info-place}
-use Rattle.meaning.specs.Names.{class-at, library-row, array-at, NamesLibrary, own-names, class-places, library-first, firsts-word, firsts-library, fields-name}
+use Rattle.meaning.specs.Names.{class-at, array-at, NamesLibrary, own-names, class-places, library-first, firsts-word, firsts-library, fields-name}
 use Rattle.meaning.specs.Bytes.{class-info}
 use Rattle.meaning.specs.RecordBytes.{library-is}
 use Rattle.meaning.specs.Needs.{all-so}
@@ -211,8 +211,8 @@ module _ (s : List ℕ) (rows ps fs : List Row) (st : Stands s rows) (pl : Place
       ap (λ (i : ℕ). getD fs i blank .end) a ∙ (firsts-word s rows ps fs fi (λ (r : Row). r .end) (λ r y. refl) j ∙ ap (λ (r : Row). r .end) l) in
       record {
         writes = λ g o e.
-            library-is s (st .bytes) g (getD rows j blank) (o ∙ offset) (e ∙ end) (library-row s rows st j (x .inside) (x .kind))
-            ∙ ap (λ (n : List ℕ). enc (library (g .link) n)) (x .name);
+            library-is s (st .bytes) g (getD rows j blank) (o ∙ offset) (e ∙ end)
+            ∙ ap (λ (n : List ℕ). enc (library (g .link) (shortest n))) (x .name);
       }
 
   pub fields-hold : ((i : ℕ) → i < length rows → getD rows i blank .kind ≡ 12 → getD rows i blank .slot ≡ 0) → Fields s rows fs

@@ -66,7 +66,7 @@ isNothing aNull = true
 isNothing (aPrimitiveArray n code items) = false
 isNothing (anObjectArray n) = false
 isNothing (aStringArray n) = false
-isNothing (aValue v) = false
+isNothing (aValue c v) = false
 
 -- the records of everything but a null
 pub records-plain : (w : Progress) (a : What) → isNothing a ≡ false → Plain (recordsOf w a)

@@ -4,13 +4,11 @@ use mathlib.Core.Path.{_≡_, ap, _∙_}
 use mathlib.Core.List.{List, [], _∷_, _++_}
 use lib.ListN.{getD}
 use Rattle.format.specs.declared.Row.{Row}
-use Rattle.format.specs.Bytes.{part}
 use Rattle.format.specs.Rows.{blank}
-use Rattle.format.specs.Contents.{string, array, typedPrimitive, reference, primitiveArray, objectArray, stringArray, value}
-use Rattle.format.specs.Says.{textFrom, codeFrom, classFrom, orderOf, whatFrom}
-use Rattle.format.specs.Tidy.{Progress, numberIn, sameClass, allEntered, libraryRecords, detailNeeds, detailBy, objectBy, recordsOf}
-use Rattle.put.specs.Out.{between}
-use Rattle.meaning.specs.ArrayBytes.{arrayItem, itemsPlace, arrayLengths, array-from}
+use Rattle.format.specs.Contents.{shortest, string, array, typedPrimitive, reference, primitiveArray, objectArray, stringArray, value}
+use Rattle.format.specs.Says.{textFrom, codeFrom, contentFrom, itemsFrom, codeOf, valueCode, classFrom, orderOf, whatFrom}
+use Rattle.format.specs.Tidy.{Progress, numberIn, sameClass, allEntered, libraryRecords, detailNeeds, detailBy, valueBy, valuesBy, objectBy, recordsOf}
+use Rattle.meaning.specs.ArrayBytes.{arrayItem, arrayItems, arrayLengths, array-from}
 use Rattle.meaning.specs.Orders.{what-as}
 
 module _ (s : List ℕ) (rows : List Row) (r : Row) where
@@ -28,19 +26,19 @@ module _ (s : List ℕ) (rows : List Row) (r : Row) where
     unfolding recordsOf
     records-class k = ap (recordsOf w) (what-as s rows r 5 k)
 
-    pub records-string : r .kind ≡ 6 → recordsOf w (whatFrom s rows r) ≡ string (suc (w .count)) (textFrom s (r .offset + 5)) ∷ []
+    pub records-string : r .kind ≡ 6 → recordsOf w (whatFrom s rows r) ≡ string (suc (w .count)) (shortest (textFrom s (r .offset + 5))) ∷ []
     unfolding recordsOf
     records-string k = ap (recordsOf w) (what-as s rows r 6 k)
 
     pub records-array : r .kind ≡ 7 → recordsOf w (whatFrom s rows r)
         ≡ libraryRecords (detailNeeds (arrayItem s rows r)) (w .libraries)
         ++ (array (suc (w .count)) (getD s (r .offset + 5) 0) (arrayLengths s r)
-        (detailBy (allEntered (detailNeeds (arrayItem s rows r)) (w .libraries)) (arrayItem s rows r)) (between s (itemsPlace s r) (r .end)) ∷ [])
+        (detailBy (allEntered (detailNeeds (arrayItem s rows r)) (w .libraries)) (arrayItem s rows r)) (valuesBy (codeOf (arrayItem s rows r)) (arrayItems s r)) ∷ [])
     unfolding recordsOf
     records-array k = ap (recordsOf w) (what-as s rows r 7 k ∙ array-from s rows r)
 
     pub records-typed : r .kind ≡ 8 → recordsOf w (whatFrom s rows r)
-        ≡ typedPrimitive (codeFrom s (r .offset + 1)) (part s (r .offset + 2) (r .end - (r .offset + 2))) ∷ []
+        ≡ typedPrimitive (codeFrom s (r .offset + 1)) (valueBy (codeFrom s (r .offset + 1)) (contentFrom s (codeFrom s (r .offset + 1)) (r .offset + 2))) ∷ []
     unfolding recordsOf
     records-typed k = ap (recordsOf w) (what-as s rows r 8 k)
 
@@ -49,7 +47,8 @@ module _ (s : List ℕ) (rows : List Row) (r : Row) where
     records-reference k = ap (recordsOf w) (what-as s rows r 9 k)
 
     pub records-primitives : r .kind ≡ 15 → recordsOf w (whatFrom s rows r)
-        ≡ primitiveArray (suc (w .count)) (r .count) (codeFrom s (r .offset + 9)) (part s (r .offset + 10) (r .end - (r .offset + 10))) ∷ []
+        ≡ primitiveArray (suc (w .count)) (r .count) (codeFrom s (r .offset + 9))
+        (valuesBy (codeFrom s (r .offset + 9)) (itemsFrom s (codeFrom s (r .offset + 9)) (r .count) (r .offset + 10))) ∷ []
     unfolding recordsOf
     records-primitives k = ap (recordsOf w) (what-as s rows r 15 k)
 
@@ -61,6 +60,7 @@ module _ (s : List ℕ) (rows : List Row) (r : Row) where
     unfolding recordsOf
     records-texts k = ap (recordsOf w) (what-as s rows r 17 k)
 
-    pub records-value : r .kind ≡ 32 → recordsOf w (whatFrom s rows r) ≡ value (part s (r .offset) (r .end - r .offset)) ∷ []
+    pub records-value : r .kind ≡ 32 → recordsOf w (whatFrom s rows r)
+        ≡ value (valueCode s rows r) (valueBy (valueCode s rows r) (contentFrom s (valueCode s rows r) (r .offset))) ∷ []
     unfolding recordsOf
     records-value k = ap (recordsOf w) (what-as s rows r 32 k)

@@ -1,32 +1,33 @@
 -- The copy of a stream of at most 16,777,216 bytes, written from a table of at most as many rows, is far shorter than the greatest usize.
--- Rows, links and places may be invented: no part is longer than the stream, and a row writes at most four parts, and two more for each member.
-use Prim.Native.Nat.{ℕ, zero, suc, _+_, _-_, _*_, _/_, _%_, _≤_}
+-- Rows, links and places may be invented: no part is longer than the stream, and a row writes at most six parts, two more for each member, and
+-- a prefix for each item of an array, which are no more than a word counts.
+use Prim.Native.Nat.{ℕ, zero, suc, _+_, _-_, _*_, _/_, _%_, _≤_, _<_}
 use mathlib.Core.Path.{_≡_, refl, sym, ap, _∙_}
-use mathlib.Core.Bool.{Bool, true, false, _||_}
+use mathlib.Core.Bool.{Bool, true, false, _&&_, _||_}
 use mathlib.Core.List.{List, [], _∷_, _++_}
 use native.Mathlib.Omega.{arith}
+use native.Mathlib.Decide.{decLt}
 use lib.ListN.{length, getD, set, length-take, length-drop, length-append, length-set}
 use lib.Dec.{eqb, leb, ltb}
 use borrow.Author.Tests.{eqb-true}
 use Rattle.format.specs.declared.Row.{Row}
-use Rattle.format.specs.declared.Setting.the-variants as Q
-use Rattle.format.specs.declared.Prefix.{Prefix}
-use Rattle.format.specs.declared.Prefix.the-variants as P
 use Rattle.format.specs.Bytes.{pick, part}
 use Rattle.format.specs.Numbers.{leBytes}
-use Rattle.format.specs.Prefix.{groupsOf, prefixAt, prefixBytes}
+use Rattle.format.specs.Prefix.{groupsOf, prefixBytes}
+use Rattle.format.specs.Text.{spanAt}
 use Rattle.format.specs.Contents.{Rec, enc, encs}
 use Rattle.format.specs.Tidy.{runOf}
 use Rattle.format.specs.Rows.{blank, isObject, isClass, withLink}
 use Rattle.format.specs.Types.{afterInfo}
-use Rattle.format.specs.Says.{isNulls}
+use Rattle.format.specs.Says.{afterTexts, isNulls}
 use Rattle.num.specs.Le.{length-leBytes}
 use Rattle.fields.specs.Judged.{picked}
+use Rattle.spans.specs.Spans.{span-within, texts-within}
 use Rattle.standing.specs.Members.{membersOf, membersIn}
-use Rattle.put.specs.Out.{textOver, textOut, byIdOut, headerOut, runOut}
-use Rattle.marks.specs.Marks.{Pass, pass, sweep, rowAt, withId, withSlot, withCount, word, numberOne, numbered, firstLibrary, typesPlace, placeOne, placed, libraryAt, infosPlace, firstClass, firstOne, firsts, need, needInfo, needInfos, needClass, itemType, needArray, isFirst, needOne, needed, marked}
+use Rattle.put.specs.Out.{textOut, textsOut, byIdOut, headerOut, runOut}
+use Rattle.marks.specs.Marks.{Pass, pass, sweep, rowAt, withId, withSlot, withCount, word, numberOne, numbered, firstLibrary, placeOne, placed, libraryAt, namesPlace, infosPlace, firstClass, firstOne, firsts, need, needInfo, needInfos, needClass, itemType, needArray, isFirst, needOne, needed, marked}
 use Rattle.pieces.specs.declared.Gathered.{Gathered}
-use Rattle.pieces.specs.Copy.{libraryNumber, libraryOut, needOut, needInfoOut, needInfosOut, needOwnOut, needClassOut, infoOut, infosOut, ownOut, detailsOut, classOut, objectOut, itemsOut, bodyOut, arrayOut, keptOut, stringOut, recordOut, beforeOut, isPassed, runAfter, rowOut, noneYet, copyFrom, copyOf}
+use Rattle.pieces.specs.Copy.{libraryNumber, libraryOut, needOut, needInfoOut, needInfosOut, needOwnOut, needClassOut, infoOut, infosOut, ownOut, detailsOut, membersOut, classOut, objectOut, valueOut, valuesOut, typedOut, itemsOut, bodyOut, arrayOut, primitiveItemsOut, primitivesOut, keptOut, stringOut, recordOut, beforeOut, isPassed, runAfter, rowOut, noneYet, copyFrom, copyOf}
 use Rattle.meaning.specs.Passes.{swept}
 
 -- ---- lengths: a part of the stream has at most 16777216 bytes; what is added to it are prefixes, kind bytes and numbers
@@ -82,17 +83,44 @@ module _ (s : List ℕ) (short : length s ≤ 16777216) where
   part-long : (a n : ℕ) → length (part s a n) ≤ 16777216
   part-long a n = simp (length-take, length-drop) (omega arith)
 
-  text-long : (p e : ℕ) → length (textOut s p e) ≤ 16777221
+  text-long : (p : ℕ) → length (textOut s p) ≤ 16777221
   unfolding textOut
-  text-long p e = go (prefixAt Q.Lenient s p)
+  text-long p =
+      let x = spanAt s p in
+      joined (prefixBytes (x .to - x .from)) (part s (x .from) (x .to - x .from)) 5 16777216 (groups-few 4 (x .to - x .from)) (part-long (x .from) (x .to - x .from))
+
+  -- strings in a row stand one after the other: the prefixes, and together no more than the stream
+  texts-reach : (n p : ℕ) → length (textsOut s n p) + p ≤ 5 * n + afterTexts s n p
+  unfolding textsOut textOut afterTexts
+  texts-reach zero p = omega arith
+  texts-reach (suc n) p =
+      let x = spanAt s p in
+      let w = span-within s p in
+      let k = x .to - x .from in
+      let a : length (part s (x .from) k) ≤ k = rw length-take (omega arith) in
+      let one = joined (prefixBytes k) (part s (x .from) k) 5 k (groups-few 4 k) a in
+      let others = texts-reach n (x .to) in
+      let both = length-append (prefixBytes k ++ part s (x .from) k) (textsOut s n (x .to)) in
+      omega (arith, w .starts, w .rises)
+
+  texts-long : (n p : ℕ) → length (textsOut s n p) ≤ 5 * n + 16777216
+  texts-long n p = go (decLt (length s) p)
     where
-      go : (x : Prefix) → length (textOver s p e x) ≤ 16777221
-      go (P.Length n next) = joined (prefixBytes n) (part s next (e - next)) 5 16777216 (groups-few 4 n) (part-long next (e - next))
-      go (P.Fault f) = let a = part-long p (e - p) in omega arith
+      go : Dec (length s < p) → length (textsOut s n p) ≤ 5 * n + 16777216
+      go (yes h) = let w = texts-within s n p p (omega arith) (omega arith) in omega (arith, texts-reach n p, w .1)
+      go (no h) = let w = texts-within s n p (length s) (omega arith) (omega arith) in omega (arith, texts-reach n p, w .1)
+
+  value-long : (t : Bool) (p e : ℕ) → length (valueOut s t p e) ≤ 16777221
+  value-long true p e = text-long p
+  value-long false p e = let a = part-long p (e - p) in omega arith
+
+  values-long : (t : Bool) (n p e : ℕ) → length (valuesOut s t n p e) ≤ 5 * n + 16777216
+  values-long true n p e = texts-long n p
+  values-long false n p e = let a = part-long p (e - p) in omega arith
 
   library-long : (g : Row) → length (libraryOut s g) ≤ 16777226
   unfolding libraryOut
-  library-long g = headed 12 (g .link) (textOut s (g .offset + 5) (g .end)) 16777221 (text-long (g .offset + 5) (g .end))
+  library-long g = headed 12 (g .link) (textOut s (g .offset + 5)) 16777221 (text-long (g .offset + 5))
 
   kept-long : (r : Row) → length (keptOut s r) ≤ 16777221
   unfolding keptOut
@@ -102,7 +130,26 @@ module _ (s : List ℕ) (short : length s ≤ 16777216) where
 
   string-long : (r : Row) → length (stringOut s r) ≤ 16777226
   unfolding stringOut
-  string-long r = headed 6 (r .id) (textOut s (r .offset + 5) (r .end)) 16777221 (text-long (r .offset + 5) (r .end))
+  string-long r = headed 6 (r .id) (textOut s (r .offset + 5)) 16777221 (text-long (r .offset + 5))
+
+  typed-long : (r : Row) → length (typedOut s r) ≤ 33554437
+  unfolding typedOut
+  typed-long r =
+      let p = r .offset in
+      let t = eqb (getD s (p + 1) 0) 5 in
+      joined (part s p (p + 2 - p)) (valueOut s t (p + 2) (r .end)) 16777216 16777221 (part-long p (p + 2 - p)) (value-long t (p + 2) (r .end))
+
+  primitives-long : (r : Row) → length (primitivesOut s r) ≤ 33554437 + 5 * r .count
+  unfolding primitivesOut primitiveItemsOut
+  primitives-long r =
+      let p = r .offset in
+      let t = eqb (getD s (p + 9) 0) 5 in
+      let l = part s (p + 5) (p + 10 - (p + 5)) in
+      let items = valuesOut s t (r .count) (p + 10) (r .end) in
+      let n = 5 * r .count + 16777216 in
+      let a = joined l items 16777216 n (part-long (p + 5) (p + 10 - (p + 5))) (values-long t (r .count) (p + 10) (r .end)) in
+      let b = headed 15 (r .id) (l ++ items) (16777216 + n) a in
+      omega arith
 
   module _ (rs : List Row) where
     need-long : (p : ℕ) → length (needOut s rs p) ≤ 16777226
@@ -133,15 +180,16 @@ module _ (s : List ℕ) (short : length s ≤ 16777216) where
         joined (needInfosOut s rs (r .count) (r .slot) (infosPlace r)) (needOwnOut s rs r) (16777226 * r .count) 16777226
         (need-infos-long (r .count) (r .slot) (infosPlace r)) own
 
-    info-long : (type p e : ℕ) → length (infoOut s rs type p e) ≤ 16777220
+    info-long : (type p e : ℕ) → length (infoOut s rs type p e) ≤ 16777225
     unfolding infoOut
     info-long type p e =
         let n = libraryNumber s rs (e - 4) in
         let a = part-long p (e - p) in
-        let b = joined (part s p (e - 4 - p)) (leBytes 4 n) 16777216 4 (part-long p (e - 4 - p)) (number-long n) in
-        picked (Within 16777220) (eqb type 4) (λ q. b) (λ q. omega arith)
+        let t = text-long p in
+        let b = joined (textOut s p) (leBytes 4 n) 16777221 4 t (number-long n) in
+        picked (Within 16777225) (eqb type 4) (λ q. b) (λ q. picked (Within 16777225) (eqb type 3) (λ q. omega arith) (λ q. omega arith))
 
-    infos-long : (n types p : ℕ) → length (infosOut s rs n types p) ≤ 16777220 * n
+    infos-long : (n types p : ℕ) → length (infosOut s rs n types p) ≤ 16777225 * n
     unfolding infosOut
     infos-long zero types p = omega arith
     infos-long (suc n) types p =
@@ -149,76 +197,96 @@ module _ (s : List ℕ) (short : length s ≤ 16777216) where
         let e = afterInfo s type p in
         let one = info-long type p e in
         let others = infos-long n (types + 1) e in
-        let a = joined (infoOut s rs type p e) (infosOut s rs n (types + 1) e) 16777220 (16777220 * n) one others in
+        let a = joined (infoOut s rs type p e) (infosOut s rs n (types + 1) e) 16777225 (16777225 * n) one others in
         omega arith
 
-    details-long : (r : Row) → length (detailsOut s rs r) ≤ 16777220 * r .count + 4
+    details-long : (r : Row) → length (detailsOut s rs r) ≤ 16777225 * r .count + 4
     unfolding detailsOut
     details-long r =
         let n = libraryNumber s rs (r .end - 4) in
         let own : length (ownOut s rs r) ≤ 4 = picked (Within 4) (eqb (r .kind) 5) (λ q. number-long n) (λ q. omega arith) in
-        joined (infosOut s rs (r .count) (r .slot) (infosPlace r)) (ownOut s rs r) (16777220 * r .count) 4
+        joined (infosOut s rs (r .count) (r .slot) (infosPlace r)) (ownOut s rs r) (16777225 * r .count) 4
         (infos-long (r .count) (r .slot) (infosPlace r)) own
 
-    class-long : (r : Row) → length (classOut s rs r) ≤ 5 + (16777216 + (16777220 * r .count + 4))
+    members-long : (r : Row) → length (membersOut s rs r) ≤ 33554436 + 16777230 * r .count
+    unfolding membersOut
+    members-long r =
+        let n = 16777225 * r .count + 4 in
+        let names = textsOut s (r .count) (namesPlace s r) in
+        let types = part s (r .slot) (infosPlace r - r .slot) in
+        let a = joined types (detailsOut s rs r) 16777216 n (part-long (r .slot) (infosPlace r - r .slot)) (details-long r) in
+        let b = joined names (types ++ detailsOut s rs r) (5 * r .count + 16777216) (16777216 + n) (texts-long (r .count) (namesPlace s r)) a in
+        omega arith
+
+    class-long : (r : Row) → length (classOut s rs r) ≤ 50331666 + 16777230 * r .count
     unfolding classOut
     class-long r =
-        let a = r .offset + 5 in
-        let n = 16777220 * r .count + 4 in
-        let l = part s a (infosPlace r - a) in
-        headed (r .kind % 256) (r .id) (l ++ detailsOut s rs r) (16777216 + n)
-        (joined l (detailsOut s rs r) 16777216 n (part-long a (infosPlace r - a)) (details-long r))
+        let n = 33554436 + 16777230 * r .count in
+        let name = textOut s (r .offset + 5) in
+        let count = leBytes 4 (r .count) in
+        let a = joined count (membersOut s rs r) 4 n (number-long (r .count)) (members-long r) in
+        let b = joined name (count ++ membersOut s rs r) 16777221 (4 + n) (text-long (r .offset + 5)) a in
+        let c = headed (r .kind % 256) (r .id) (name ++ (count ++ membersOut s rs r)) (16777221 + (4 + n)) b in
+        omega arith
 
-    object-long : (i : ℕ) (r : Row) → length (objectOut s rs i r) ≤ 33554451 + 33554446 * r .count
+    object-long : (i : ℕ) (r : Row) → length (objectOut s rs i r) ≤ 67108892 + 33554456 * r .count
     unfolding objectOut
     object-long i r =
         let m = 16777226 * r .count + 16777226 in
-        let n = 5 + (16777216 + (16777220 * r .count + 4)) in
+        let n = 50331666 + 16777230 * r .count in
         let a = joined (needClassOut s rs r) (classOut s rs r) m n (need-class-long r) (class-long r) in
         let b = by-id-long (r .id) (rowAt rs (r .link) .id) in
-        picked (Within (33554451 + 33554446 * r .count)) (isFirst i r) (λ q. omega arith) (λ q. omega arith)
+        picked (Within (67108892 + 33554456 * r .count)) (isFirst i r) (λ q. omega arith) (λ q. omega arith)
 
-    items-long : (p e : ℕ) (r : Row) → length (itemsOut s rs p e r) ≤ 33554436
+    items-long : (p e : ℕ) (r : Row) → length (itemsOut s rs p e r) ≤ 16777225 + (5 * r .count + 16777216)
     unfolding itemsOut
     items-long p e r =
         let type = getD s p 0 in
-        joined (infoOut s rs type (p + 1) e) (part s e (r .end - e)) 16777220 16777216 (info-long type (p + 1) e) (part-long e (r .end - e))
+        let t = eqb type 0 && eqb (getD s (p + 1) 0) 5 in
+        joined (infoOut s rs type (p + 1) e) (valuesOut s t (r .count) e (r .end)) 16777225 (5 * r .count + 16777216) (info-long type (p + 1) e)
+        (values-long t (r .count) e (r .end))
 
-    body-long : (p e : ℕ) (r : Row) → length (bodyOut s rs p e r) ≤ 50331657
+    body-long : (p e : ℕ) (r : Row) → length (bodyOut s rs p e r) ≤ 50331662 + 5 * r .count
     unfolding bodyOut
     body-long p e r =
         let a = r .offset + 5 in
         let l = part s a (p + 1 - a) in
-        headed 7 (r .id) (l ++ itemsOut s rs p e r) 50331652
-        (joined l (itemsOut s rs p e r) 16777216 33554436 (part-long a (p + 1 - a)) (items-long p e r))
+        let n = 16777225 + (5 * r .count + 16777216) in
+        let b = joined l (itemsOut s rs p e r) 16777216 n (part-long a (p + 1 - a)) (items-long p e r) in
+        let c = headed 7 (r .id) (l ++ itemsOut s rs p e r) (16777216 + n) b in
+        omega arith
 
-    array-long : (r : Row) → length (arrayOut s rs r) ≤ 67108883
+    array-long : (r : Row) → length (arrayOut s rs r) ≤ 16777226 + (50331662 + 5 * r .count)
     unfolding arrayOut
     array-long r =
         let p = itemType s r in
         let type = getD s p 0 in
         let e = afterInfo s type (p + 1) in
-        joined (needInfoOut s rs type e) (bodyOut s rs p e r) 16777226 50331657 (need-info-long type e) (body-long p e r)
+        joined (needInfoOut s rs type e) (bodyOut s rs p e r) 16777226 (50331662 + 5 * r .count) (need-info-long type e) (body-long p e r)
 
     -- m members, if the row is a class's
-    record-long : (i : ℕ) (r : Row) (m : ℕ) → (isClass (r .kind) ≡ true → m ≡ r .count) → length (recordOut s rs i r) ≤ 67108883 * (1 + m)
+    record-long : (i : ℕ) (r : Row) (m : ℕ) → r .count < 4294967296 → (isClass (r .kind) ≡ true → m ≡ r .count)
+        → length (recordOut s rs i r) ≤ 22000000000 * (1 + m)
     unfolding recordOut
-    record-long i r m w =
+    record-long i r m f w =
         picked B (eqb k 0) (λ q. let h = header-long (rowAt rs (r .link) .id) in omega arith)
         (λ q. picked B (eqb k 1) (λ q. let h = by-id-long (r .id) (rowAt rs (rowAt rs (r .link) .link) .id) in omega arith)
         (λ q. picked B (isClass k) (λ q. let h = object-long i r in let e = w q in omega arith)
         (λ q. picked B (eqb k 6) (λ q. let h = string-long r in omega arith)
         (λ q. picked B (eqb k 7) (λ q. let h = array-long r in omega arith)
+        (λ q. picked B (eqb k 8) (λ q. let h = typed-long r in omega arith)
         (λ q. picked B (eqb k 9) (λ q. let h = number-long (rowAt rs (r .link) .id) in omega arith)
         (λ q. picked B (isNulls k || eqb k 12) (λ q. omega arith)
-        (λ q. picked B (eqb k 15 || (eqb k 16 || eqb k 17)) (λ q. let h = kept-long r in omega arith)
-        (λ q. let h = part-long (r .offset) (r .end - r .offset) in omega arith))))))))
+        (λ q. picked B (eqb k 15) (λ q. let h = primitives-long r in omega arith)
+        (λ q. picked B (eqb k 16 || eqb k 17) (λ q. let h = kept-long r in omega arith)
+        (λ q. picked B (eqb k 32) (λ q. let h = value-long (eqb (r .link) 5) (r .offset) (r .end) in omega arith)
+        (λ q. let h = part-long (r .offset) (r .end - r .offset) in omega arith)))))))))))
       where
         k : ℕ
         k = r .kind
 
         B : List ℕ → Type 0
-        B = Within (67108883 * (1 + m))
+        B = Within (22000000000 * (1 + m))
 
     before-long : (w : Gathered) (r : Row) → length (beforeOut w r) ≤ 5
     unfolding beforeOut
@@ -227,30 +295,32 @@ module _ (s : List ℕ) (short : length s ≤ 16777216) where
         picked (Within 5) (isPassed r) (λ q. omega arith)
         (λ q. picked (Within 5) (isNulls (r .kind)) (λ q. picked (Within 5) (eqb (r .owner) (w .owner)) (λ q. omega arith) (λ q. h)) (λ q. h))
 
-    row-long : (i : ℕ) (w : Gathered) (r : Row) → length (rowOut s rs i w r) ≤ 67108888 * (1 + membersOf r)
+    row-long : (i : ℕ) (w : Gathered) (r : Row) → r .count < 4294967296 → length (rowOut s rs i w r) ≤ 22000000005 * (1 + membersOf r)
     unfolding rowOut
-    row-long i w r =
+    row-long i w r f =
         let m = membersOf r in
-        let h = record-long i r m (λ q. ap (λ (t : Bool). pick t (r .count) 0) q) in
-        let a = joined (beforeOut w r) (recordOut s rs i r) 5 (67108883 * (1 + m)) (before-long w r) h in
+        let h = record-long i r m f (λ q. ap (λ (t : Bool). pick t (r .count) 0) q) in
+        let a = joined (beforeOut w r) (recordOut s rs i r) 5 (22000000000 * (1 + m)) (before-long w r) h in
         omega arith
 
     -- ---- the copy
 
-    rows-long : (i : ℕ) (w : Gathered) (more : List Row) → length (copyFrom s rs i w more) ≤ 67108888 * (length more + membersIn more) + 5
+    rows-long : (i : ℕ) (w : Gathered) (more : List Row) → ((j : ℕ) → getD more j blank .count < 4294967296)
+        → length (copyFrom s rs i w more) ≤ 22000000005 * (length more + membersIn more) + 5
     unfolding copyFrom membersIn
-    rows-long i w [] = let h = run-long (w .count) in omega arith
-    rows-long i w (r ∷ more) =
-        let m = 67108888 * (1 + membersOf r) in
-        let n = 67108888 * (length more + membersIn more) + 5 in
-        let others = rows-long (i + 1) (runAfter w r) more in
-        let a = joined (rowOut s rs i w r) (copyFrom s rs (i + 1) (runAfter w r) more) m n (row-long i w r) others in
+    rows-long i w [] f = let h = run-long (w .count) in omega arith
+    rows-long i w (r ∷ more) f =
+        let m = 22000000005 * (1 + membersOf r) in
+        let n = 22000000005 * (length more + membersIn more) + 5 in
+        let others = rows-long (i + 1) (runAfter w r) more (λ j. f (suc j)) in
+        let a = joined (rowOut s rs i w r) (copyFrom s rs (i + 1) (runAfter w r) more) m n (row-long i w r (f 0)) others in
         omega arith
 
--- the copy of any rows
-pub copy-long : (s : List ℕ) (rs : List Row) → length s ≤ 16777216 → length (copyOf s rs) ≤ 67108888 * (length rs + membersIn rs) + 5
+-- the copy of any rows whose words are words
+pub copy-long : (s : List ℕ) (rs : List Row) → length s ≤ 16777216 → ((j : ℕ) → getD rs j blank .count < 4294967296)
+    → length (copyOf s rs) ≤ 22000000005 * (length rs + membersIn rs) + 5
 unfolding copyOf
-copy-long s rs h = rows-long s h rs 0 noneYet rs
+copy-long s rs h f = rows-long s h rs 0 noneYet rs f
 
 -- ---- marks change neither the number of rows nor the members of classes
 
@@ -288,7 +358,7 @@ module _ (rows : List Row) where
   place-keeps s i rs v =
       let r = getD rs i blank in
       picked (Kept rows) (eqb (r .kind) 12) (λ q. kept-set rs i (withCount r (firstLibrary s rs r)) (library-members r (firstLibrary s rs r) q) v)
-      (λ q. picked (Kept rows) (isClass (r .kind)) (λ q. kept-set rs i (withSlot r (word (typesPlace s r))) refl v) (λ q. v))
+      (λ q. picked (Kept rows) (isClass (r .kind)) (λ q. kept-set rs i (withSlot r (r .link)) refl v) (λ q. v))
 
   first-keeps : (s : List ℕ) (i : ℕ) (rs : List Row) → Kept rows rs → Kept rows (firstOne s i rs)
   unfolding firstOne
@@ -363,9 +433,9 @@ marked-members s rows = kept-marked s rows .members
 -- ---- the bound
 
 pub copy-small : (s : List ℕ) (rows : List Row) → length s ≤ 16777216 → length rows ≤ 16777216 → membersIn rows ≤ length s
-    → length (copyOf s (marked s rows)) ≤ 18446744073709551615
-copy-small s rows short few h =
-    let a = copy-long s (marked s rows) short in
+    → ((j : ℕ) → getD (marked s rows) j blank .count < 4294967296) → length (copyOf s (marked s rows)) ≤ 18446744073709551615
+copy-small s rows short few h words =
+    let a = copy-long s (marked s rows) short words in
     let b = marked-size s rows in
     let c = marked-members s rows in
     omega arith

@@ -10,11 +10,11 @@ use Rattle.format.specs.declared.Field.the-variants as F
 use Rattle.format.specs.declared.Row.{Row}
 use Rattle.format.specs.Numbers.{u32At}
 use Rattle.format.specs.Text.{stringAt}
-use Rattle.format.specs.Values.{times}
+use Rattle.format.specs.Values.{valueAt, times, itemsAt}
 use Rattle.format.specs.Types.{codeAt, typeByteAt, nameAt}
 use Rattle.format.specs.Rows.{blank, isObject, isClass}
 use Rattle.format.specs.Records.{infoKnown, infosAt, ownLibraryAt}
-use Rattle.format.specs.Says.{isNulls}
+use Rattle.format.specs.Says.{codeFrom, isNulls}
 
 -- a link to the row of an object
 pub record Target (rows : List Row) (link : ℕ) : Type 0 where
@@ -54,6 +54,8 @@ pub record ArrayStands (s : List ℕ) (rows : List Row) (r : Row) : Type 0 where
   pub info-end : ℕ
   pub info : infoKnown s rows (getD s (r .offset + 10 + 4 * rank) 0) (r .offset + 10 + 4 * rank + 1) ≡ F.End info-end
   pub items : info-end ≤ r .end
+  pub items-at : getD s (r .offset + 10 + 4 * rank) 0 ≡ 0 → itemsAt s (codeFrom s (r .offset + 10 + 4 * rank + 1)) (r .count) info-end ≡ F.End (r .end)
+  pub no-items : (getD s (r .offset + 10 + 4 * rank) 0 ≡ 0 → ⊥) → r .end ≡ info-end
   pub inside : r .end ≤ length s
 
 -- the owner of a row: none, or the row of an object
@@ -68,13 +70,14 @@ pub data RowStands (s : List ℕ) (rows : List Row) (i : ℕ) (r : Row) : Type 0
   a-class : isClass (r .kind) ≡ true → ClassStands s rows r → RowStands s rows i r
   a-string : r .kind ≡ 6 → StringStands s (r .offset + 5) (r .end) → RowStands s rows i r
   an-array : r .kind ≡ 7 → ArrayStands s rows r → RowStands s rows i r
-  a-primitive : r .kind ≡ 8 → codeAt s (r .offset + 1) ≡ F.End (r .offset + 2) → r .offset + 2 ≤ r .end → r .end ≤ length s → RowStands s rows i r
+  a-primitive : r .kind ≡ 8 → codeAt s (r .offset + 1) ≡ F.End (r .offset + 2)
+      → valueAt s (codeFrom s (r .offset + 1)) (r .offset + 2) ≡ F.End (r .end) → r .end ≤ length s → RowStands s rows i r
   a-reference : r .kind ≡ 9 → Target rows (r .link) → RowStands s rows i r
   nulls : isNulls (r .kind) ≡ true → r .count < 2147483648 → RowStands s rows i r
   the-end : r .kind ≡ 11 → suc i ≡ length rows → r .end ≡ r .offset + 1 → RowStands s rows i r
   a-library : r .kind ≡ 12 → StringStands s (r .offset + 5) (r .end) → RowStands s rows i r
   primitives : r .kind ≡ 15 → u32At s (r .offset + 5) ≡ N32.Value (r .count) (r .offset + 9) → codeAt s (r .offset + 9) ≡ F.End (r .offset + 10)
-      → r .offset + 10 ≤ r .end → r .end ≤ length s → RowStands s rows i r
+      → itemsAt s (codeFrom s (r .offset + 9)) (r .count) (r .offset + 10) ≡ F.End (r .end) → r .end ≤ length s → RowStands s rows i r
   objects : r .kind ≡ 16 → u32At s (r .offset + 5) ≡ N32.Value (r .count) (r .offset + 9) → r .end ≡ r .offset + 9 → RowStands s rows i r
   texts : r .kind ≡ 17 → u32At s (r .offset + 5) ≡ N32.Value (r .count) (r .offset + 9) → r .end ≡ r .offset + 9 → RowStands s rows i r
   a-value : r .kind ≡ 32 → r .offset < r .end → r .end ≤ length s → RowStands s rows i r

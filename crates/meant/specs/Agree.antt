@@ -11,10 +11,11 @@ use Rattle.format.specs.declared.SlotType.{SlotType}
 use Rattle.format.specs.declared.Row.{Row}
 use Rattle.format.specs.Bytes.{pick}
 use Rattle.format.specs.Rows.{blank, findFrom}
-use Rattle.format.specs.Contents.{Detail, primitive, text, object, system, class, objects, texts, primitives, Member, Rec}
+use Rattle.format.specs.Contents.{Prefixed, Detail, primitive, text, object, system, class, objects, texts, primitives, Member, Rec}
 use Rattle.format.specs.Says.{From, Class, textFrom, libraryName, classFrom}
 use Rattle.format.specs.Grammar.{Entry, aClass, another, aLibrary, used, known, classed, unknown, classOf, GoodDetail, Members, no-more, member, typesOf}
 use Rattle.format.specs.Meant.{named, namedAll, classOfAll, found, libraryOf, librariesOf, ownClass, classesOf, noClass}
+use Rattle.saying.specs.Good.{slotsOf}
 use Rattle.saying.specs.Order.{item-there}
 use Rattle.saying.specs.Known.{unknown-both, classAt, ofLibrary, fresh-more, library-row, other-library}
 
@@ -68,7 +69,7 @@ module _ (s : List ℕ) (table : List Row) (name : ℕ → List ℕ) (of : ℕ �
   -- the class of the object k, which has the row before r
   pub record Same (k r : ℕ) (ts : List SlotType) : Type 0 where
     pub class-is : classAt s table r ≡ of k
-    pub slots-are : length (of k .members) ≡ length ts
+    pub slots-are : slotsOf (of k .members) ≡ ts
 
   -- after so many rows, with this known and these records left
   pub record Agrees (row : ℕ) (es : List Entry) (rs : List Rec) : Type 0 where
@@ -124,7 +125,7 @@ module _ (s : List ℕ) (table : List Row) (name : ℕ → List ℕ) (of : ℕ �
 
     -- a record of kind 4 or 5
     pub agrees-class : (j : ℕ) (us : List SlotType) (c : Class) → eqb (w .kind) 12 ≡ false → libraryOf r ≡ [] → ownClass name r ≡ (j, c) ∷ []
-        → used j es ≡ false → classFrom s table w ≡ c → length (c .members) ≡ length us → Agrees (suc row) (es ++ (aClass j (suc row) us ∷ [])) rs
+        → used j es ≡ false → classFrom s table w ≡ c → slotsOf (c .members) ≡ us → Agrees (suc row) (es ++ (aClass j (suc row) us ∷ [])) rs
     unfolding found classesOf
     agrees-class j us c n a b f q l =
         agrees-entry (aClass j (suc row) us) (λ i h. rw n) (λ l h. apart (sym h)) (λ i h. ap (λ (l : List (ℕ × List ℕ)). found [] i (l ++ librariesOf rs)) a)
@@ -147,7 +148,7 @@ module _ (s : List ℕ) (table : List Row) (name : ℕ → List ℕ) (of : ℕ �
             ap (λ (k : ℕ). classFrom s table (getD table k blank)) z ∙ (ap (classFrom s table) (item-there table is w row e blank) ∙ q)
 
         it : Same j (suc row) us
-        it = record { class-is = at-it ∙ sym of-it; slots-are = ap (λ (d : Class). length (d .members)) of-it ∙ l }
+        it = record { class-is = at-it ∙ sym of-it; slots-are = ap (λ (d : Class). slotsOf (d .members)) of-it ∙ l }
 
         mine : (k m : ℕ) (ts : List SlotType) (t : Bool) → eqb j k ≡ t → pick t (classed (suc row) us) unknown ≡ classed m ts → Same k m ts
         mine k m ts true p h =
@@ -186,27 +187,23 @@ module _ (s : List ℕ) (table : List Row) (name : ℕ → List ℕ) (of : ℕ �
   -- ---- the names that a record uses
 
   module _ {row : ℕ} {es : List Entry} {rs : List Rec} (g : Agrees row es rs) where
-    pub detail-same : (d : Detail ℕ) → GoodDetail es d → named (libraryName s table) d ≡ named name d
+    pub detail-same : (d : Detail Prefixed ℕ) → GoodDetail es d → named (libraryName s table) d ≡ named name d
     detail-same (primitive c) h = refl
     detail-same text h = refl
     detail-same object h = refl
     detail-same (system n) h = refl
-    detail-same (class n l) h = ap (class n) (g .names l (h .1 .there))
+    detail-same (class n l) h = ap (class (n .text)) (g .names l (h .1 .there))
     detail-same objects h = refl
     detail-same texts h = refl
     detail-same (primitives c) h = refl
 
-    members-same : {ms : List (Member ℕ)} → Members es ms → namedAll (libraryName s table) ms ≡ namedAll name ms
+    members-same : {ms : List (Member Prefixed ℕ)} → Members es ms → namedAll (libraryName s table) ms ≡ namedAll name ms
     members-same no-more = refl
     members-same (member {m = m} n h hs) = rw (detail-same (m .type) h, members-same hs)
 
-    pub class-same : (n : List ℕ) (from : From) (ms : List (Member ℕ)) → Members es ms → classOfAll (libraryName s table) n from ms ≡ classOfAll name n from ms
+    pub class-same : (n : List ℕ) (from : From) (ms : List (Member Prefixed ℕ)) → Members es ms → classOfAll (libraryName s table) n from ms ≡ classOfAll name n from ms
     class-same n from ms h = rw (members-same h)
 
-pub length-named : (name : ℕ → List ℕ) (ms : List (Member ℕ)) → length (namedAll name ms) ≡ length (typesOf ms)
-length-named name [] = refl
-length-named name (m ∷ ms) = ap suc (length-named name ms)
-
-pub length-typed : (ms : List (Member ℕ)) → length ms ≡ length (typesOf ms)
+pub length-typed : (ms : List (Member Prefixed ℕ)) → length ms ≡ length (typesOf ms)
 length-typed [] = refl
 length-typed (m ∷ ms) = ap suc (length-typed ms)

@@ -13,18 +13,21 @@ use Rattle.format.specs.declared.SlotType.the-variants as S
 use Rattle.format.specs.declared.Row.{Row}
 use Rattle.format.specs.Bytes.{pick}
 use Rattle.format.specs.Rows.{isObject, findFrom, objectRow, withLink, linkOf, linked}
-use Rattle.format.specs.Contents.{Detail, Member, Rec, header, classById, systemClass, libraryClass, string, array, typedPrimitive, reference, null, nulls, manyNulls, end, library, primitiveArray, objectArray, stringArray, value, enc, encs}
-use Rattle.format.specs.Grammar.{Name, ClassId, ClassInfo, LibraryId, typesOf, classed, classOf, used, Array, of-objects, of-strings, of-primitives, of-any, of-values, Object, system-class, library-class, class-by-id, Body, hollow, filled, Slots, full, member-value, an-object, a-string, a-typed-primitive, a-reference, a-null, a-run, a-long-run, a-library, Objects, the-end, one-object, one-string, one-array, one-library, Entry, aClass, another, aLibrary, known, Cur, cur, size, rowOf, Reading}
-use Rattle.format.specs.Says.{theSystem, theLibrary, Class, anObject, anArray, Node, Model, textFrom, libraryName, classFrom, objectsIn, orderOf, nodesOf, nodesFrom, says}
+use Rattle.format.specs.Contents.{Prefixed, Detail, Member, Rec, header, classById, systemClass, libraryClass, string, array, typedPrimitive, reference, null, nulls, manyNulls, end, library, primitiveArray, objectArray, stringArray, value, enc, encs}
+use Rattle.format.specs.Grammar.{Name, Value, Values, product, ClassId, ClassInfo, LibraryId, typesOf, classed, classOf, used, Array, of-objects, of-strings, of-primitives, of-any, of-values, Object, system-class, library-class, class-by-id, Body, hollow, filled, Slots, full, member-value, an-object, a-string, a-typed-primitive, a-reference, a-null, a-run, a-long-run, a-library, Objects, the-end, one-object, one-string, one-array, one-library, Entry, aClass, another, aLibrary, known, Cur, cur, size, rowOf, Reading}
+use Rattle.format.specs.Says.{theSystem, theLibrary, Class, anObject, anArray, Node, Model, textFrom, libraryName, classFrom, classRowOf, codeIn, objectsIn, orderOf, nodesOf, nodesFrom, says}
 use Rattle.format.specs.Meant.{classOfAll, libraryOf, ownClass, orderAfter, nameBy, classBy, orderBy, Sense, opens, itemSlots, senseOf, Open, opened, ownerIn, slotIn, fill, close, nodesBy, countBy, openBy, walk, meant, meantBy}
 use Rattle.laws.specs.Fields.{size-header, positive-bits}
 use Rattle.laws.specs.Links.{rows-are}
 use Rattle.laws.specs.Ids.{objects-shown}
-use Rattle.saying.specs.There.{rest-there, own-detail, own-members, system-class-from, library-class-from, kindOf, CountIs, row-of, row-linked, GoodRec, LinkIs, library-said}
+use Rattle.saying.specs.There.{rest-there, own-detail, own-members, system-class-from, library-class-from, kindOf, CountIs, row-of, row-linked, GoodRec, no-items, LinkIs, library-said, slots-same}
 use Rattle.saying.specs.Order.{items-after, order-more, order-end, nodes-more}
 use Rattle.saying.specs.Row.{row-said}
+use Rattle.saying.specs.Good.{slotsOf}
+use Rattle.saying.specs.Codes.{ownerClass, Codes, value-code, class-codes, row-class, run-codes, array-codes}
+use Rattle.saying.specs.Limits.{length-slots}
 use Rattle.meant.specs.Orders.{order-found}
-use Rattle.meant.specs.Agree.{Agrees, agrees-same, agrees-another, agrees-class, agrees-library, detail-same, class-same, length-named, length-typed}
+use Rattle.meant.specs.Agree.{Agrees, agrees-same, agrees-another, agrees-class, agrees-library, detail-same, class-same, length-typed}
 
 -- ---- one record
 
@@ -47,7 +50,7 @@ module _ (name : ℕ → List ℕ) (of : ℕ → Class) (order : ℕ → ℕ) wh
   sense-counts c (primitiveArray i k b vs) = omega arith
   sense-counts c (objectArray i k) = omega arith
   sense-counts c (stringArray i k) = omega arith
-  sense-counts c (value v) = omega arith
+  sense-counts c (value b v) = omega arith
 
 -- ---- along the rows
 
@@ -89,11 +92,12 @@ module _ (s : List ℕ) (raw : List Row) (name : ℕ → List ℕ) (of : ℕ →
     pub agrees : Knows (suc row) es₁ rs
 
   module _ {at row : ℕ} {es es₁ : List Entry} {r : Rec} {rs : List Rec} {is : List Row} (id own slot link count : ℕ) where
-    record-ok : {at₁ : ℕ} {it : Row} {os gs : List Open} → it ≡ rowFor at r id own slot link count → CountIs r count → GoodRec r → at₁ ≡ at + size r
+    -- what follows may use where the record stands
+    record-opens : {at₁ : ℕ} {it : Row} {os gs : List Open} → it ≡ rowFor at r id own slot link count → CountIs r count → GoodRec r → at₁ ≡ at + size r
         → (At at row es (r ∷ rs) (rowFor at r id own slot link count ∷ is) → Step os gs row r (rowFor at r id own slot link count) es₁ rs)
-        → Ok gs at₁ (suc row) es₁ rs is → Ok os at row es (r ∷ rs) (it ∷ is)
+        → (At at row es (r ∷ rs) (rowFor at r id own slot link count ∷ is) → Ok gs at₁ (suc row) es₁ rs is) → Ok os at row es (r ∷ rs) (it ∷ is)
     unfolding walk encs
-    record-ok {at₁} {os = os} {gs = gs} q c g e t k = subst (λ (x : Row). Ok os at row es (r ∷ rs) (x ∷ is)) (sym q) (record { leads = leads })
+    record-opens {at₁} {os = os} {gs = gs} q c g e t k = subst (λ (x : Row). Ok os at row es (r ∷ rs) (x ∷ is)) (sym q) (record { leads = leads })
       where
         x : Row
         x = rowFor at r id own slot link count
@@ -115,9 +119,14 @@ module _ (s : List ℕ) (raw : List Row) (name : ℕ → List ℕ) (of : ℕ →
             } in
             let m : orderOf table (suc row) ≡ countBy (sense r) n = order-more table (map withOwn is) y row (w .rows-there) ∙ sense-counts name of order n r in
             let o = ap (λ (l : List Open). walk name of order (countBy (sense r) n) l rs) (sym (u .left-open)) in
-            let d = k .leads v ∙ (ap (λ (j : ℕ). walk name of order j gs rs) m ∙ o) in
+            let d = k w .leads v ∙ (ap (λ (j : ℕ). walk name of order j gs rs) m ∙ o) in
             a ∙ (ap (λ (l : List Node). l ++ nodesFrom s table (drop (suc row) table)) b
             ∙ ap (λ (l : List Node). nodesBy (sense r) (ownerIn os) (slotIn os) ++ l) d)
+
+    record-ok : {at₁ : ℕ} {it : Row} {os gs : List Open} → it ≡ rowFor at r id own slot link count → CountIs r count → GoodRec r → at₁ ≡ at + size r
+        → (At at row es (r ∷ rs) (rowFor at r id own slot link count ∷ is) → Step os gs row r (rowFor at r id own slot link count) es₁ rs)
+        → Ok gs at₁ (suc row) es₁ rs is → Ok os at row es (r ∷ rs) (it ∷ is)
+    record-ok q c g e t k = record-opens q c g e t (λ w. k)
 
   -- ---- what a record leaves known
 
@@ -129,7 +138,7 @@ module _ (s : List ℕ) (raw : List Row) (name : ℕ → List ℕ) (of : ℕ →
     known-another = agrees-another s table name of (map withOwn is) (withOwn x) row (w .rows-there) (w .agrees)
 
     known-class : (i : ℕ) (ts : List SlotType) (c : Class) → eqb (x .kind) 12 ≡ false → libraryOf r ≡ [] → ownClass name r ≡ (i, c) ∷ [] → used i es ≡ false
-        → classFrom s table (withOwn x) ≡ c → length (c .members) ≡ length ts → Knows (suc row) (es ++ (aClass i (suc row) ts ∷ [])) rs
+        → classFrom s table (withOwn x) ≡ c → slotsOf (c .members) ≡ ts → Knows (suc row) (es ++ (aClass i (suc row) ts ∷ [])) rs
     known-class = agrees-class s table name of (map withOwn is) (withOwn x) row (w .rows-there) (w .agrees)
 
     known-library : (i : ℕ) (n : List ℕ) → x .kind ≡ 12 → x .id ≡ i → known i es ≡ false → libraryOf r ≡ (i, n) ∷ [] → ownClass name r ≡ []
@@ -161,18 +170,20 @@ module _ (s : List ℕ) (raw : List Row) (name : ℕ → List ℕ) (of : ℕ →
       }
 
   module _ {at row own slot : ℕ} {es : List Entry} {rs : List Rec} {it : Row} {is : List Row} {os : List Open} (p : Stands os own slot) where
-    string-ok : {i : ℕ} {x : List ℕ} → Name x → it ≡ rowOf 6 at (string i x) i own slot 0 0
+    string-ok : {i : ℕ} {x : Prefixed} → Name x → it ≡ rowOf 6 at (string i x) i own slot 0 0
         → Ok (close (fill 1 os)) (at + size (string i x)) (suc row) (es ++ (another i ∷ [])) rs is → Ok os at row es (string i x ∷ rs) (it ∷ is)
     string-ok {i} {x} n q k = record-ok i own slot 0 0 q tt n refl (λ w. step p tt refl refl (known-another w i refl refl refl)) k
 
-    value-ok : {v : List ℕ} → it ≡ rowOf 32 at (value v) 0 own slot 0 0
-        → Ok (close (fill 1 os)) (at + length v) (suc row) es rs is → Ok os at row es (value v ∷ rs) (it ∷ is)
-    unfolding enc
-    value-ok {v} q k = record-ok 0 own slot 0 0 q tt tt refl (λ w. step p tt refl refl (known-same w refl refl refl)) k
+    -- of the code that its owner's class has for its slot
+    value-ok : {b : PrimitiveCode} {v : Prefixed} → Value b v → codeIn (ownerClass s table own .members) slot ≡ b → it ≡ rowOf 32 at (value b v) 0 own slot 0 0
+        → Ok (close (fill 1 os)) (at + size (value b v)) (suc row) es rs is → Ok os at row es (value b v ∷ rs) (it ∷ is)
+    value-ok {b} {v} g e q k =
+        record-ok 0 own slot 0 0 q tt g refl
+        (λ w. step p (value-code s table (withOwn (rowOf 32 at (value b v) 0 own slot 0 0)) b e) refl refl (known-same w refl refl refl)) k
 
-    typed-primitive-ok : {b : PrimitiveCode} {v : List ℕ} → it ≡ rowOf 8 at (typedPrimitive b v) 0 own slot 0 0
+    typed-primitive-ok : {b : PrimitiveCode} {v : Prefixed} → Value b v → it ≡ rowOf 8 at (typedPrimitive b v) 0 own slot 0 0
         → Ok (close (fill 1 os)) (at + size (typedPrimitive b v)) (suc row) es rs is → Ok os at row es (typedPrimitive b v ∷ rs) (it ∷ is)
-    typed-primitive-ok q k = record-ok 0 own slot 0 0 q tt tt refl (λ w. step p tt refl refl (known-same w refl refl refl)) k
+    typed-primitive-ok g q k = record-ok 0 own slot 0 0 q tt g refl (λ w. step p tt refl refl (known-same w refl refl refl)) k
 
     reference-ok : {i : ℕ} → it ≡ rowOf 9 at (reference i) i own slot 0 0
         → Ok (close (fill 1 os)) (at + size (reference i)) (suc row) es rs is → Ok os at row es (reference i ∷ rs) (it ∷ is)
@@ -194,7 +205,7 @@ module _ (s : List ℕ) (raw : List Row) (name : ℕ → List ℕ) (of : ℕ →
   -- ---- records in no slot
 
   module _ {at row : ℕ} {es : List Entry} {rs : List Rec} {it : Row} {is : List Row} {os : List Open} where
-    library-ok : {i : ℕ} {n : List ℕ} → known i es ≡ false → Name n → it ≡ rowOf 12 at (library i n) i 0 0 0 0
+    library-ok : {i : ℕ} {n : Prefixed} → known i es ≡ false → Name n → it ≡ rowOf 12 at (library i n) i 0 0 0 0
         → Ok os (at + size (library i n)) (suc row) (es ++ (aLibrary i ∷ [])) rs is → Ok os at row es (library i n ∷ rs) (it ∷ is)
     unfolding encs
     library-ok {i} {n} f g q k =
@@ -202,7 +213,7 @@ module _ (s : List ℕ) (raw : List Row) (name : ℕ → List ℕ) (of : ℕ →
         (λ w.
         let x = withOwn (rowOf 12 at (library i n) i 0 0 0 0) in
         let t = library-said s table x at (encs rs) i n g (w .bytes-there) refl in
-        record { link-is = tt; said = refl; left-open = refl; agrees = known-library w i n refl refl f refl refl t }) k
+        record { link-is = tt; said = refl; left-open = refl; agrees = known-library w i (n .text) refl refl f refl refl t }) k
 
   end-ok : {at row : ℕ} {es : List Entry} {it : Row} → it ≡ rowOf 11 at end 0 0 0 0 0 → Ok [] at row es (end ∷ []) (it ∷ [])
   unfolding walk
@@ -222,56 +233,83 @@ module _ (s : List ℕ) (raw : List Row) (name : ℕ → List ℕ) (of : ℕ →
       order-more table (map withOwn is) (withOwn x) row (w .rows-there) ∙ ap (λ (b : Bool). orderOf table row + pick b 1 0) o in
       omega arith
 
+  -- an object of this class has the codes of its slots
+  row-codes : {at row : ℕ} {es : List Entry} {r : Rec} {rs : List Rec} {x : Row} {is : List Row} → At at row es (r ∷ rs) (x ∷ is) → (c : Class) (ts : List SlotType)
+      → classFrom s table (classRowOf table (withOwn x)) ≡ c → slotsOf (c .members) ≡ ts → Codes s table (suc row) 0 ts
+  row-codes {row = row} {x = x} {is = is} w c ts e f =
+      class-codes s table (suc row) c ts (row-class s table (map withOwn is) (withOwn x) row (w .rows-there) ∙ e) f
+
+  -- a class of a library that is known
+  library-same : {row l : ℕ} {n : Prefixed} {ms : List (Member Prefixed ℕ)} {es : List Entry} {rs : List Rec} → Knows row es rs → ClassInfo es n ms → LibraryId l es
+      → classOfAll (libraryName s table) (n .text) (theLibrary (libraryName s table l)) ms ≡ classOfAll name (n .text) (theLibrary (name l)) ms
+  library-same {l = l} {n = n} {ms = ms} a g b =
+      ap (λ (y : List ℕ). classOfAll (libraryName s table) (n .text) (theLibrary y) ms) (a .names l (b .there))
+      ∙ class-same s table name of a (n .text) (theLibrary (name l)) ms (g .members)
+
+  -- the class in the row of a record of kind 4 or 5
+  module _ {at row own slot i : ℕ} {n : Prefixed} {ms : List (Member Prefixed ℕ)} {es : List Entry} {rs : List Rec} {is : List Row} (g : ClassInfo es n ms) where
+    system-from : At at row es (systemClass i n ms ∷ rs) (rowOf 4 at (systemClass i n ms) i own slot 0 (length ms) ∷ is)
+        → classFrom s table (withOwn (rowOf 4 at (systemClass i n ms) i own slot 0 (length ms))) ≡ classOfAll name (n .text) theSystem ms
+    unfolding encs
+    system-from w =
+        let x = rowOf 4 at (systemClass i n ms) i own slot 0 (length ms) in
+        let h = row-linked (linkOf raw x) (row-of (systemClass i n ms) at i own slot 0 (length ms) refl) in
+        system-class-from s table (withOwn x) at (encs rs) i n ms (g .named) (own-members (g .members)) (w .bytes-there) h
+        ∙ class-same s table name of (w .agrees) (n .text) theSystem ms (g .members)
+
+    library-from : {l : ℕ} → LibraryId l es → At at row es (libraryClass i n ms l ∷ rs) (rowOf 5 at (libraryClass i n ms l) i own slot 0 (length ms) ∷ is)
+        → classFrom s table (withOwn (rowOf 5 at (libraryClass i n ms l) i own slot 0 (length ms))) ≡ classOfAll name (n .text) (theLibrary (name l)) ms
+    unfolding encs
+    library-from {l} b w =
+        let x = rowOf 5 at (libraryClass i n ms l) i own slot 0 (length ms) in
+        let h = row-linked (linkOf raw x) (row-of (libraryClass i n ms l) at i own slot 0 (length ms) refl) in
+        library-class-from s table (withOwn x) at (encs rs) i n ms (g .named) (own-members (g .members)) l (positive-bits l (b .sign)) (w .bytes-there) h
+        ∙ library-same (w .agrees) g b
+
   module _ {at row own slot : ℕ} {es : List Entry} {rs : List Rec} {it : Row} {is : List Row} {os : List Open} (p : Stands os own slot) where
-    system-class-ok : {i : ℕ} {n : List ℕ} {ms : List (Member ℕ)} → ClassId i es → ClassInfo es n ms → it ≡ rowOf 4 at (systemClass i n ms) i own slot 0 (length ms)
+    system-class-ok : {i : ℕ} {n : Prefixed} {ms : List (Member Prefixed ℕ)} → ClassId i es → ClassInfo es n ms → it ≡ rowOf 4 at (systemClass i n ms) i own slot 0 (length ms)
+        → (Codes s table (suc row) 0 (typesOf ms)
         → Ok (close (opened (orderOf table (suc row)) 0 (length (typesOf ms)) ∷ fill 1 os)) (at + size (systemClass i n ms)) (suc row)
-        (es ++ (aClass i (suc row) (typesOf ms) ∷ [])) rs is
+        (es ++ (aClass i (suc row) (typesOf ms) ∷ [])) rs is)
         → Ok os at row es (systemClass i n ms ∷ rs) (it ∷ is)
     unfolding encs
     system-class-ok {i} {n} {ms} a g q k =
-        record-ok i own slot 0 (length ms) q refl (g .named, own-members (g .members)) refl
-        (λ w.
-        let x = rowOf 4 at (systemClass i n ms) i own slot 0 (length ms) in
-        let h = row-linked (linkOf raw x) (row-of (systemClass i n ms) at i own slot 0 (length ms) refl) in
-        let c = classOfAll name n theSystem ms in
-        let e : classOfAll (libraryName s table) n theSystem ms ≡ c = class-same s table name of (w .agrees) n theSystem ms (g .members) in
-        let f = system-class-from s table (withOwn x) at (encs rs) i n ms (g .named) (own-members (g .members)) (w .bytes-there) h ∙ e in
-        step p tt (ap (λ (d : Class). opens (anObject d) (length ms)) e)
+        let c = classOfAll name (n .text) theSystem ms in
+        record-opens i own slot 0 (length ms) q refl (g .named, own-members (g .members)) refl
+        (λ w. step p tt (ap (λ (d : Class). opens (anObject d) (length ms)) (class-same s table name of (w .agrees) (n .text) theSystem ms (g .members)))
         (open-more (suc (orderOf table row)) (orderOf table (suc row)) (fill 1 os) (order-next w refl) (length-typed ms))
-        (known-class w i (typesOf ms) c refl refl refl (a .fresh) f (length-named name ms))) k
+        (known-class w i (typesOf ms) c refl refl refl (a .fresh) (system-from g w) (slots-same name ms)))
+        (λ w. k (row-codes w c (typesOf ms) (system-from g w) (slots-same name ms)))
 
-    library-class-ok : {i l : ℕ} {n : List ℕ} {ms : List (Member ℕ)} → ClassId i es → ClassInfo es n ms → LibraryId l es
+    library-class-ok : {i l : ℕ} {n : Prefixed} {ms : List (Member Prefixed ℕ)} → ClassId i es → ClassInfo es n ms → LibraryId l es
         → it ≡ rowOf 5 at (libraryClass i n ms l) i own slot 0 (length ms)
+        → (Codes s table (suc row) 0 (typesOf ms)
         → Ok (close (opened (orderOf table (suc row)) 0 (length (typesOf ms)) ∷ fill 1 os)) (at + size (libraryClass i n ms l)) (suc row)
-        (es ++ (aClass i (suc row) (typesOf ms) ∷ [])) rs is
+        (es ++ (aClass i (suc row) (typesOf ms) ∷ [])) rs is)
         → Ok os at row es (libraryClass i n ms l ∷ rs) (it ∷ is)
     unfolding encs
     library-class-ok {i} {l} {n} {ms} a g b q k =
-        record-ok i own slot 0 (length ms) q refl (g .named, own-members (g .members), positive-bits l (b .sign)) refl
-        (λ w.
-        let x = rowOf 5 at (libraryClass i n ms l) i own slot 0 (length ms) in
-        let h = row-linked (linkOf raw x) (row-of (libraryClass i n ms l) at i own slot 0 (length ms) refl) in
-        let c = classOfAll name n (theLibrary (name l)) ms in
-        let e : classOfAll (libraryName s table) n (theLibrary (libraryName s table l)) ms ≡ c =
-        ap (λ (y : List ℕ). classOfAll (libraryName s table) n (theLibrary y) ms) (w .agrees .names l (b .there))
-        ∙ class-same s table name of (w .agrees) n (theLibrary (name l)) ms (g .members) in
-        let f =
-        library-class-from s table (withOwn x) at (encs rs) i n ms (g .named) (own-members (g .members)) l (positive-bits l (b .sign)) (w .bytes-there) h ∙ e in
-        step p tt (ap (λ (d : Class). opens (anObject d) (length ms)) e)
+        let c = classOfAll name (n .text) (theLibrary (name l)) ms in
+        record-opens i own slot 0 (length ms) q refl (g .named, own-members (g .members), positive-bits l (b .sign)) refl
+        (λ w. step p tt (ap (λ (d : Class). opens (anObject d) (length ms)) (library-same (w .agrees) g b))
         (open-more (suc (orderOf table row)) (orderOf table (suc row)) (fill 1 os) (order-next w refl) (length-typed ms))
-        (known-class w i (typesOf ms) c refl refl refl (a .fresh) f (length-named name ms))) k
+        (known-class w i (typesOf ms) c refl refl refl (a .fresh) (library-from g b w) (slots-same name ms)))
+        (λ w. k (row-codes w c (typesOf ms) (library-from g b w) (slots-same name ms)))
 
     class-by-id-ok : {i j r : ℕ} {ts : List SlotType} → classOf j es ≡ classed r ts → it ≡ rowOf 1 at (classById i j) i own slot r (length ts)
-        → Ok (close (opened (orderOf table (suc row)) 0 (length ts) ∷ fill 1 os)) (at + size (classById i j)) (suc row) (es ++ (another i ∷ [])) rs is
+        → (Codes s table (suc row) 0 ts
+        → Ok (close (opened (orderOf table (suc row)) 0 (length ts) ∷ fill 1 os)) (at + size (classById i j)) (suc row) (es ++ (another i ∷ [])) rs is)
         → Ok os at row es (classById i j ∷ rs) (it ∷ is)
     unfolding linkOf
     class-by-id-ok {i} {j} {r} {ts} f q k =
-        record-ok i own slot r (length ts) q tt tt refl
+        record-opens i own slot r (length ts) q tt tt refl
         (λ w.
         let g = w .agrees .classes j r ts f in
+        let l : length (of j .members) ≡ length ts = sym (length-slots (of j .members)) ∙ ap length (g .slots-are) in
         step p (g .class-is) refl
-        (open-more (suc (orderOf table row)) (orderOf table (suc row)) (fill 1 os) (order-next w refl) (g .slots-are))
-        (known-another w i refl refl refl)) k
+        (open-more (suc (orderOf table row)) (orderOf table (suc row)) (fill 1 os) (order-next w refl) l)
+        (known-another w i refl refl refl))
+        (λ w. let g = w .agrees .classes j r ts f in k (row-codes w (of j) ts (g .class-is) (g .slots-are)))
 
   -- ---- arrays
 
@@ -289,14 +327,14 @@ module _ (s : List ℕ) (raw : List Row) (name : ℕ → List ℕ) (of : ℕ →
         (λ w. step top-stands tt refl (open-more (suc (orderOf table row)) (orderOf table (suc row)) [] (order-next w refl) l)
         (known-another w i refl refl refl)) k
     array-ok {i = i} {n = n} (of-primitives h g) q k =
-        record-ok i 0 0 0 n q refl tt refl (λ w. step top-stands tt refl refl (known-another w i refl refl refl)) k
+        record-ok i 0 0 0 n q refl g refl (λ w. step top-stands tt refl refl (known-another w i refl refl refl)) k
     array-ok {i = i} {n = n} {ts = ts} (of-any {type = type} {ns = ns} {d = d} g e h f z) q k =
         let l : itemSlots ns d ≡ length ts = rw (f, z, length-replicate) (sym e) in
-        record-ok i 0 0 0 n q tt (g, own-detail es d h) refl
-        (λ w. step top-stands tt (ap (λ (x : Detail (List ℕ)). opens (anArray type ns x []) (itemSlots ns d)) (detail-same s table name of (w .agrees) d h))
+        record-ok i 0 0 0 n q e (g, own-detail es d h, no-items d (product ns) f) refl
+        (λ w. step top-stands tt (ap (λ (x : Detail (List ℕ) (List ℕ)). opens (anArray type ns x []) (itemSlots ns d)) (detail-same s table name of (w .agrees) d h))
         (open-more (suc (orderOf table row)) (orderOf table (suc row)) [] (order-next w refl) l) (known-another w i refl refl refl)) k
-    array-ok {i = i} {n = n} (of-values g e h) q k =
-        record-ok i 0 0 0 n q tt (g, tt) refl (λ w. step top-stands tt refl refl (known-another w i refl refl refl)) k
+    array-ok {i = i} {n = n} (of-values {b = b} {vs = vs} g e h) q k =
+        record-ok i 0 0 0 n q e (g, tt, subst (λ (m : ℕ). Values b m vs) e h) refl (λ w. step top-stands tt refl refl (known-another w i refl refl refl)) k
 
   -- ---- along a derivation
 
@@ -316,41 +354,41 @@ module _ (s : List ℕ) (raw : List Row) (name : ℕ → List ℕ) (of : ℕ →
 
   mutual
     object-ok : {room own slot : ℕ} {c c₁ : Cur} (os : List Open) → Object room own slot c c₁ → Stands os own slot → OkIn (close (fill 1 os)) c₁ → OkIn os c
-    object-ok os (system-class a b q d) p k = system-class-ok p a b q (body-ok (fill 1 os) d k)
-    object-ok os (library-class a b l q d) p k = library-class-ok p a b l q (body-ok (fill 1 os) d k)
-    object-ok os (class-by-id a b f q d) p k = class-by-id-ok p f q (body-ok (fill 1 os) d k)
+    object-ok os (system-class a b q d) p k = system-class-ok p a b q (λ g. body-ok (fill 1 os) d g k)
+    object-ok os (library-class a b l q d) p k = library-class-ok p a b l q (λ g. body-ok (fill 1 os) d g k)
+    object-ok os (class-by-id a b f q d) p k = class-by-id-ok p f q (λ g. body-ok (fill 1 os) d g k)
 
-    body-ok : {room row : ℕ} {ts : List SlotType} {c c₁ : Cur} (os : List Open) → Body room row ts c c₁ → OkIn (close os) c₁
+    body-ok : {room row : ℕ} {ts : List SlotType} {c c₁ : Cur} (os : List Open) → Body room row ts c c₁ → Codes s table row 0 ts → OkIn (close os) c₁
         → OkIn (close (opened (orderOf table row) 0 (length ts) ∷ os)) c
-    body-ok os hollow k = k
-    body-ok os (filled d) k = slots-ok os d k
+    body-ok os hollow g k = k
+    body-ok os (filled d) g k = slots-ok os d g k
 
-    slots-ok : {room own slot : ℕ} {ts : List SlotType} {c c₁ : Cur} (os : List Open) → Slots room own slot ts c c₁ → OkIn (close os) c₁
+    slots-ok : {room own slot : ℕ} {ts : List SlotType} {c c₁ : Cur} (os : List Open) → Slots room own slot ts c c₁ → Codes s table own slot ts → OkIn (close os) c₁
         → OkIn (close (opened (orderOf table own) slot (length ts) ∷ os)) c
-    slots-ok os full k = k
-    slots-ok os (member-value {own = own} {slot = slot} {ts = ts} a q d) k =
-        value-ok slot-stands q (one-filled (orderOf table own) slot (length ts) os (slots-ok os d k))
-    slots-ok os (an-object {own = own} {slot = slot} {t = t} {ts = ts} {c₁ = c₁} o a d) k =
-        object-ok (opened (orderOf table own) slot (length (t ∷ ts)) ∷ os) a slot-stands (one-more c₁ (orderOf table own) slot (length ts) os (slots-ok os d k))
-    slots-ok os (a-string {own = own} {slot = slot} {ts = ts} t a b q d) k =
-        string-ok slot-stands b q (one-filled (orderOf table own) slot (length ts) os (slots-ok os d k))
-    slots-ok os (a-typed-primitive {own = own} {slot = slot} {ts = ts} t a q d) k =
-        typed-primitive-ok slot-stands q (one-filled (orderOf table own) slot (length ts) os (slots-ok os d k))
-    slots-ok os (a-reference {own = own} {slot = slot} {ts = ts} t a q d) k =
-        reference-ok slot-stands q (one-filled (orderOf table own) slot (length ts) os (slots-ok os d k))
-    slots-ok os (a-null {own = own} {slot = slot} {ts = ts} e q d) k =
-        null-ok slot-stands q (one-filled (orderOf table own) slot (length ts) os (slots-ok os d k))
-    slots-ok os (a-run {own = own} {slot = slot} {k = n} {t = t} {ts = ts} {us = us} e a b f u q d) k =
-        run-ok slot-stands q (some-filled (orderOf table own) slot n (t ∷ ts) us os u (slots-ok os d k))
-    slots-ok os (a-long-run {own = own} {slot = slot} {k = n} {t = t} {ts = ts} {us = us} e a b f u q d) k =
-        long-run-ok slot-stands q (some-filled (orderOf table own) slot n (t ∷ ts) us os u (slots-ok os d k))
-    slots-ok os (a-library t a b n q d) k = library-ok b n q (slots-ok os d k)
+    slots-ok os full g k = k
+    slots-ok os (member-value {own = own} {slot = slot} {ts = ts} a q d) g k =
+        value-ok slot-stands a (g .0) q (one-filled (orderOf table own) slot (length ts) os (slots-ok os d (g .1) k))
+    slots-ok os (an-object {own = own} {slot = slot} {t = t} {ts = ts} {c₁ = c₁} o a d) g k =
+        object-ok (opened (orderOf table own) slot (length (t ∷ ts)) ∷ os) a slot-stands (one-more c₁ (orderOf table own) slot (length ts) os (slots-ok os d (g .1) k))
+    slots-ok os (a-string {own = own} {slot = slot} {ts = ts} t a b q d) g k =
+        string-ok slot-stands b q (one-filled (orderOf table own) slot (length ts) os (slots-ok os d (g .1) k))
+    slots-ok os (a-typed-primitive {own = own} {slot = slot} {ts = ts} t a q d) g k =
+        typed-primitive-ok slot-stands a q (one-filled (orderOf table own) slot (length ts) os (slots-ok os d (g .1) k))
+    slots-ok os (a-reference {own = own} {slot = slot} {ts = ts} t a q d) g k =
+        reference-ok slot-stands q (one-filled (orderOf table own) slot (length ts) os (slots-ok os d (g .1) k))
+    slots-ok os (a-null {own = own} {slot = slot} {ts = ts} e q d) g k =
+        null-ok slot-stands q (one-filled (orderOf table own) slot (length ts) os (slots-ok os d (g .1) k))
+    slots-ok os (a-run {own = own} {slot = slot} {k = n} {t = t} {ts = ts} {us = us} e a b f u q d) g k =
+        run-ok slot-stands q (some-filled (orderOf table own) slot n (t ∷ ts) us os u (slots-ok os d (run-codes s table own slot n (t ∷ ts) u g) k))
+    slots-ok os (a-long-run {own = own} {slot = slot} {k = n} {t = t} {ts = ts} {us = us} e a b f u q d) g k =
+        long-run-ok slot-stands q (some-filled (orderOf table own) slot n (t ∷ ts) us os u (slots-ok os d (run-codes s table own slot n (t ∷ ts) u g) k))
+    slots-ok os (a-library t a b n q d) g k = library-ok b n q (slots-ok os d g k)
 
   objects-ok : {c : Cur} → Objects c → OkIn [] c
   objects-ok (the-end q) = end-ok q
   objects-ok (one-object a d) = object-ok [] a top-stands (objects-ok d)
   objects-ok (one-string a b q d) = string-ok top-stands b q (objects-ok d)
-  objects-ok (one-array a b q d f) = array-ok b q (body-ok [] d (objects-ok f))
+  objects-ok (one-array a b q d f) = array-ok b q (body-ok [] d (array-codes s table _ b) (objects-ok f))
   objects-ok (one-library a b n q d) = library-ok b n q (objects-ok d)
 
 -- ---- the whole stream

@@ -8,7 +8,7 @@ use lib.ListN.{length, getD}
 use lib.Dec.{eqb}
 use borrow.Author.Tests.{eqb-true, eqb-false}
 use Rattle.format.specs.declared.Row.{Row}
-use Rattle.format.specs.Rows.{blank}
+use Rattle.format.specs.Rows.{blank, linkOf}
 use Rattle.format.specs.Records.{plain}
 use Rattle.format.specs.Machine.{accepted, readOf}
 use Rattle.format.specs.Says.{spread, isNulls, isSilent, nodesOf}
@@ -17,7 +17,7 @@ use Rattle.headings.specs.Headings.{null-heading}
 use Rattle.standing.specs.Standing.{Stood, as-record}
 use Rattle.standing.specs.Fields.{row-said}
 use Rattle.standing.specs.Accepted.{Taken, accepted-stands}
-use Rattle.standing.specs.Linked.{same-kind, same-count}
+use Rattle.standing.specs.Linked.{relinked, linked-is, same-kind, same-count}
 use Rattle.members.specs.Members.{slotsFilled}
 use Rattle.members.specs.Laws.{filled-run, filled-long, filled-one}
 
@@ -59,12 +59,13 @@ one-null : (s : List ℕ) (room : ℕ) (rows : List Row) → Taken s room rows �
     → getD rows i blank .count ≡ 1
 one-null s room rows w i h k =
     let raw = w .raw in
+    let f = linkOf raw in
+    let e : rows ≡ relinked f raw = w .same ∙ linked-is raw in
     let l = length-linked raw in
     let n = ap length (w .same) in
-    ap (λ (rows : List Row). getD rows i blank .count) (w .same)
-    ∙ (same-count raw i
-    ∙ null-counts (w .stands .each i (omega arith))
-    (sym (same-kind raw i) ∙ (sym (ap (λ (rows : List Row). getD rows i blank .kind) (w .same)) ∙ k)))
+    ap (λ (rows : List Row). getD rows i blank .count) e
+    ∙ (same-count f raw i
+    ∙ null-counts (w .stands .each i (omega arith)) (sym (same-kind f raw i) ∙ (sym (ap (λ (rows : List Row). getD rows i blank .kind) e) ∙ k)))
 
 pub filled-found : (s : List ℕ) (room : ℕ) (rows : List Row) → readOf s room ≡ accepted rows → (i : ℕ) → i < length rows
     → isSilent (getD rows i blank .kind) ≡ false → length (nodesOf s rows (getD rows i blank)) ≡ slotsFilled (getD rows i blank)

@@ -1,7 +1,7 @@
--- The copy that is written from marked rows, one row after the other: bytes are parts of the stream, but for the numbers, the prefixes of texts
--- and the null runs. All of it is total.
+-- The copy that is written from marked rows, one row after the other: bytes are parts of the stream, but for the numbers, the prefixes of names,
+-- texts and Decimals, and the null runs. All of it is total.
 use Prim.Native.Nat.{ℕ, zero, suc, _+_, _-_, _%_}
-use mathlib.Core.Bool.{Bool, true, false, _||_}
+use mathlib.Core.Bool.{Bool, true, false, _||_, _&&_}
 use mathlib.Core.List.{List, [], _∷_, _++_}
 use lib.ListN.{getD}
 use lib.Dec.{eqb}
@@ -11,9 +11,9 @@ use Rattle.format.specs.Numbers.{leBytes}
 use Rattle.format.specs.Rows.{isClass}
 use Rattle.format.specs.Types.{afterInfo}
 use Rattle.format.specs.Says.{isNulls}
-use Rattle.put.specs.Out.{between, textOut, headOut, byIdOut, headerOut, runOut}
+use Rattle.put.specs.Out.{between, textOut, textsOut, headOut, byIdOut, headerOut, runOut}
 use Rattle.pieces.specs.declared.Gathered.{Gathered}
-use Rattle.marks.specs.Marks.{rowAt, word, libraryAt, infosPlace, itemType, isFirst}
+use Rattle.marks.specs.Marks.{rowAt, word, libraryAt, namesPlace, infosPlace, itemType, isFirst}
 
 -- ---- libraries, each before the first record that needs it
 
@@ -22,7 +22,7 @@ unfoldable pub libraryNumber : List ℕ → List Row → ℕ → ℕ
 libraryNumber s rs p = rowAt rs (libraryAt s rs p) .link
 
 unfoldable pub libraryOut : List ℕ → Row → List ℕ
-libraryOut s g = headOut 12 (g .link) ++ textOut s (g .offset + 5) (g .end)
+libraryOut s g = headOut 12 (g .link) ++ textOut s (g .offset + 5)
 
 -- the record of the library that the field at p is the first to need
 abbrev pub needRowOut : List ℕ → ℕ → Row → List ℕ
@@ -52,7 +52,8 @@ needClassOut s rs r = needInfosOut s rs (r .count) (r .slot) (infosPlace r) ++ n
 
 -- a detail from p to e, its library by the new number
 unfoldable pub infoOut : List ℕ → List Row → ℕ → ℕ → ℕ → List ℕ
-infoOut s rs type p e = pick (eqb type 4) (between s p (e - 4) ++ leBytes 4 (libraryNumber s rs (e - 4))) (between s p e)
+infoOut s rs type p e =
+    pick (eqb type 4) (textOut s p ++ leBytes 4 (libraryNumber s rs (e - 4))) (pick (eqb type 3) (textOut s p) (between s p e))
 
 unfoldable pub infosOut : List ℕ → List Row → ℕ → ℕ → ℕ → List ℕ
 infosOut s rs zero types p = []
@@ -64,23 +65,47 @@ infosOut s rs (suc n) types p =
 abbrev pub ownOut : List ℕ → List Row → Row → List ℕ
 ownOut s rs r = pick (eqb (r .kind) 5) (leBytes 4 (libraryNumber s rs (r .end - 4))) []
 
--- after the ObjectId: name, member count, names and type bytes are kept; then the details and the class's own library
+-- the details of the members and the class's own library
 unfoldable pub detailsOut : List ℕ → List Row → Row → List ℕ
 detailsOut s rs r = infosOut s rs (r .count) (r .slot) (infosPlace r) ++ ownOut s rs r
 
+-- the names of the members, their type bytes, which are kept, and their details
+unfoldable pub membersOut : List ℕ → List Row → Row → List ℕ
+membersOut s rs r = textsOut s (r .count) (namesPlace s r) ++ (between s (r .slot) (infosPlace r) ++ detailsOut s rs r)
+
+-- after the ObjectId: name, member count, members
 unfoldable pub classOut : List ℕ → List Row → Row → List ℕ
-classOut s rs r = headOut (r .kind % 256) (r .id) ++ (between s (r .offset + 5) (infosPlace r) ++ detailsOut s rs r)
+classOut s rs r = headOut (r .kind % 256) (r .id) ++ (textOut s (r .offset + 5) ++ (leBytes 4 (r .count) ++ membersOut s rs r))
 
 -- the first object of a class in full, later ones by it
 unfoldable pub objectOut : List ℕ → List Row → ℕ → Row → List ℕ
 objectOut s rs i r =
     pick (isFirst i r) (needClassOut s rs r ++ classOut s rs r) (byIdOut (r .id) (rowAt rs (r .link) .id))
 
+-- ---- values
+
+-- a primitive value from p to e: a Decimal is a text, any other is kept
+abbrev pub valueOut : List ℕ → Bool → ℕ → ℕ → List ℕ
+valueOut s prefixed p e = pick prefixed (textOut s p) (between s p e)
+
+-- n primitive values from p to e
+abbrev pub valuesOut : List ℕ → Bool → ℕ → ℕ → ℕ → List ℕ
+valuesOut s prefixed n p e = pick prefixed (textsOut s n p) (between s p e)
+
+-- MemberPrimitiveTyped: its kind and its code, then its value
+unfoldable pub typedOut : List ℕ → Row → List ℕ
+typedOut s r = between s (r .offset) (r .offset + 2) ++ valueOut s (eqb (getD s (r .offset + 1) 0) 5) (r .offset + 2) (r .end)
+
+-- a member value, whose row has the number of its code as link
+abbrev pub memberOut : List ℕ → Row → List ℕ
+memberOut s r = valueOut s (eqb (r .link) 5) (r .offset) (r .end)
+
 -- ---- arrays
 
 -- from the item type at p on, its detail ending at e
 unfoldable pub itemsOut : List ℕ → List Row → ℕ → ℕ → Row → List ℕ
-itemsOut s rs p e r = infoOut s rs (getD s p 0) (p + 1) e ++ between s e (r .end)
+itemsOut s rs p e r =
+    infoOut s rs (getD s p 0) (p + 1) e ++ valuesOut s (eqb (getD s p 0) 0 && eqb (getD s (p + 1) 0) 5) (r .count) e (r .end)
 
 unfoldable pub bodyOut : List ℕ → List Row → ℕ → ℕ → Row → List ℕ
 bodyOut s rs p e r = headOut 7 (r .id) ++ (between s (r .offset + 5) (p + 1) ++ itemsOut s rs p e r)
@@ -91,6 +116,14 @@ arrayOut s rs r =
     let e = afterInfo s (getD s p 0) (p + 1) in
     needInfoOut s rs (getD s p 0) e ++ bodyOut s rs p e r
 
+-- ArraySinglePrimitive: its length and its code are kept, then its items
+unfoldable pub primitiveItemsOut : List ℕ → Row → List ℕ
+primitiveItemsOut s r =
+    between s (r .offset + 5) (r .offset + 10) ++ valuesOut s (eqb (getD s (r .offset + 9) 0) 5) (r .count) (r .offset + 10) (r .end)
+
+unfoldable pub primitivesOut : List ℕ → Row → List ℕ
+primitivesOut s r = headOut 15 (r .id) ++ primitiveItemsOut s r
+
 -- ---- a row
 
 -- an object whose bytes after the ObjectId are kept
@@ -98,9 +131,9 @@ unfoldable pub keptOut : List ℕ → Row → List ℕ
 keptOut s r = headOut (r .kind % 256) (r .id) ++ between s (r .offset + 5) (r .end)
 
 unfoldable pub stringOut : List ℕ → Row → List ℕ
-stringOut s r = headOut 6 (r .id) ++ textOut s (r .offset + 5) (r .end)
+stringOut s r = headOut 6 (r .id) ++ textOut s (r .offset + 5)
 
--- libraries and nulls are written with other rows
+-- libraries and nulls are written with other rows; the end record is kept
 unfoldable pub recordOut : List ℕ → List Row → ℕ → Row → List ℕ
 recordOut s rs i r =
     pick (eqb (r .kind) 0) (headerOut (rowAt rs (r .link) .id))
@@ -108,10 +141,13 @@ recordOut s rs i r =
     (pick (isClass (r .kind)) (objectOut s rs i r)
     (pick (eqb (r .kind) 6) (stringOut s r)
     (pick (eqb (r .kind) 7) (arrayOut s rs r)
+    (pick (eqb (r .kind) 8) (typedOut s r)
     (pick (eqb (r .kind) 9) (headOut 9 (rowAt rs (r .link) .id))
     (pick (isNulls (r .kind) || eqb (r .kind) 12) []
-    (pick (eqb (r .kind) 15 || (eqb (r .kind) 16 || eqb (r .kind) 17)) (keptOut s r)
-    (between s (r .offset) (r .end)))))))))
+    (pick (eqb (r .kind) 15) (primitivesOut s r)
+    (pick (eqb (r .kind) 16 || eqb (r .kind) 17) (keptOut s r)
+    (pick (eqb (r .kind) 32) (memberOut s r)
+    (between s (r .offset) (r .end))))))))))))
 
 -- ---- null runs
 

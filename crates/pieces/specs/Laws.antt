@@ -11,15 +11,15 @@ use Rattle.format.specs.declared.Row.{Row}
 use Rattle.format.specs.Bytes.{pick}
 use Rattle.format.specs.Numbers.{leBytes}
 use Rattle.format.specs.Rows.{isClass}
-use Rattle.format.specs.Types.{afterInfo}
+use Rattle.format.specs.Types.{afterText, afterInfo}
 use Rattle.format.specs.Says.{isNulls}
-use Rattle.put.specs.Out.{between, textOut, headOut, byIdOut, headerOut}
+use Rattle.put.specs.Out.{between, textOut, textsOut, headOut, byIdOut, headerOut}
 use Rattle.put.specs.Put.{Along, along-start}
 use Rattle.marks.specs.Marks.{rowAt, word, libraryAt, infosPlace, isFirst}
-use Rattle.pieces.specs.Copy.{libraryNumber, libraryOut, needOut, needInfoOut, needInfosOut, needOwnOut, needClassOut, infoOut, infosOut, ownOut, detailsOut, classOut, objectOut, stringOut, arrayOut, keptOut, recordOut}
+use Rattle.pieces.specs.Copy.{libraryNumber, libraryOut, needOut, needInfoOut, needInfosOut, needOwnOut, needClassOut, infoOut, infosOut, ownOut, detailsOut, membersOut, classOut, objectOut, typedOut, memberOut, stringOut, arrayOut, primitivesOut, keptOut, recordOut}
 
 -- ---- what is written as two pieces
-pub library-is : (s : List ℕ) (g : Row) → libraryOut s g ≡ headOut 12 (g .link) ++ textOut s (g .offset + 5) (g .end)
+pub library-is : (s : List ℕ) (g : Row) → libraryOut s g ≡ headOut 12 (g .link) ++ textOut s (g .offset + 5)
 unfolding libraryOut
 library-is s g = refl
 
@@ -32,7 +32,12 @@ module _ (s : List ℕ) (rs : List Row) (r : Row) where
   unfolding detailsOut
   details-is = refl
 
-  pub class-is : classOut s rs r ≡ headOut (r .kind % 256) (r .id) ++ (between s (r .offset + 5) (infosPlace r) ++ detailsOut s rs r)
+  pub members-is : (p : ℕ) → p ≡ afterText s (r .offset + 5)
+      → membersOut s rs r ≡ textsOut s (r .count) (p + 4) ++ (between s (r .slot) (infosPlace r) ++ detailsOut s rs r)
+  unfolding membersOut
+  members-is p x = rw x
+
+  pub class-is : classOut s rs r ≡ headOut (r .kind % 256) (r .id) ++ (textOut s (r .offset + 5) ++ (leBytes 4 (r .count) ++ membersOut s rs r))
   unfolding classOut
   class-is = refl
 
@@ -57,13 +62,18 @@ module _ (s : List ℕ) (rs : List Row) where
   unfolding needInfoOut
   need-info-none kind e h = rw (ne-eqb _ _ h)
 
-  pub info-4 : (kind p e m l : ℕ) → kind ≡ 4 → m ≡ e - 4 → l ≡ libraryNumber s rs m → infoOut s rs kind p e ≡ between s p m ++ leBytes 4 l
-  unfolding infoOut
-  info-4 kind p e m l h x y = rw (h, y, x)
+  module _ (kind p e : ℕ) where
+    pub info-4 : (m l : ℕ) → kind ≡ 4 → m ≡ e - 4 → l ≡ libraryNumber s rs m → infoOut s rs kind p e ≡ textOut s p ++ leBytes 4 l
+    unfolding infoOut
+    info-4 m l h x y = rw (h, y, x)
 
-  pub info-none : (kind p e : ℕ) → (kind ≡ 4 → ⊥) → infoOut s rs kind p e ≡ between s p e
-  unfolding infoOut
-  info-none kind p e h = rw (ne-eqb _ _ h)
+    pub info-3 : kind ≡ 3 → infoOut s rs kind p e ≡ textOut s p
+    unfolding infoOut
+    info-3 h = rw h
+
+    pub info-none : (kind ≡ 4 → ⊥) → (kind ≡ 3 → ⊥) → infoOut s rs kind p e ≡ between s p e
+    unfolding infoOut
+    info-none h k = rw (ne-eqb _ _ h, ne-eqb _ _ k)
 
   module _ (r : Row) where
     pub need-own-5 : (p : ℕ) → r .kind ≡ 5 → p ≡ r .end - 4 → needOwnOut s rs r ≡ needOut s rs p
@@ -135,10 +145,13 @@ module _ (s : List ℕ) (rs : List Row) (i : ℕ) (r : Row) where
       (pick (isClass k) (objectOut s rs i r)
       (pick (eqb k 6) (stringOut s r)
       (pick (eqb k 7) (arrayOut s rs r)
+      (pick (eqb k 8) (typedOut s r)
       (pick (eqb k 9) (headOut 9 (rowAt rs (r .link) .id))
       (pick (isNulls k || eqb k 12) []
-      (pick (eqb k 15 || (eqb k 16 || eqb k 17)) (keptOut s r)
-      (between s (r .offset) (r .end)))))))))
+      (pick (eqb k 15) (primitivesOut s r)
+      (pick (eqb k 16 || eqb k 17) (keptOut s r)
+      (pick (eqb k 32) (memberOut s r)
+      (between s (r .offset) (r .end))))))))))))
 
   pub record-as : (k : ℕ) → r .kind ≡ k → recordOut s rs i r ≡ recordAs k
   unfolding recordOut

@@ -10,24 +10,22 @@ use Rattle.format.specs.declared.Number32.the-variants as N32
 use Rattle.format.specs.declared.Field.the-variants as F
 use Rattle.format.specs.declared.Row.{Row}
 use Rattle.format.specs.Numbers.{leBytes, u32At, negative}
-use Rattle.format.specs.Text.{stringBytes}
 use Rattle.format.specs.Values.{times}
 use Rattle.format.specs.Types.{typeByteAt, nameAt, typedAt}
 use Rattle.format.specs.Records.{infosAt}
-use Rattle.format.specs.Contents.{Member, namesBytes, typesBytes, infosBytes, classBytes}
-use Rattle.format.specs.Says.{textFrom}
+use Rattle.format.specs.Contents.{Prefixed, bytesIn, Member, namesBytes, typesBytes, infosBytes, classBytes}
 use Rattle.format.specs.Grammar.{ClassInfo, typesOf}
 use Rattle.num.specs.Le.{Bytes}
 use Rattle.types.specs.Keeps.{name-moves}
 use Rattle.class_info.specs.Moves.{names-there, types-there}
 use Rattle.places.specs.Env.{envOf, slotsFrom, typesAt}
 use Rattle.places.specs.Stand.{Stand, stand-then, stand-split}
-use Rattle.places.specs.Fields.{number-there, number-back, not-negative, below-negative, name-there, name-back}
+use Rattle.places.specs.Fields.{number-there, number-back, not-negative, below-negative, prefixedAt, name-there, name-back}
 use Rattle.places.specs.Members.{membersIn, length-members, members-back, members-there, slots-are}
 
 module _ (s : List ℕ) (rows : List Row) where
   -- a good class from p to e; its n type bytes stand at types and its details at infos
-  pub record ClassAt (name : List ℕ) (ms : List (Member ℕ)) (p e n types infos : ℕ) : Type 0 where
+  pub record ClassAt (name : Prefixed) (ms : List (Member Prefixed ℕ)) (p e n types infos : ℕ) : Type 0 where
     pub info : ClassInfo (envOf s rows) name ms
     pub stands : Stand s (classBytes name ms) p e
     pub counted : length ms ≡ n
@@ -41,7 +39,7 @@ module _ (s : List ℕ) (rows : List Row) where
 
   pub class-back : (p q n r types infos e : ℕ) → Bytes s → nameAt s p ≡ F.End q → u32At s q ≡ N32.Value n r → negative n ≡ false
       → times (nameAt s) n r ≡ F.End types → times (typeByteAt s) n types ≡ F.End infos → infosAt s rows n types infos ≡ F.End e
-      → ClassAt (textFrom s p) (membersIn s n r types infos) p e n types infos
+      → ClassAt (prefixedAt s p) (membersIn s n r types infos) p e n types infos
   class-back p q n r types infos e byte a b c d f g =
       let x = name-back s p q byte a in
       let m = name-moves s p q a in
@@ -62,7 +60,7 @@ module _ (s : List ℕ) (rows : List Row) where
       }
 
   -- where the fields of a good class stand
-  pub record ClassEnds (name : List ℕ) (ms : List (Member ℕ)) (p e : ℕ) : Type 0 where
+  pub record ClassEnds (name : Prefixed) (ms : List (Member Prefixed ℕ)) (p e : ℕ) : Type 0 where
     pub count-at : ℕ
     pub names-at : ℕ
     pub types-at : ℕ
@@ -77,15 +75,15 @@ module _ (s : List ℕ) (rows : List Row) where
     pub same : membersIn s (length ms) names-at types-at infos-at ≡ ms
     pub class-at : ClassAt name ms p e (length ms) types-at infos-at
 
-  pub class-there : (name : List ℕ) (ms : List (Member ℕ)) (p e : ℕ) → ClassInfo (envOf s rows) name ms → Stand s (classBytes name ms) p e → ClassEnds name ms p e
+  pub class-there : (name : Prefixed) (ms : List (Member Prefixed ℕ)) (p e : ℕ) → ClassInfo (envOf s rows) name ms → Stand s (classBytes name ms) p e → ClassEnds name ms p e
   class-there name ms p e g w =
-      let a = stand-split (stringBytes name) (leBytes 4 (length ms) ++ (namesBytes ms ++ (typesBytes ms ++ infosBytes ms))) w in
+      let a = stand-split (bytesIn name) (leBytes 4 (length ms) ++ (namesBytes ms ++ (typesBytes ms ++ infosBytes ms))) w in
       let b = stand-split (leBytes 4 (length ms)) (namesBytes ms ++ (typesBytes ms ++ infosBytes ms)) (a .2) in
       let c = stand-split (namesBytes ms) (typesBytes ms ++ infosBytes ms) (b .2) in
       let d = stand-split (typesBytes ms) (infosBytes ms) (c .2) in
       go (a .0) (b .0) (c .0) (d .0) (a .1) (b .1) (c .1) (d .1) (d .2)
     where
-      go : (q r types infos : ℕ) → Stand s (stringBytes name) p q → Stand s (leBytes 4 (length ms)) q r → Stand s (namesBytes ms) r types
+      go : (q r types infos : ℕ) → Stand s (bytesIn name) p q → Stand s (leBytes 4 (length ms)) q r → Stand s (namesBytes ms) r types
           → Stand s (typesBytes ms) types infos → Stand s (infosBytes ms) infos e → ClassEnds name ms p e
       go q r types infos a b c d f =
           let l = g .counted in

@@ -13,13 +13,12 @@ use Rattle.format.specs.declared.Field.the-variants as F
 use Rattle.format.specs.declared.Row.{Row}
 use Rattle.format.specs.Bytes.{pick, part}
 use Rattle.format.specs.Numbers.{le, leBytes}
-use Rattle.format.specs.Text.{stringBytes}
 use Rattle.format.specs.Values.{onEnd}
 use Rattle.format.specs.Types.{codeAt, nameAt, libraryIdAt, positive, infoAt, slotOf, afterText}
 use Rattle.format.specs.Rows.{libraryRow}
 use Rattle.format.specs.Records.{knownLibrary, ownLibraryAt, infoKnown}
-use Rattle.format.specs.Contents.{Detail, primitive, text, object, system, class, objects, texts, primitives, typeByte, infoBytes, slotFor}
-use Rattle.format.specs.Says.{textFrom, numberFrom, codeFrom}
+use Rattle.format.specs.Contents.{Prefixed, bytesIn, Detail, primitive, text, object, system, class, objects, texts, primitives, typeByte, infoBytes, slotFor}
+use Rattle.format.specs.Says.{numberFrom, codeFrom}
 use Rattle.format.specs.Grammar.{LibraryId, GoodDetail}
 use Rattle.format.specs.Own.{positive-exactly}
 use Rattle.fields.specs.Judged.{no-end}
@@ -31,7 +30,7 @@ use Rattle.laws.specs.Fields.{by-type, positive-bits}
 use Rattle.class_info.specs.Moves.{known-moves}
 use Rattle.places.specs.Env.{envOf, library-id, library-id-good}
 use Rattle.places.specs.Stand.{Stand, stand-size, stand-none, stand-then, stand-split}
-use Rattle.places.specs.Fields.{Number, number-size, number-there, number-back, number-from, name-there, name-text, name-after, name-back, code-there, code-from, code-back}
+use Rattle.places.specs.Fields.{Number, number-size, number-there, number-back, number-from, name-there, name-in, name-after, prefixedAt, name-back, code-there, code-from, code-back}
 
 -- ---- LibraryIds
 
@@ -69,13 +68,13 @@ module _ (s : List ℕ) (rows : List Row) (p e : ℕ) where
 -- ---- details
 
 -- the type whose byte is this and whose detail stands here
-unfoldable pub detailIn : List ℕ → ℕ → ℕ → Detail ℕ
+unfoldable pub detailIn : List ℕ → ℕ → ℕ → Detail Prefixed ℕ
 detailIn s type at =
     pick (eqb type 0) (primitive (codeFrom s at))
     (pick (eqb type 1) text
     (pick (eqb type 2) object
-    (pick (eqb type 3) (system (textFrom s at))
-    (pick (eqb type 4) (class (textFrom s at) (numberFrom s (afterText s at)))
+    (pick (eqb type 3) (system (prefixedAt s at))
+    (pick (eqb type 4) (class (prefixedAt s at) (numberFrom s (afterText s at)))
     (pick (eqb type 5) objects
     (pick (eqb type 6) texts
     (primitives (codeFrom s at))))))))
@@ -95,34 +94,34 @@ module _ (s : List ℕ) (rows : List Row) (p : ℕ) where
       go (F.Fault f) = refl
 
   module _ (e : ℕ) where
-    pub detail-there : (d : Detail ℕ) → GoodDetail (envOf s rows) d → Stand s (infoBytes d) p e → infoKnown s rows (typeByte d) p ≡ F.End e
+    pub detail-there : (d : Detail Prefixed ℕ) → GoodDetail (envOf s rows) d → Stand s (infoBytes d) p e → infoKnown s rows (typeByte d) p ≡ F.End e
     unfolding infoKnown infoAt
     detail-there (primitive c) g w = same (codeAt s p) ∙ code-there s c p e w
     detail-there text g w = let k = stand-size w in ap F.End (omega arith)
     detail-there object g w = let k = stand-size w in ap F.End (omega arith)
     detail-there (system n) g w = same (nameAt s p) ∙ name-there s n p e g w
     detail-there (class n l) g w =
-        let x = stand-split (stringBytes n) (leBytes 4 l) w in
+        let x = stand-split (bytesIn n) (leBytes 4 l) w in
         class-detail ∙ rw (name-there s n p (x .0) (g .0) (x .1)) (library-there s rows (x .0) e l (g .1) (x .2))
     detail-there objects g w = let k = stand-size w in ap F.End (omega arith)
     detail-there texts g w = let k = stand-size w in ap F.End (omega arith)
     detail-there (primitives c) g w = same (codeAt s p) ∙ code-there s c p e w
 
     -- and it is the detail that is read there
-    pub detail-in : (d : Detail ℕ) → GoodDetail (envOf s rows) d → Stand s (infoBytes d) p e → detailIn s (typeByte d) p ≡ d
+    pub detail-in : (d : Detail Prefixed ℕ) → GoodDetail (envOf s rows) d → Stand s (infoBytes d) p e → detailIn s (typeByte d) p ≡ d
     unfolding detailIn
     detail-in (primitive c) g w = ap primitive (code-from s c p e w)
     detail-in text g w = refl
     detail-in object g w = refl
-    detail-in (system n) g w = ap system (name-text s n p e g w)
+    detail-in (system n) g w = ap system (name-in s n p e g w)
     detail-in (class n l) g w =
-        let x = stand-split (stringBytes n) (leBytes 4 l) w in
-        rw (name-text s n p (x .0) (g .0) (x .1), name-after s n p (x .0) (g .0) (x .1), number-from s l (x .0) e (positive-bits l (g .1 .sign)) (x .2))
+        let x = stand-split (bytesIn n) (leBytes 4 l) w in
+        rw (name-in s n p (x .0) (g .0) (x .1), name-after s n p (x .0) (g .0) (x .1), number-from s l (x .0) e (positive-bits l (g .1 .sign)) (x .2))
     detail-in objects g w = refl
     detail-in texts g w = refl
     detail-in (primitives c) g w = ap primitives (code-from s c p e w)
 
-pub byte-small : (d : Detail ℕ) → typeByte d ≤ 7
+pub byte-small : (d : Detail Prefixed ℕ) → typeByte d ≤ 7
 byte-small (primitive c) = omega arith
 byte-small text = omega arith
 byte-small object = omega arith
@@ -173,5 +172,5 @@ module _ (s : List ℕ) (p : ℕ) where
             let f : numberFrom s (afterText s p) ≡ numberFrom s (x .0) = ap (numberFrom s) (n .2) in
             record {
               good = (n .0, subst (λ (v : ℕ). LibraryId v (envOf s rows)) (sym f) (l .0));
-              stands = subst (λ (v : ℕ). Stand s (stringBytes (textFrom s p) ++ leBytes 4 v) p e) (sym f) (stand-then (n .1) (l .1));
+              stands = subst (λ (v : ℕ). Stand s (bytesIn (prefixedAt s p) ++ leBytes 4 v) p e) (sym f) (stand-then (n .1) (l .1));
             }

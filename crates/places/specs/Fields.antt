@@ -7,7 +7,6 @@ use mathlib.Core.List.{List, [], _∷_}
 use native.Mathlib.Omega.{arith}
 use lib.ListN.{length, getD, drop}
 use borrow.Author.Tests.{leb-false, lt-leb}
-use Rattle.format.specs.declared.Setting.the-variants as Q
 use Rattle.format.specs.declared.Refusal.the-variants as R
 use Rattle.format.specs.declared.PrimitiveCode.{PrimitiveCode}
 use Rattle.format.specs.declared.Coded.the-variants as D
@@ -16,23 +15,23 @@ use Rattle.format.specs.declared.Text.the-variants as T
 use Rattle.format.specs.declared.Field.the-variants as F
 use Rattle.format.specs.Bytes.{part}
 use Rattle.format.specs.Numbers.{leBytes, negative, u32At}
-use Rattle.format.specs.Prefix.{prefixBytes}
-use Rattle.format.specs.Text.{wellFormed, stringAt, stringBytes}
+use Rattle.format.specs.Text.{wellFormed, textAt, stringAt, spanAt}
 use Rattle.format.specs.Types.{codeNumber, primitiveOf, codeAt, nameAt, afterText}
+use Rattle.format.specs.Contents.{Prefixed, bytesIn}
 use Rattle.format.specs.Says.{textFrom, numberFrom, codeFrom}
 use Rattle.format.specs.Grammar.{Name}
-use Rattle.fields.specs.Judged.{judged-taken}
+use Rattle.fields.specs.Judged.{judgedAt}
 use Rattle.fields.specs.Parts.{length-part}
 use Rattle.num.specs.Le.{Bytes, bytes-part, length-leBytes, leBytes-le}
 use Rattle.num.specs.Read.{u32-says, u32-written, says-below}
-use Rattle.prefix.specs.Laws.{bound}
-use Rattle.spans.specs.Judged.{string-after, string-text}
-use Rattle.strings.specs.Laws.{string-told, string-moves, string-well, string-round, string-converse}
+use Rattle.strings.specs.Laws.{string-part, string-told}
+use Rattle.spans.specs.Judged.{string-span, string-after, string-text}
 use Rattle.codes.specs.Codes.{primitive-number, number-primitive}
 use Rattle.codes.specs.Ends.{code-end, name-end}
 use Rattle.types.specs.Keeps.{code-told, name-told}
 use Rattle.utf8.specs.Exactly.{utf8-exactly}
-use Rattle.places.specs.Stand.{Stand, stand-size, stand-same, stand-part, stand-byte, stand-split, stand-inside, stand-here}
+use Rattle.places.specs.Stand.{Stand, stand-size, stand-same, stand-part, stand-byte, stand-inside, stand-here}
+use Rattle.places.specs.Prefixes.{prefixed, behind, counted-there, writtenAt, counted-back}
 
 -- ---- numbers
 
@@ -78,39 +77,39 @@ below-negative n e = leb-false 2147483648 n e
 
 -- ---- names
 
-module _ (s t : List ℕ) (p e : ℕ) (n : Name t) (w : Stand s (stringBytes t) p e) where
-  string-there : stringAt s p ≡ T.Part (p + length (prefixBytes (length t))) e
+-- the string that stands at a place: the width of its prefix and its text
+abbrev pub prefixedAt : List ℕ → ℕ → Prefixed
+prefixedAt s p = record { width = spanAt s p .from - p; text = textFrom s p }
+
+module _ (s : List ℕ) (t : Prefixed) (p e : ℕ) (n : Name t) (w : Stand s (bytesIn t) p e) where
+  pub string-there : stringAt s p ≡ T.Part (p + t .width) e
+  unfolding textAt judgedAt
   string-there =
-      let k = stand-size w in
-      rw (← k) at (string-round s t (drop e s) p (w .bytes) (utf8-exactly t .1 (n .good)) (n .short))
+      let c = counted-there wellFormed R.BadText s p e t (n .prefix) (n .characters .short) (utf8-exactly (t .text) .1 (n .characters .good)) w in
+      string-part s p (length (t .text)) (p + t .width) e (c .says) (c .ends)
 
   pub name-there : nameAt s p ≡ F.End e
-  name-there = name-end s p (p + length (prefixBytes (length t))) e string-there
+  name-there = name-end s p (p + t .width) e string-there
 
-  pub name-text : textFrom s p ≡ t
-  name-text =
-      let x = stand-split (prefixBytes (length t)) t w in
-      let k = stand-size (x .1) in
-      string-text s p (p + length (prefixBytes (length t))) e string-there ∙ rw (← k) (stand-same (x .2))
+  pub name-text : textFrom s p ≡ t .text
+  name-text = string-text s p (p + t .width) e string-there ∙ stand-same (behind s t p e w)
 
   pub name-after : afterText s p ≡ e
-  name-after = string-after s p (p + length (prefixBytes (length t))) e string-there
+  name-after = string-after s p (p + t .width) e string-there
+
+  pub name-in : prefixedAt s p ≡ t
+  name-in = prefixed t (spanAt s p .from - p) (textFrom s p) (rw (string-span s p (p + t .width) e string-there) (omega arith)) name-text
 
 pub name-back : (s : List ℕ) (p e : ℕ) → Bytes s → nameAt s p ≡ F.End e
-    → Name (textFrom s p) × Stand s (stringBytes (textFrom s p)) p e × (afterText s p ≡ e)
+    → Name (prefixedAt s p) × Stand s (bytesIn (prefixedAt s p)) p e × (afterText s p ≡ e)
 name-back s p e b q =
     let w = name-told s p e q in
     let a = w .0 in
-    let m = string-moves s p a e (w .1) in
     let c = string-told s p a e (w .1) in
-    let i = bound Q.Strict s p (c .0) a (c .1 .says) in
-    let j = judged-taken wellFormed R.BadText s a (c .0) e (c .1 .ends) in
-    let l = length-part s a (e - a) (omega arith) in
-    let x = string-text s p a e (w .1) in (
-      record { good = utf8-exactly (textFrom s p) .0 (rw x (string-well s p a e (w .1))); short = rw (x, l) (omega (arith, j .ends)) },
-      rw x (record { bytes = string-converse s b p a e (w .1); onward = omega arith; room = m .2 }),
-      string-after s p a e (w .1),
-    )
+    let y = counted-back wellFormed R.BadText s p e (c .0) a b (c .1) in
+    let g : Name (writtenAt s p a e) =
+    record { characters = record { good = utf8-exactly (part s a (e - a)) .0 (y .good); short = y .short }; prefix = y .width } in
+    rw (string-span s p a e (w .1)) (g, y .stands, string-after s p a e (w .1))
 
 -- ---- codes
 

@@ -1,8 +1,10 @@
 -- What stands at a place, in the words of the grammar.
 pub mod Env
 pub mod Stand
+pub mod Prefixes
 pub mod Fields
 pub mod Values
+pub mod Items
 pub mod Details
 pub mod Members
 pub mod Lengths

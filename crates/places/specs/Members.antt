@@ -9,12 +9,10 @@ use borrow.Author.Tests.{lt-ltb}
 use Rattle.format.specs.declared.SlotType.{SlotType}
 use Rattle.format.specs.declared.Field.the-variants as F
 use Rattle.format.specs.declared.Row.{Row}
-use Rattle.format.specs.Text.{stringBytes}
 use Rattle.format.specs.Values.{times}
 use Rattle.format.specs.Types.{typeByteAt, nameAt, typedAt, afterText, afterInfo}
 use Rattle.format.specs.Records.{infoKnown, infosAt}
-use Rattle.format.specs.Contents.{Member, typeByte, infoBytes, slotFor, namesBytes, typesBytes, infosBytes}
-use Rattle.format.specs.Says.{textFrom}
+use Rattle.format.specs.Contents.{Prefixed, bytesIn, Member, typeByte, infoBytes, slotFor, namesBytes, typesBytes, infosBytes}
 use Rattle.format.specs.Grammar.{Entry, Members, no-more, member, typesOf}
 use Rattle.fields.specs.Sequence.{through}
 use Rattle.num.specs.Le.{Bytes}
@@ -25,14 +23,14 @@ use Rattle.slots.specs.Slots.{moved-on}
 use Rattle.class_info.specs.Moves.{info-plain, info-known-moves}
 use Rattle.places.specs.Env.{envOf, slotsFrom}
 use Rattle.places.specs.Stand.{Stand, stand-size, stand-none, stand-byte, stand-then, stand-split, stand-inside, stand-here, stand-after}
-use Rattle.places.specs.Fields.{name-there, name-text, name-after, name-back}
+use Rattle.places.specs.Fields.{prefixedAt, name-there, name-in, name-after, name-back}
 use Rattle.places.specs.Details.{detailIn, detail-there, detail-in, detail-byte, detail-slot, detail-back, byte-small}
 
 -- n members whose names, type bytes and details stand at these places
-unfoldable pub membersIn : List ℕ → ℕ → ℕ → ℕ → ℕ → List (Member ℕ)
+unfoldable pub membersIn : List ℕ → ℕ → ℕ → ℕ → ℕ → List (Member Prefixed ℕ)
 membersIn s zero names types infos = []
 membersIn s (suc n) names types infos =
-    record { name = textFrom s names; type = detailIn s (getD s types 0) infos }
+    record { name = prefixedAt s names; type = detailIn s (getD s types 0) infos }
     ∷ membersIn s n (afterText s names) (types + 1) (afterInfo s (getD s types 0) infos)
 
 pub length-members : (s : List ℕ) (n names types infos : ℕ) → length (membersIn s n names types infos) ≡ n
@@ -41,7 +39,7 @@ length-members s zero names types infos = refl
 length-members s (suc n) names types infos = ap suc (length-members s n (afterText s names) (types + 1) (afterInfo s (getD s types 0) infos))
 
 -- good members that stand at these places, and the places after them
-pub record MembersAt (es : List Entry) (s : List ℕ) (ms : List (Member ℕ)) (names types infos a b c : ℕ) : Type 0 where
+pub record MembersAt (es : List Entry) (s : List ℕ) (ms : List (Member Prefixed ℕ)) (names types infos a b c : ℕ) : Type 0 where
   pub good : Members es ms
   pub names-stand : Stand s (namesBytes ms) names a
   pub types-stand : Stand s (typesBytes ms) types b
@@ -76,11 +74,11 @@ module _ (s : List ℕ) (rows : List Row) where
           let x = name-back s names m byte q in
           let d = detail-back s infos rows k (getD s types 0) g byte j u in
           let f : typeByte (detailIn s (getD s types 0) infos) ≡ getD s types 0 = detail-byte s infos (getD s types 0) g in
-          let i = info-after s (getD s types 0) infos k (info-plain s rows (getD s types 0) infos k u) in
-          let here : Member ℕ = record { name = textFrom s names; type = detailIn s (getD s types 0) infos } in
-          subst (λ (z : ℕ). MembersAt (envOf s rows) s (here ∷ membersIn s n z (types + 1) (afterInfo s (getD s types 0) infos)) names types infos a b c)
-          (sym (x .2))
-          (rw i (record {
+          let here : Member Prefixed ℕ = record { name = prefixedAt s names; type = detailIn s (getD s types 0) infos } in
+          let y = info-after s (getD s types 0) infos k (info-plain s rows (getD s types 0) infos k u) in
+          subst (λ (v : ℕ). MembersAt (envOf s rows) s (here ∷ membersIn s n v (types + 1) (afterInfo s (getD s types 0) infos)) names types infos a b c) (sym (x .2))
+          (subst (λ (v : ℕ). MembersAt (envOf s rows) s (here ∷ membersIn s n m (types + 1) v) names types infos a b c) (sym y)
+          (record {
             good = member (x .0) (d .good) (more .good);
             names-stand = stand-then (x .1) (more .names-stand);
             types-stand = rw f (stand-then (stand-byte l) (more .types-stand));
@@ -90,13 +88,13 @@ module _ (s : List ℕ) (rows : List Row) where
   -- ---- what is written is read
 
   -- where good members end, and that they are those read at these places
-  pub record MembersEnd (ms : List (Member ℕ)) (names types infos a b c : ℕ) : Type 0 where
+  pub record MembersEnd (ms : List (Member Prefixed ℕ)) (names types infos a b c : ℕ) : Type 0 where
     pub names-end : times (nameAt s) (length ms) names ≡ F.End a
     pub types-end : times (typeByteAt s) (length ms) types ≡ F.End b
     pub infos-end : infosAt s rows (length ms) types infos ≡ F.End c
     pub same : membersIn s (length ms) names types infos ≡ ms
 
-  pub members-there : (ms : List (Member ℕ)) (names types infos a b c : ℕ) → Members (envOf s rows) ms
+  pub members-there : (ms : List (Member Prefixed ℕ)) (names types infos a b c : ℕ) → Members (envOf s rows) ms
       → Stand s (namesBytes ms) names a → Stand s (typesBytes ms) types b → Stand s (infosBytes ms) infos c
       → MembersEnd ms names types infos a b c
   unfolding times infosAt membersIn
@@ -106,29 +104,23 @@ module _ (s : List ℕ) (rows : List Row) where
       let k = stand-size z in
       record { names-end = ap F.End (omega arith); types-end = ap F.End (omega arith); infos-end = ap F.End (omega arith); same = refl }
   members-there ms names types infos a b c (member {m = m} {ms = rest} g d more) x y z =
-      let u = stand-split (stringBytes (m .name)) (namesBytes rest) x in
+      let u = stand-split (bytesIn (m .name)) (namesBytes rest) x in
       let w = stand-split (infoBytes (m .type)) (infosBytes rest) z in
       step (u .0) (w .0) (u .1) (w .1) (members-there rest (u .0) (types + 1) (w .0) a b c more (u .2) (stand-after y) (w .2))
     where
-      step : (i k : ℕ) → Stand s (stringBytes (m .name)) names i → Stand s (infoBytes (m .type)) infos k
+      step : (i k : ℕ) → Stand s (bytesIn (m .name)) names i → Stand s (infoBytes (m .type)) infos k
           → MembersEnd rest i (types + 1) k a b c → MembersEnd (m ∷ rest) names types infos a b c
       step i k u w ends =
           let f : getD s types 0 ≡ typeByte (m .type) = stand-here y in
           let n = name-there s (m .name) names i g u in
           let q = detail-there s rows infos k (m .type) d w in
+          let a = info-after s (typeByte (m .type)) infos k (info-plain s rows (typeByte (m .type)) infos k q) in
           let t : typeByteAt s types ≡ F.End (types + 1) = type-end s types (stand-inside y) (rw f (byte-small (m .type))) in
           record {
             names-end = rw n (ends .names-end);
             types-end = rw t (ends .types-end);
             infos-end = rw (f, q) (ends .infos-end);
-            same = rw (
-              f,
-              name-text s (m .name) names i g u,
-              detail-in s rows infos k (m .type) d w,
-              name-after s (m .name) names i g u,
-              info-after s (typeByte (m .type)) infos k (info-plain s rows (typeByte (m .type)) infos k q),
-              ends .same,
-            );
+            same = rw (f, name-in s (m .name) names i g u, detail-in s rows infos k (m .type) d w, name-after s (m .name) names i g u, a, ends .same);
           }
 
   -- ---- the types of an object's slots

@@ -7,7 +7,7 @@ use Rattle.format.specs.declared.SlotType.{SlotType}
 use Rattle.format.specs.declared.Field.the-variants as F
 use Rattle.format.specs.declared.Row.{Row}
 use Rattle.format.specs.Values.{valueAt}
-use Rattle.format.specs.Contents.{Rec, value, enc}
+use Rattle.format.specs.Contents.{Prefixed, Rec, value, enc}
 use Rattle.format.specs.Grammar.{Value}
 use Rattle.places.specs.Env.{envOf}
 use Rattle.places.specs.Stand.{Stand}
@@ -36,6 +36,6 @@ module _ (s : List ℕ) (rows : List Row) (at e : ℕ) where
 
 -- ---- member values
 
-pub member-read : (s : List ℕ) (c : PrimitiveCode) (v : List ℕ) (at e : ℕ) → Value c v → Stand s (enc (value v)) at e → valueAt s c at ≡ F.End e
+pub member-read : (s : List ℕ) (c : PrimitiveCode) (v : Prefixed) (at e : ℕ) → Value c v → Stand s (enc (value c v)) at e → valueAt s c at ≡ F.End e
 unfolding enc
 member-read s c v at e g w = value-there s c v at e g w

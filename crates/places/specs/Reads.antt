@@ -10,11 +10,10 @@ use Rattle.format.specs.declared.PrimitiveCode.{PrimitiveCode}
 use Rattle.format.specs.declared.Heading.the-variants as H
 use Rattle.format.specs.declared.Row.{Row}
 use Rattle.format.specs.Numbers.{leBytes}
-use Rattle.format.specs.Text.{stringBytes}
 use Rattle.format.specs.Types.{codeNumber}
 use Rattle.format.specs.Rows.{isClass}
 use Rattle.format.specs.Records.{headerAt, stringRecordAt, typedPrimitiveAt, referenceAt, nullsAt, longNullsAt, libraryAt, headingAt}
-use Rattle.format.specs.Contents.{Rec, header, string, typedPrimitive, reference, null, nulls, manyNulls, end, library, enc}
+use Rattle.format.specs.Contents.{Prefixed, bytesIn, Rec, header, string, typedPrimitive, reference, null, nulls, manyNulls, end, library, enc}
 use Rattle.format.specs.Grammar.{Positive, Name, Value, ObjectId, known}
 use Rattle.format.specs.Own.{positive-exactly}
 use Rattle.laws.specs.Fields.{positive-bits}
@@ -47,18 +46,18 @@ module _ (s : List ℕ) (rows : List Row) (at e : ℕ) where
         number-there s 0 (z .0) e (omega arith) (z .2),
       ))
 
-  pub string-there : (i : ℕ) (t : List ℕ) → ObjectId i (envOf s rows) → Name t → Stand s (enc (string i t)) at e → There s rows 6 at (string i t) i 0 0 []
+  pub string-there : (i : ℕ) (t : Prefixed) → ObjectId i (envOf s rows) → Name t → Stand s (enc (string i t)) at e → There s rows 6 at (string i t) i 0 0 []
   unfolding headingAt stringRecordAt enc
   string-there i t o n w =
-      let x = stand-split (leBytes 4 i) (stringBytes t) (stand-after w) in
+      let x = stand-split (leBytes 4 i) (bytesIn t) (stand-after w) in
       plain-there 6 (string i t) _ i 0 refl w refl (λ row offset next owner slot. refl)
       (rw (number-there s i (at + 1) (x .0) (positive-bits i (o .sign)) (x .1), object-id-good s rows i o, name-there s t (x .0) e n (x .2)))
 
-  pub typed-primitive-there : (c : PrimitiveCode) (v : List ℕ) → Value c v → Stand s (enc (typedPrimitive c v)) at e
+  pub typed-primitive-there : (c : PrimitiveCode) (v : Prefixed) → Value c v → Stand s (enc (typedPrimitive c v)) at e
       → There s rows 8 at (typedPrimitive c v) 0 0 0 []
   unfolding headingAt typedPrimitiveAt enc
   typed-primitive-there c v g w =
-      let x = stand-split (codeNumber c ∷ []) v (stand-after w) in
+      let x = stand-split (codeNumber c ∷ []) (bytesIn v) (stand-after w) in
       plain-there 8 (typedPrimitive c v) _ 0 0 refl w refl (λ row offset next owner slot. refl)
       (rw (code-there s c (at + 1) (x .0) (x .1), code-from s c (at + 1) (x .0) (x .1), value-there s c v (x .0) e g (x .2)))
 
@@ -80,11 +79,11 @@ module _ (s : List ℕ) (rows : List Row) (at e : ℕ) where
       let k : e ≡ at + 1 = stand-size w in
       plain-there 11 end _ 0 0 refl w refl (λ row offset next owner slot. refl) (rw k)
 
-  pub library-there : (i : ℕ) (n : List ℕ) → Positive i → known i (envOf s rows) ≡ false → Name n → Stand s (enc (library i n)) at e
+  pub library-there : (i : ℕ) (n : Prefixed) → Positive i → known i (envOf s rows) ≡ false → Name n → Stand s (enc (library i n)) at e
       → There s rows 12 at (library i n) i 0 0 []
   unfolding headingAt libraryAt enc
   library-there i n p u g w =
-      let x = stand-split (leBytes 4 i) (stringBytes n) (stand-after w) in
+      let x = stand-split (leBytes 4 i) (bytesIn n) (stand-after w) in
       plain-there 12 (library i n) _ i 0 refl w refl (λ row offset next owner slot. refl)
       (rw (number-there s i (at + 1) (x .0) (positive-bits i p) (x .1), library-new-good s rows i p u, name-there s n (x .0) e g (x .2)))
 

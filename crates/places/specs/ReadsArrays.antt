@@ -18,14 +18,14 @@ use Rattle.format.specs.Numbers.{leBytes}
 use Rattle.format.specs.Types.{codeNumber, typeByteAt, slotOf, typedAt}
 use Rattle.format.specs.Rows.{isClass}
 use Rattle.format.specs.Records.{slotArrayAt, primitiveArrayAt, lengthsAt, itemsOf, itemTypeAt, rankAt, binaryArrayAt, headingAt}
-use Rattle.format.specs.Contents.{Detail, typeByte, infoBytes, slotFor, Rec, array, primitive, primitiveArray, objectArray, stringArray, numbersBytes, enc}
+use Rattle.format.specs.Contents.{Prefixed, Detail, typeByte, infoBytes, slotFor, Rec, array, primitive, primitiveArray, objectArray, stringArray, numbersBytes, itemsBytes, enc}
 use Rattle.format.specs.Grammar.{GoodDetail, ObjectId, Values, Shape, product, Array, of-objects, of-strings, of-primitives, of-any, of-values, takesRecords}
 use Rattle.codes.specs.Ends.{type-end}
 use Rattle.laws.specs.Fields.{positive-bits}
 use Rattle.places.specs.Env.{envOf, entryOf, object-id-good}
 use Rattle.places.specs.Stand.{Stand, stand-size, stand-split, stand-inside, stand-here, stand-after}
 use Rattle.places.specs.Fields.{number-there, not-negative, code-there, code-from}
-use Rattle.places.specs.Values.{items-there}
+use Rattle.places.specs.Items.{items-there}
 use Rattle.places.specs.Details.{detail-there, detail-in, detail-slot, byte-small}
 use Rattle.places.specs.Lengths.{ranked-there, ranked-small, lengths-there}
 use Rattle.places.specs.Recs.{entryFor, rowWith, There, slottedHead, slotted-told}
@@ -66,13 +66,13 @@ module _ (s : List ℕ) (rows : List Row) (at e : ℕ) where
         not-negative n h,
       ))
 
-  primitive-array-there : (i n : ℕ) (c : PrimitiveCode) (vs : List ℕ) → ObjectId i (envOf s rows) → n < 2147483648 → Values c n vs
+  primitive-array-there : (i n : ℕ) (c : PrimitiveCode) (vs : List Prefixed) → ObjectId i (envOf s rows) → n < 2147483648 → Values c n vs
       → Stand s (enc (primitiveArray i n c vs)) at e → There s rows 15 at (primitiveArray i n c vs) i n 0 []
   unfolding headingAt primitiveArrayAt enc
   primitive-array-there i n c vs o h g w =
-      let x = stand-split (leBytes 4 i) (leBytes 4 n ++ (codeNumber c ∷ vs)) (stand-after w) in
-      let y = stand-split (leBytes 4 n) (codeNumber c ∷ vs) (x .2) in
-      let z = stand-split (codeNumber c ∷ []) vs (y .2) in
+      let x = stand-split (leBytes 4 i) (leBytes 4 n ++ (codeNumber c ∷ itemsBytes vs)) (stand-after w) in
+      let y = stand-split (leBytes 4 n) (codeNumber c ∷ itemsBytes vs) (x .2) in
+      let z = stand-split (codeNumber c ∷ []) (itemsBytes vs) (y .2) in
       plain-there s rows at e 15 (primitiveArray i n c vs) _ i n refl w refl (λ row offset next owner slot. refl)
       (rw (
         number-there s i (at + 1) (x .0) (positive-bits i (o .sign)) (x .1),
@@ -87,7 +87,7 @@ module _ (s : List ℕ) (rows : List Row) (at e : ℕ) where
   -- ---- BinaryArray
 
   -- the type byte and the detail of the items, after the lengths
-  type-there : (id n types infos x : ℕ) (d : Detail ℕ) → GoodDetail (envOf s rows) d → Stand s (typeByte d ∷ []) types infos → Stand s (infoBytes d) infos x
+  type-there : (id n types infos x : ℕ) (d : Detail Prefixed ℕ) → GoodDetail (envOf s rows) d → Stand s (typeByte d ∷ []) types infos → Stand s (infoBytes d) infos x
       → itemTypeAt s rows id n types ≡ itemsOf s id n infos x (slotFor d)
   unfolding itemTypeAt typedAt
   type-there id n types infos x d g v w =
@@ -99,22 +99,22 @@ module _ (s : List ℕ) (rows : List Row) (at e : ℕ) where
       rw (t, f, detail-there s rows infos x d g w, y)
 
   -- up to the items, which stand from x on
-  record Begun (i n : ℕ) (d : Detail ℕ) (vs : List ℕ) : Type 0 where
+  record Begun (i n : ℕ) (d : Detail Prefixed ℕ) (vs : List Prefixed) : Type 0 where
     infos : ℕ
     items : ℕ
     taken : headingAt s rows 7 at ≡ itemsOf s i n infos items (slotFor d)
-    stands : Stand s vs items e
+    stands : Stand s (itemsBytes vs) items e
 
-  begun : (i type : ℕ) (ns : List ℕ) (d : Detail ℕ) (vs : List ℕ) → ObjectId i (envOf s rows) → Shape type ns → GoodDetail (envOf s rows) d
+  begun : (i type : ℕ) (ns : List ℕ) (d : Detail Prefixed ℕ) (vs : List Prefixed) → ObjectId i (envOf s rows) → Shape type ns → GoodDetail (envOf s rows) d
       → Stand s (enc (array i type ns d vs)) at e → Begun i (product ns) d vs
   unfolding headingAt binaryArrayAt rankAt enc
   begun i type ns d vs o h g w =
-      let a = stand-split (leBytes 4 i) (type ∷ (leBytes 4 (length ns) ++ (numbersBytes ns ++ (typeByte d ∷ (infoBytes d ++ vs))))) (stand-after w) in
+      let a = stand-split (leBytes 4 i) (type ∷ (leBytes 4 (length ns) ++ (numbersBytes ns ++ (typeByte d ∷ (infoBytes d ++ itemsBytes vs))))) (stand-after w) in
       let p = a .0 in
-      let b = stand-split (leBytes 4 (length ns)) (numbersBytes ns ++ (typeByte d ∷ (infoBytes d ++ vs))) (stand-after (a .2)) in
-      let c = stand-split (numbersBytes ns) (typeByte d ∷ (infoBytes d ++ vs)) (b .2) in
-      let f = stand-split (typeByte d ∷ []) (infoBytes d ++ vs) (c .2) in
-      let k = stand-split (infoBytes d) vs (f .2) in
+      let b = stand-split (leBytes 4 (length ns)) (numbersBytes ns ++ (typeByte d ∷ (infoBytes d ++ itemsBytes vs))) (stand-after (a .2)) in
+      let c = stand-split (numbersBytes ns) (typeByte d ∷ (infoBytes d ++ itemsBytes vs)) (b .2) in
+      let f = stand-split (typeByte d ∷ []) (infoBytes d ++ itemsBytes vs) (c .2) in
+      let k = stand-split (infoBytes d) (itemsBytes vs) (f .2) in
       let r = ranked-small type (length ns) (h .ranked) in
       let one : 1 * product ns ≡ product ns = one-mul (product ns) in
       let l : lengthsAt s (length ns) 1 (b .0) ≡ L.Product (product ns) (c .0) =
@@ -146,7 +146,7 @@ module _ (s : List ℕ) (rows : List Row) (at e : ℕ) where
   items-slotted id n infos x S.StringArray f = refl
   items-slotted id n infos x (S.PrimitiveArray c) f = refl
 
-  any-array-there : (i type : ℕ) (ns : List ℕ) (d : Detail ℕ) → ObjectId i (envOf s rows) → Shape type ns → GoodDetail (envOf s rows) d
+  any-array-there : (i type : ℕ) (ns : List ℕ) (d : Detail Prefixed ℕ) → ObjectId i (envOf s rows) → Shape type ns → GoodDetail (envOf s rows) d
       → takesRecords (slotFor d) ≡ true → Stand s (enc (array i type ns d [])) at e
       → There s rows 7 at (array i type ns d []) i (product ns) 0 (replicate (product ns) (slotFor d))
   unfolding enc
@@ -156,7 +156,7 @@ module _ (s : List ℕ) (rows : List Row) (at e : ℕ) where
       slotted-there 7 (array i type ns d []) _ i (product ns) (slotFor d) (b .infos) refl w refl (λ row offset next owner slot. refl)
       (b .taken ∙ (items-slotted i (product ns) (b .infos) (b .items) (slotFor d) f ∙ ap (λ (x : ℕ). H.Fields (slottedHead s i x (product ns) (slotFor d) (b .infos))) (sym k)))
 
-  value-array-there : (i type : ℕ) (ns : List ℕ) (c : PrimitiveCode) (vs : List ℕ) → ObjectId i (envOf s rows) → Shape type ns
+  value-array-there : (i type : ℕ) (ns : List ℕ) (c : PrimitiveCode) (vs : List Prefixed) → ObjectId i (envOf s rows) → Shape type ns
       → Values c (product ns) vs → Stand s (enc (array i type ns (primitive c) vs)) at e
       → There s rows 7 at (array i type ns (primitive c) vs) i (product ns) 0 []
   unfolding enc

@@ -11,7 +11,7 @@ use Rattle.format.specs.declared.Row.{Row}
 use Rattle.format.specs.Numbers.{leBytes}
 use Rattle.format.specs.Rows.{blank, classRow}
 use Rattle.format.specs.Records.{afterInfos, membersAt, classAt, classByIdAt, headingAt}
-use Rattle.format.specs.Contents.{Member, classBytes, classById, systemClass, libraryClass, enc}
+use Rattle.format.specs.Contents.{Prefixed, Member, classBytes, classById, systemClass, libraryClass, enc}
 use Rattle.format.specs.Grammar.{aClass, ClassId, LibraryId, ClassInfo, typesOf, classed, classOf}
 use Rattle.class_info.specs.Stages.{namedClassAt}
 use Rattle.places.specs.Env.{envOf, class-told, class-id-good}
@@ -23,12 +23,12 @@ use Rattle.places.specs.Recs.{There, classHead, class-head-told, byIdHea
 
 module _ (s : List ℕ) (rows : List Row) (at e : ℕ) where
   -- the fields after the ObjectId of a class record, of either kind
-  named-there : (own : Bool) (id p x : ℕ) (n : List ℕ) (ms : List (Member ℕ)) (c : ClassEnds s rows n ms p x) → afterInfos own s rows x ≡ F.End e
+  named-there : (own : Bool) (id p x : ℕ) (n : Prefixed) (ms : List (Member Prefixed ℕ)) (c : ClassEnds s rows n ms p x) → afterInfos own s rows x ≡ F.End e
       → namedClassAt s rows own id p ≡ H.Fields (classHead s id (length ms) (c .types-at) (c .infos-at) e)
   unfolding namedClassAt membersAt
   named-there own id p x n ms c f = rw (c .name-end, c .count-is, c .fits, c .names-end, c .types-end, c .infos-end, f)
 
-  pub system-class-there : (i : ℕ) (n : List ℕ) (ms : List (Member ℕ)) → ClassId i (envOf s rows) → ClassInfo (envOf s rows) n ms
+  pub system-class-there : (i : ℕ) (n : Prefixed) (ms : List (Member Prefixed ℕ)) → ClassId i (envOf s rows) → ClassInfo (envOf s rows) n ms
       → Stand s (enc (systemClass i n ms)) at e → There s rows 4 at (systemClass i n ms) i (length ms) 0 (typesOf ms)
   unfolding headingAt classAt namedClassAt enc
   system-class-there i n ms g f w =
@@ -42,7 +42,7 @@ module _ (s : List ℕ) (rows : List Row) (at e : ℕ) where
             (λ row offset next owner slot. ap (λ (ts : List SlotType). aClass i row ts ∷ []) (a .known));
       }
 
-  pub library-class-there : (i : ℕ) (n : List ℕ) (ms : List (Member ℕ)) (l : ℕ) → ClassId i (envOf s rows) → ClassInfo (envOf s rows) n ms
+  pub library-class-there : (i : ℕ) (n : Prefixed) (ms : List (Member Prefixed ℕ)) (l : ℕ) → ClassId i (envOf s rows) → ClassInfo (envOf s rows) n ms
       → LibraryId l (envOf s rows) → Stand s (enc (libraryClass i n ms l)) at e
       → There s rows 5 at (libraryClass i n ms l) i (length ms) 0 (typesOf ms)
   unfolding headingAt classAt namedClassAt enc

@@ -15,7 +15,7 @@ use Rattle.format.specs.Bytes.{pick}
 use Rattle.format.specs.Types.{typedAt, alike, moved}
 use Rattle.format.specs.Rows.{isClass}
 use Rattle.format.specs.Records.{isKind, notTaken, within, headingAt}
-use Rattle.format.specs.Contents.{Member, Rec, header, classById, systemClass, libraryClass, string, array, typedPrimitive, reference, null, nulls, manyNulls, end, library, primitiveArray, objectArray, stringArray, value, enc}
+use Rattle.format.specs.Contents.{Prefixed, Member, Rec, header, classById, systemClass, libraryClass, string, array, typedPrimitive, reference, null, nulls, manyNulls, end, library, primitiveArray, objectArray, stringArray, value, enc}
 use Rattle.format.specs.Grammar.{Positive, Entry, aClass, another, aLibrary, known, classed, classOf, ClassId, ObjectId, LibraryId, Name, Value, ClassInfo, typesOf, size, Array, of-objects, of-strings, of-primitives, of-any, of-values}
 use Rattle.slots.specs.Slots.{moved-alike}
 use Rattle.places.specs.Env.{slotsFrom, typesAt, classSlots, entryOf, envOf, env-more}
@@ -27,16 +27,16 @@ pub data Good (es : List Entry) : (kind : ℕ) → Rec → (id count class : ℕ
   is-header : {root h : ℕ} → root < 4294967296 → h < 4294967296 → Good es 0 (header root h) root 0 0 []
   is-class-by-id : {i k row : ℕ} {ts : List SlotType} → ClassId i es → k < 4294967296 → classOf k es ≡ classed row ts
       → Good es 1 (classById i k) i (length ts) row ts
-  is-system-class : {i : ℕ} {n : List ℕ} {ms : List (Member ℕ)} → ClassId i es → ClassInfo es n ms
+  is-system-class : {i : ℕ} {n : Prefixed} {ms : List (Member Prefixed ℕ)} → ClassId i es → ClassInfo es n ms
       → Good es 4 (systemClass i n ms) i (length ms) 0 (typesOf ms)
-  is-library-class : {i l : ℕ} {n : List ℕ} {ms : List (Member ℕ)} → ClassId i es → ClassInfo es n ms → LibraryId l es
+  is-library-class : {i l : ℕ} {n : Prefixed} {ms : List (Member Prefixed ℕ)} → ClassId i es → ClassInfo es n ms → LibraryId l es
       → Good es 5 (libraryClass i n ms l) i (length ms) 0 (typesOf ms)
-  is-string : {i : ℕ} {t : List ℕ} → ObjectId i es → Name t → Good es 6 (string i t) i 0 0 []
-  is-typed-primitive : {c : PrimitiveCode} {v : List ℕ} → Value c v → Good es 8 (typedPrimitive c v) 0 0 0 []
+  is-string : {i : ℕ} {t : Prefixed} → ObjectId i es → Name t → Good es 6 (string i t) i 0 0 []
+  is-typed-primitive : {c : PrimitiveCode} {v : Prefixed} → Value c v → Good es 8 (typedPrimitive c v) 0 0 0 []
   is-reference : {i : ℕ} → Positive i → Good es 9 (reference i) i 0 0 []
   is-null : Good es 10 null 0 1 0 []
   is-end : Good es 11 end 0 0 0 []
-  is-library : {i : ℕ} {n : List ℕ} → Positive i → known i es ≡ false → Name n → Good es 12 (library i n) i 0 0 []
+  is-library : {i : ℕ} {n : Prefixed} → Positive i → known i es ≡ false → Name n → Good es 12 (library i n) i 0 0 []
   is-nulls : {k : ℕ} → k < 256 → Good es 13 (nulls k) 0 k 0 []
   is-many-nulls : {k : ℕ} → Positive k → Good es 14 (manyNulls k) 0 k 0 []
   is-array : {k i n : ℕ} {r : Rec} {ts : List SlotType} → ObjectId i es → Array es r k i n ts → Good es k r i n 0 ts
@@ -82,7 +82,7 @@ entryFor row (library i n) = aLibrary i ∷ []
 entryFor row (primitiveArray i n c vs) = another i ∷ []
 entryFor row (objectArray i n) = another i ∷ []
 entryFor row (stringArray i n) = another i ∷ []
-entryFor row (value v) = []
+entryFor row (value c v) = []
 
 -- the row, before linking, of a record with these fields
 abbrev pub rowWith : ℕ → Head → (offset after owner slot : ℕ) → Row
@@ -166,7 +166,7 @@ module _ (s : List ℕ) where
   abbrev pub classHead : ℕ → ℕ → ℕ → ℕ → ℕ → Head
   classHead id n types infos after = record { id = id; end = after; count = n; slots = n; first = typedAt s types infos; link = types }
 
-  pub class-head-told : (k at : ℕ) (r : Rec) (id n types infos after : ℕ) (ms : List (Member ℕ)) → Stand s (enc r) at after → at < length s → getD s at 0 ≡ k
+  pub class-head-told : (k at : ℕ) (r : Rec) (id n types infos after : ℕ) (ms : List (Member Prefixed ℕ)) → Stand s (enc r) at after → at < length s → getD s at 0 ≡ k
       → isClass k ≡ true → length ms ≡ n → slotsFrom s (typedAt s types infos) n ≡ typesOf ms
       → ((row offset next owner slot : ℕ) → entryOf s row (rowWith k (classHead id n types infos after) offset next owner slot) ≡ entryFor row r)
       → Told s k at (classHead id n types infos after) r id (length ms) 0 (typesOf ms)

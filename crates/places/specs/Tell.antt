@@ -16,7 +16,7 @@ use Rattle.format.specs.declared.Head.{Head}
 use Rattle.format.specs.declared.Heading.{Heading}
 use Rattle.format.specs.declared.Heading.the-variants as H
 use Rattle.format.specs.declared.Row.{Row}
-use Rattle.format.specs.Bytes.{pick, part}
+use Rattle.format.specs.Bytes.{pick}
 use Rattle.format.specs.Values.{valueAt}
 use Rattle.format.specs.Records.{isKind, notTaken, kindAt, slotArrayAt, headingAt}
 use Rattle.format.specs.Contents.{value, enc}
@@ -24,7 +24,7 @@ use Rattle.format.specs.Grammar.{Value}
 use Rattle.num.specs.Le.{Bytes}
 use Rattle.kinds.specs.Kinds.{kind-within, kind-byte}
 use Rattle.places.specs.Stand.{Stand}
-use Rattle.places.specs.Values.{value-back}
+use Rattle.places.specs.Values.{valueIn, value-back}
 use Rattle.places.specs.Recs.{Back}
 use Rattle.places.specs.Tells.{Said, said-if, header-back, string-back, typed-primitive-back, reference-back, null-back, end-back, library-back, nulls-back, many-nulls-back}
 use Rattle.places.specs.TellsClasses.{system-class-back, library-class-back, class-by-id-back}
@@ -89,6 +89,6 @@ record-told s rows w at k h byte q e =
 -- ---- member values
 
 pub member-told : (s : List ℕ) (c : PrimitiveCode) (at e : ℕ) → Bytes s → valueAt s c at ≡ F.End e
-    → Value c (part s at (e - at)) × Stand s (enc (value (part s at (e - at)))) at e
+    → Value c (valueIn s c at) × Stand s (enc (value c (valueIn s c at))) at e
 unfolding enc
-member-told s c at e byte q = value-back s c at e byte q
+member-told s c at e byte q = let w = value-back s c at e byte q in (w .0, w .1)

@@ -18,21 +18,21 @@ use Rattle.format.specs.declared.Head.{Head}
 use Rattle.format.specs.declared.Heading.{Heading}
 use Rattle.format.specs.declared.Heading.the-variants as H
 use Rattle.format.specs.declared.Row.{Row}
-use Rattle.format.specs.Bytes.{pick, part}
+use Rattle.format.specs.Bytes.{pick}
 use Rattle.format.specs.Numbers.{leBytes, u32At}
 use Rattle.format.specs.Values.{valueAt}
 use Rattle.format.specs.Types.{codeAt, nameAt, positive}
 use Rattle.format.specs.Rows.{isClass, libraryRow}
 use Rattle.format.specs.Records.{onNumber, onField, onSlots, goodId, headerAt, stringRecordAt, typedPrimitiveAt, referenceAt, nullsAt, longNullsAt, libraryAt}
 use Rattle.format.specs.Contents.{Rec, header, string, typedPrimitive, reference, null, nulls, manyNulls, end, library, enc}
-use Rattle.format.specs.Says.{textFrom, codeFrom}
+use Rattle.format.specs.Says.{codeFrom}
 use Rattle.format.specs.Own.{positive-exactly}
 use Rattle.fields.specs.Judged.{picked}
 use Rattle.num.specs.Le.{Bytes}
 use Rattle.places.specs.Env.{envOf, entryOf, object-id, library-new}
 use Rattle.places.specs.Stand.{Stand, stand-byte, stand-is, stand-then}
-use Rattle.places.specs.Fields.{number-back, name-back, code-back}
-use Rattle.places.specs.Values.{value-back}
+use Rattle.places.specs.Fields.{number-back, prefixedAt, name-back, code-back}
+use Rattle.places.specs.Values.{valueIn, value-back}
 use Rattle.places.specs.Recs.{Good, is-header, is-string, is-typed-primitive, is-reference, is-null, is-end, is-library, is-nulls, is-many-nulls, entryFor, rowWith, Back, plainHead, plain-told}
 
 -- ---- a statement about good fields, through numbers, fields and lengths
@@ -95,7 +95,7 @@ module _ (s : List ℕ) (rows : List Row) (at : ℕ) (byte : Bytes s) (i : at < 
       said-if (Back s rows 6 at) (goodId rows id) _ _ (λ t.
       said-field (Back s rows 6 at) _ (nameAt s p) (λ e u.
       let x = name-back s p e byte u in
-      plain-back 6 (string id (textFrom s p)) id e 0 g (is-string (object-id s rows id t) (x .0))
+      plain-back 6 (string id (prefixedAt s p)) id e 0 g (is-string (object-id s rows id t) (x .0))
       (stand-then (stand-is 6 i g) (stand-then (n .stands) (x .1))) refl (λ row offset next owner slot. refl)))
       (λ t. tt))
 
@@ -105,7 +105,7 @@ module _ (s : List ℕ) (rows : List Row) (at : ℕ) (byte : Bytes s) (i : at < 
       said-field (Back s rows 8 at) _ (codeAt s (at + 1)) (λ p q.
       said-field (Back s rows 8 at) _ (valueAt s (codeFrom s (at + 1)) p) (λ e u.
       let x = value-back s (codeFrom s (at + 1)) p e byte u in
-      plain-back 8 (typedPrimitive (codeFrom s (at + 1)) (part s p (e - p))) 0 e 0 g (is-typed-primitive (x .0))
+      plain-back 8 (typedPrimitive (codeFrom s (at + 1)) (valueIn s (codeFrom s (at + 1)) p)) 0 e 0 g (is-typed-primitive (x .0))
       (stand-then (stand-is 8 i g) (stand-then (code-back s (at + 1) p q) (x .1))) refl (λ row offset next owner slot. refl)))
 
   pub reference-back : getD s at 0 ≡ 9 → Said (Back s rows 9 at) (referenceAt s at)
@@ -134,7 +134,7 @@ module _ (s : List ℕ) (rows : List Row) (at : ℕ) (byte : Bytes s) (i : at < 
       said-field (Back s rows 12 at) _ (nameAt s p) (λ e u.
       let x = name-back s p e byte u in
       let l = library-new s rows id t in
-      plain-back 12 (library id (textFrom s p)) id e 0 g (is-library (l .0) (l .1) (x .0))
+      plain-back 12 (library id (prefixedAt s p)) id e 0 g (is-library (l .0) (l .1) (x .0))
       (stand-then (stand-is 12 i g) (stand-then (n .stands) (x .1))) refl (λ row offset next owner slot. refl)))
       (λ t. tt))
 

@@ -13,13 +13,12 @@ use Rattle.format.specs.declared.SlotType.{SlotType}
 use Rattle.format.specs.declared.SlotType.the-variants as S
 use Rattle.format.specs.declared.Field.the-variants as F
 use Rattle.format.specs.declared.Row.{Row}
-use Rattle.format.specs.Bytes.{part}
 use Rattle.format.specs.Numbers.{leBytes, u32At, negative}
 use Rattle.format.specs.Values.{itemsAt}
 use Rattle.format.specs.Types.{codeAt, typeByteAt, typedAt}
 use Rattle.format.specs.Rows.{isClass}
 use Rattle.format.specs.Records.{goodId, slotArrayAt, primitiveArrayAt, goodRank, lengthsAt, itemsOf, infoKnown, itemTypeAt, rankAt, binaryArrayAt}
-use Rattle.format.specs.Contents.{Detail, primitive, text, object, system, class, objects, texts, primitives, typeByte, infoBytes, slotFor, Rec, array, primitiveArray, objectArray, stringArray, enc}
+use Rattle.format.specs.Contents.{Prefixed, Detail, primitive, text, object, system, class, objects, texts, primitives, typeByte, infoBytes, itemsBytes, slotFor, Rec, array, primitiveArray, objectArray, stringArray, enc}
 use Rattle.format.specs.Says.{codeFrom, numbersFrom}
 use Rattle.format.specs.Grammar.{GoodDetail, ObjectId, Shape, product, Array, of-objects, of-strings, of-primitives, of-any, of-values, takesRecords}
 use Rattle.num.specs.Le.{Bytes}
@@ -28,7 +27,7 @@ use Rattle.laws.specs.Fields.{length-numbers}
 use Rattle.places.specs.Env.{envOf, entryOf, object-id}
 use Rattle.places.specs.Stand.{Stand, stand-none, stand-byte, stand-is, stand-then}
 use Rattle.places.specs.Fields.{number-back, below-negative, code-back}
-use Rattle.places.specs.Values.{items-back}
+use Rattle.places.specs.Items.{itemsIn, items-back}
 use Rattle.places.specs.Details.{detailIn, detail-byte, detail-slot, detail-back}
 use Rattle.places.specs.Lengths.{ranked-back, LengthsAt, lengths-back}
 use Rattle.places.specs.Recs.{is-array, entryFor, rowWith, Back, slottedHead, slotted-told}
@@ -90,7 +89,7 @@ module _ (s : List ℕ) (rows : List Row) (at : ℕ) (byte : Bytes s) (i : at < 
       let c = code-back s x y v in
       said-field (Back s rows 15 at) _ (itemsAt s (codeFrom s x) n y) (λ e w.
       let d = items-back s (codeFrom s x) n y e byte (c .room) w in
-      plain-back s rows at byte i 15 (primitiveArray id n (codeFrom s x) (part s y (e - y))) id e n g
+      plain-back s rows at byte i 15 (primitiveArray id n (codeFrom s x) (itemsIn s (codeFrom s x) n y)) id e n g
       (is-array (object-id s rows id t) (of-primitives (below-negative n u) (d .0)))
       (stand-then (stand-is 15 i g) (stand-then (a .stands) (stand-then (b .stands) (stand-then c (d .1))))) refl (λ row offset next owner slot. refl))))))
       (λ t. tt))
@@ -99,21 +98,21 @@ module _ (s : List ℕ) (rows : List Row) (at : ℕ) (byte : Bytes s) (i : at < 
 
   -- the items of an array with this detail, which stands from infos to x
   module _ (g : getD s at 0 ≡ 7) (id type n : ℕ) (ns : List ℕ) (infos x : ℕ) (o : ObjectId id (envOf s rows)) (h : Shape type ns) (z : n ≡ product ns) where
-    slots : (d : Detail ℕ) → GoodDetail (envOf s rows) d → Stand s (infoBytes d) infos x
-        → ((vs : List ℕ) (e : ℕ) → Stand s (infoBytes d ++ vs) infos e → Stand s (enc (array id type ns d vs)) at e)
+    slots : (d : Detail Prefixed ℕ) → GoodDetail (envOf s rows) d → Stand s (infoBytes d) infos x
+        → ((vs : List Prefixed) (e : ℕ) → Stand s (infoBytes d ++ itemsBytes vs) infos e → Stand s (enc (array id type ns d vs)) at e)
         → takesRecords (slotFor d) ≡ true → Back s rows 7 at (slottedHead s id x n (slotFor d) infos)
     slots d k w whole f =
         slotted-back 7 (array id type ns d []) id x n (slotFor d) infos g o (of-any h z k f refl) (whole [] x (stand-then w (stand-none (w .room)))) refl
         (λ row offset next owner slot. refl)
 
-    items-said : (d : Detail ℕ) → GoodDetail (envOf s rows) d → Stand s (infoBytes d) infos x
-        → ((vs : List ℕ) (e : ℕ) → Stand s (infoBytes d ++ vs) infos e → Stand s (enc (array id type ns d vs)) at e)
+    items-said : (d : Detail Prefixed ℕ) → GoodDetail (envOf s rows) d → Stand s (infoBytes d) infos x
+        → ((vs : List Prefixed) (e : ℕ) → Stand s (infoBytes d ++ itemsBytes vs) infos e → Stand s (enc (array id type ns d vs)) at e)
         → Said (Back s rows 7 at) (itemsOf s id n infos x (slotFor d))
     items-said (primitive c) k w whole =
         said-field (Back s rows 7 at) _ (itemsAt s c n x) (λ e q.
         let v = items-back s c n x e byte (w .room) q in
-        plain-back s rows at byte i 7 (array id type ns (primitive c) (part s x (e - x))) id e n g (is-array o (of-values h z (v .0)))
-        (whole (part s x (e - x)) e (stand-then w (v .1))) refl (λ row offset next owner slot. refl))
+        plain-back s rows at byte i 7 (array id type ns (primitive c) (itemsIn s c n x)) id e n g (is-array o (of-values h z (v .0)))
+        (whole (itemsIn s c n x) e (stand-then w (v .1))) refl (λ row offset next owner slot. refl))
     items-said text k w whole = slots text k w whole refl
     items-said object k w whole = slots object k w whole refl
     items-said (system t) k w whole = slots (system t) k w whole refl

@@ -15,14 +15,14 @@ use Rattle.format.specs.Values.{times}
 use Rattle.format.specs.Types.{typeByteAt, nameAt}
 use Rattle.format.specs.Rows.{blank, classRow}
 use Rattle.format.specs.Records.{goodClassId, infosAt, afterInfos, membersAt, classAt, classByIdAt}
-use Rattle.format.specs.Contents.{Member, classBytes, classById, systemClass, libraryClass, enc}
-use Rattle.format.specs.Says.{textFrom, numberFrom}
+use Rattle.format.specs.Contents.{Prefixed, Member, classBytes, classById, systemClass, libraryClass, enc}
+use Rattle.format.specs.Says.{numberFrom}
 use Rattle.format.specs.Grammar.{aClass, typesOf}
 use Rattle.num.specs.Le.{Bytes}
 use Rattle.class_info.specs.Stages.{namedClassAt}
 use Rattle.places.specs.Env.{classSlots, class-found, class-id}
 use Rattle.places.specs.Stand.{Stand, stand-is, stand-then}
-use Rattle.places.specs.Fields.{number-back}
+use Rattle.places.specs.Fields.{number-back, prefixedAt}
 use Rattle.places.specs.Details.{library-back}
 use Rattle.places.specs.Members.{membersIn}
 use Rattle.places.specs.Classes.{ClassAt, class-back}
@@ -32,7 +32,7 @@ use Rattle.places.specs.Tells.{Said, said-number, said-field, said-if}
 module _ (s : List ℕ) (rows : List Row) (at : ℕ) (byte : Bytes s) (i : at < length s) where
   -- the fields after the ObjectId of a class record, of either kind
   class-said : (P : Head → Type 0) (own : Bool) (id p : ℕ)
-      → ((e n types infos x : ℕ) (ms : List (Member ℕ)) → ClassAt s rows (textFrom s p) ms p x n types infos
+      → ((e n types infos x : ℕ) (ms : List (Member Prefixed ℕ)) → ClassAt s rows (prefixedAt s p) ms p x n types infos
       → afterInfos own s rows x ≡ F.End e → P (classHead s id n types infos e))
       → Said P (namedClassAt s rows own id p)
   unfolding namedClassAt membersAt
@@ -54,15 +54,15 @@ module _ (s : List ℕ) (rows : List Row) (at : ℕ) (byte : Bytes s) (i : at < 
       said-if (Back s rows 4 at) (goodClassId rows id) _ _ (λ t.
       class-said (Back s rows 4 at) false id p (λ e n types infos x ms c k.
       let z : x ≡ e = cc in
-      let w : Stand s (classBytes (textFrom s p) ms) p e = rw (← z) (c .stands) in
+      let w : Stand s (classBytes (prefixedAt s p) ms) p e = rw (← z) (c .stands) in
       record {
-        rec = systemClass id (textFrom s p) ms;
+        rec = systemClass id (prefixedAt s p) ms;
         id = id;
         count = length ms;
         class = 0;
         types = typesOf ms;
         good = is-system-class (class-id s rows id t (a .bits)) (c .info);
-        told = class-head-told s 4 at (systemClass id (textFrom s p) ms) id n types infos e ms (stand-then (stand-is 4 i g) (stand-then (a .stands) w)) i g refl
+        told = class-head-told s 4 at (systemClass id (prefixedAt s p) ms) id n types infos e ms (stand-then (stand-is 4 i g) (stand-then (a .stands) w)) i g refl
             (c .counted) (c .slots) (λ row offset next owner slot. ap (λ (ts : List SlotType). aClass id row ts ∷ []) (c .known));
       }))
       (λ t. tt))
@@ -76,13 +76,13 @@ module _ (s : List ℕ) (rows : List Row) (at : ℕ) (byte : Bytes s) (i : at < 
       class-said (Back s rows 5 at) true id p (λ e n types infos x ms c k.
       let l = library-back s rows x e byte k in
       record {
-        rec = libraryClass id (textFrom s p) ms (numberFrom s x);
+        rec = libraryClass id (prefixedAt s p) ms (numberFrom s x);
         id = id;
         count = length ms;
         class = 0;
         types = typesOf ms;
         good = is-library-class (class-id s rows id t (a .bits)) (c .info) (l .0);
-        told = class-head-told s 5 at (libraryClass id (textFrom s p) ms (numberFrom s x)) id n types infos e ms
+        told = class-head-told s 5 at (libraryClass id (prefixedAt s p) ms (numberFrom s x)) id n types infos e ms
             (stand-then (stand-is 5 i g) (stand-then (a .stands) (stand-then (c .stands) (l .1)))) i g refl
             (c .counted) (c .slots) (λ row offset next owner slot. ap (λ (ts : List SlotType). aClass id row ts ∷ []) (c .known));
       }))

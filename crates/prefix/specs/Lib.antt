@@ -3,3 +3,4 @@ pub mod Laws
 pub mod Groups
 pub mod Writing
 pub mod Both
+pub mod Widths

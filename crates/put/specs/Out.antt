@@ -1,12 +1,11 @@
 -- The bytes that the writers put out: parts of the stream, texts after the prefix of their length, numbers, and null runs.
-use Prim.Native.Nat.{ℕ, _-_}
-use mathlib.Core.List.{List, _∷_, _++_}
-use Rattle.format.specs.declared.Setting.the-variants as S
-use Rattle.format.specs.declared.Prefix.{Prefix}
-use Rattle.format.specs.declared.Prefix.the-variants as P
+use Prim.Native.Nat.{ℕ, zero, suc, _-_}
+use mathlib.Core.List.{List, [], _∷_, _++_}
 use Rattle.format.specs.Bytes.{part}
 use Rattle.format.specs.Numbers.{leBytes}
-use Rattle.format.specs.Prefix.{prefixAt, prefixBytes}
+use Rattle.format.specs.Prefix.{prefixBytes}
+use Rattle.format.specs.Text.{spanAt}
+use Rattle.format.specs.Types.{afterText}
 use Rattle.format.specs.Contents.{encs}
 use Rattle.format.specs.Tidy.{runOf}
 
@@ -14,13 +13,14 @@ use Rattle.format.specs.Tidy.{runOf}
 abbrev pub between : List ℕ → ℕ → ℕ → List ℕ
 between s a b = part s a (b - a)
 
--- the text of a string that ends at e, after a prefix of its length
-abbrev pub textOver : List ℕ → ℕ → ℕ → Prefix → List ℕ
-textOver s p e (P.Length n next) = prefixBytes n ++ between s next e
-textOver s p e (P.Fault f) = between s p e
+-- the text of the string at p, after a prefix of its length
+unfoldable pub textOut : List ℕ → ℕ → List ℕ
+textOut s p = prefixBytes (spanAt s p .to - spanAt s p .from) ++ between s (spanAt s p .from) (spanAt s p .to)
 
-unfoldable pub textOut : List ℕ → ℕ → ℕ → List ℕ
-textOut s p e = textOver s p e (prefixAt S.Lenient s p)
+-- n strings in a row
+unfoldable pub textsOut : List ℕ → ℕ → ℕ → List ℕ
+textsOut s zero p = []
+textsOut s (suc n) p = textOut s p ++ textsOut s n (afterText s p)
 
 -- a kind byte and a number
 abbrev pub headOut : ℕ → ℕ → List ℕ

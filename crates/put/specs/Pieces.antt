@@ -1,21 +1,27 @@
 -- What each writer puts out: one law for each way that it ends.
-use Prim.Native.Nat.{ℕ, _+_, _-_, _*_, _/_, _%_, _≤_, _<_}
+use Prim.Native.Nat.{ℕ, suc, _+_, _-_, _*_, _/_, _%_, _≤_, _<_}
 use mathlib.Core.Path.{_≡_, refl, sym, ap, _∙_}
 use mathlib.Core.List.{List, [], _∷_, _++_, append-assoc, append-nil}
 use native.Mathlib.Omega.{arith}
 use native.Mathlib.Decide.{decLt}
 use lib.ListN.{length, take, drop, set, length-drop, drop-of-length-le}
 use lib.Seq.{take-all, take-nil, take-length, sets-eq, length-take-le}
+use lib.Dec.{leb}
 use borrow.Author.Tests.{ne-eqb, le-leb, lt-leb}
 use Rattle.format.specs.declared.Setting.the-variants as S
 use Rattle.format.specs.declared.Prefix.the-variants as P
-use Rattle.format.specs.declared.Refusal.{Refusal}
+use Rattle.format.specs.declared.Prefix.{Prefix}
+use Rattle.format.specs.declared.Span.{Span}
 use Rattle.format.specs.Bytes.{laid}
 use Rattle.format.specs.Numbers.{leBytes}
 use Rattle.format.specs.Prefix.{prefixAt, prefixBytes}
+use Rattle.format.specs.Text.{spanFrom, spanAt}
+use Rattle.format.specs.Types.{afterText}
 use Rattle.format.specs.Contents.{enc, encs}
 use Rattle.format.specs.Tidy.{runOf}
-use Rattle.put.specs.Out.{between, textOut, headOut, byIdOut, headerOut, runOut}
+use Rattle.fields.specs.Judged.{picked}
+use Rattle.prefix.specs.Laws.{bound}
+use Rattle.put.specs.Out.{between, textOut, textsOut, headOut, byIdOut, headerOut, runOut}
 use Rattle.put.specs.Put.{Filled, Least, unfilled, filled, nothing, became}
 
 -- ---- bytes and numbers
@@ -111,17 +117,39 @@ pub header-is : (root : ℕ) → headerOut root ≡ (headOut 0 root ++ leBytes 4
 unfolding headerOut
 header-is root = sym (append-assoc (headOut 0 root) (leBytes 4 root) (leBytes 4 1 ++ leBytes 4 0))
 
-pub text-is : (s : List ℕ) (p e n next : ℕ) → prefixAt S.Lenient s p ≡ P.Length n next → textOut s p e ≡ prefixBytes n ++ between s next e
-unfolding textOut
-text-is s p e n next z = rw z
-
 pub by-id-is : (id first : ℕ) → byIdOut id first ≡ headOut 1 id ++ leBytes 4 first
 unfolding byIdOut
 by-id-is id first = refl
 
-pub text-fault : (s : List ℕ) (p e : ℕ) (f : Refusal) → prefixAt S.Lenient s p ≡ P.Fault f → textOut s p e ≡ between s p e
-unfolding textOut
-text-fault s p e f z = rw z
+-- ---- texts
+module _ (s : List ℕ) (p : ℕ) where
+  -- the length of a text fits its prefix
+  pub span-small : spanAt s p .to - spanAt s p .from < 2147483648
+  unfolding spanAt
+  span-small = go (prefixAt S.Lenient s p) refl
+    where
+      go : (r : Prefix) → prefixAt S.Lenient s p ≡ r → spanFrom s p r .to - spanFrom s p r .from < 2147483648
+      go (P.Length n next) q =
+          picked (λ (x : Span). x .to - x .from < 2147483648) (leb (next + n) (length s))
+          (λ t. let b = bound S.Lenient s p n next q in omega arith)
+          (λ t. omega arith)
+      go (P.Fault f) q = omega arith
+
+  pub text-is : (x : Span) → x ≡ spanAt s p → textOut s p ≡ prefixBytes (x .to - x .from) ++ between s (x .from) (x .to)
+  unfolding textOut
+  text-is x e = rw e
+
+-- n strings, of which all that are left stand from q on
+module _ (s : List ℕ) where
+  pub texts-more : (n q e : ℕ) → 0 < n → e ≡ afterText s q → textsOut s n q ≡ textOut s q ++ textsOut s (n - 1) e
+  unfolding textsOut
+  texts-more n q e h y =
+      let o : n ≡ suc (n - 1) = omega arith in
+      ap (λ (m : ℕ). textsOut s m q) o ∙ rw y
+
+  pub texts-end : (n q : ℕ) → n ≤ 0 → textsOut s n q ≡ []
+  unfolding textsOut
+  texts-end n q h = let o : n ≡ 0 = omega arith in rw o
 
 -- ---- null runs
 pub run-none : (n : ℕ) → n ≡ 0 → runOut n ≡ []

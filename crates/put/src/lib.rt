@@ -1,13 +1,11 @@
 // Writers into the unwritten rest of the output. Each answers the length that its bytes need, whether they fit or not; where they fit
 // they are written.
 use format::LibraryNo;
-use format::Prefix;
-use format::Setting;
 ghost use mathlib.Core.Path.{_≡_};
 ghost use mathlib.Core.List.{[], _∷_};
 ghost use Prim.Native.Nat.{_+_};
 ghost use Rattle.format.specs.Numbers.{leBytes};
-ghost use Rattle.put.specs.Out.{between, textOut};
+ghost use Rattle.put.specs.Out.{between, textOut, textsOut};
 ghost use Rattle.put.specs.Put.{capped, Filled, Least};
 
 // ---- totals
@@ -92,18 +90,33 @@ pub fn put_part(out: &mut [u8], s: &[u8], a: usize, b: usize) -> usize
     bytes::copy(&s[a..end], out)
 }
 
-// The string at p, whose text ends at e.
-pub fn put_text(out: &mut [u8], s: &[u8], p: usize, e: usize) -> usize
-    ensures { λ r. ⌜ Filled (textOut (now (s .entry)) p e) (now (out .entry)) (now (out .exit)) r ⌝ }
+// ---- texts
+
+// The string at p: the prefix of its length in the fewest bytes, then its text.
+pub fn put_text(out: &mut [u8], s: &[u8], p: usize) -> usize
+    ensures { λ r. ⌜ Filled (textOut (now (s .entry)) p) (now (out .entry)) (now (out .exit)) r ⌝ }
 {
-    let length = prefix::prefix_at(s, p, Setting::Lenient);
-    match length {
-        Prefix::Length(n, next) => {
-            let a = prefix::put_prefix(out, n);
-            let from = least(a, out.len());
-            let b = put_part(&mut out[from..], s, next, e);
-            add_up(a, b)
-        }
-        Prefix::Fault(_) => put_part(out, s, p, e),
+    let span = spans::span_at(s, p);
+    let n = (span.to - span.from) as u32;
+    let a = prefix::put_prefix(out, n);
+    let from = least(a, out.len());
+    let b = put_part(&mut out[from..], s, span.from, span.to);
+    add_up(a, b)
+}
+
+// As many strings as n, one after the other.
+pub fn put_texts(out: &mut [u8], s: &[u8], n: u32, p: usize) -> usize
+    ensures { λ r. ⌜ Filled (textsOut (now (s .entry)) n p) (now (out .entry)) (now (out .exit)) r ⌝ }
+{
+    let mut at: usize = 0;
+    let mut left = n;
+    let mut q = p;
+    while left > 0 {
+        let from = least(at, out.len());
+        let b = put_text(&mut out[from..], s, q);
+        at = add_up(at, b);
+        q = spans::after_text(s, q);
+        left -= 1;
     }
+    at
 }

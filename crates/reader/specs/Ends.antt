@@ -1,6 +1,7 @@
 -- The ends of a stream: what is judged after the end record, and the answer and the words that are left.
 use Prim.Native.Nat.{ℕ, _-_, _*_, _/_, _≤_, _<_}
-use mathlib.Core.Path.{_≡_, sym, ap, subst, _∙_}
+use mathlib.Core.Path.{_≡_, refl, sym, ap, subst, _∙_}
+use mathlib.Core.Bool.{Bool, false}
 use mathlib.Core.List.{List, _++_}
 use native.Mathlib.Omega.{arith}
 use lib.ListN.{length, getD, replicate}
@@ -12,8 +13,9 @@ use Rattle.format.specs.declared.ReadAnswer.the-variants as A
 use Rattle.format.specs.declared.Row.{Row}
 use Rattle.format.specs.declared.Reader.{Reader}
 use Rattle.format.specs.declared.Where.the-variants as W
-use Rattle.format.specs.Rows.{blank, roomOf, rowsOf, words, objectRow, findFrom, isLost, linked}
-use Rattle.format.specs.Machine.{State, Next, go, ended, Outcome, accepted, refused, finish, begin, start, topLevel, recordStep, readOf, readAnswer, tableWords}
+use Rattle.format.specs.Bytes.{pick}
+use Rattle.format.specs.Rows.{blank, roomOf, rowsOf, words, objectRow, findFrom, isLost, linked, bound}
+use Rattle.format.specs.Machine.{State, Next, go, ended, Outcome, accepted, refused, finish, begin, start, topLevel, recordStep, rawOf, withLinks, readOf, readAnswer, tableWords}
 use Rattle.table.specs.Rows.{length-rowsOf}
 use Rattle.frames.specs.Frames.{saved}
 use Rattle.adding.specs.declared.Step.{Step}
@@ -26,6 +28,19 @@ use Rattle.reader.specs.Loop.{Runs}
 abbrev pub outcomeOf : List ℕ → ReadAnswer → Outcome
 outcomeOf t (A.Accepted n) = accepted (rowsOf n t)
 outcomeOf t (A.Refused r place) = refused r place
+
+-- what is left of an outcome: with keep its rows with what they were read with, but for references and the header; else with their links
+abbrev pub endBy : Bool → Outcome → Outcome
+endBy keep (accepted rows) = accepted (pick keep (bound rows) (linked rows))
+endBy keep (refused r place) = refused r place
+
+pub linked-end : (s : List ℕ) (room : ℕ) → endBy false (rawOf s room) ≡ readOf s room
+unfolding readOf
+linked-end s room = go (rawOf s room)
+  where
+    go : (o : Outcome) → endBy false o ≡ withLinks o
+    go (accepted rows) = refl
+    go (refused r place) = refl
 
 -- rows that are taken are within the table
 abbrev pub Within : ℕ → ReadAnswer → Type 0
@@ -59,15 +74,15 @@ module _ (s : List ℕ) (rows : List Row) (at : ℕ) where
           rw (le-ltb at (length s) h, ne-eqb (objectRow (getD rows 0 blank .id) rows) 0 there, ← g, ne-eqb l 0 y)
           (ap (λ (v : Row). refused R.NoObject (v .offset)) k)
 
-      pub whole : (l : ℕ) → l ≡ findFrom (isLost rows) 0 rows → l ≡ 0 → accepted (linked rows) ≡ finish s rows at
+      pub whole : (l : ℕ) → l ≡ findFrom (isLost rows) 0 rows → l ≡ 0 → accepted rows ≡ finish s rows at
       unfolding finish
       whole l g y =
           rw (le-ltb at (length s) h, ne-eqb (objectRow (getD rows 0 blank .id) rows) 0 there, ← g, eq-eqb l 0 y)
 
 -- ---- the header, and the limit
 
-pub too-large : (s : List ℕ) (room : ℕ) → 16777216 < length s → refused R.TooLarge 0 ≡ readOf s room
-unfolding readOf
+pub too-large : (s : List ℕ) (room : ℕ) → 16777216 < length s → refused R.TooLarge 0 ≡ rawOf s room
+unfolding rawOf
 too-large s room h = rw (lt-ltb 16777216 (length s) h)
 
 -- the reader at the start holds the machine's start
@@ -78,12 +93,12 @@ fresh-start t f m e = rw e
 module _ (s t u f g : List ℕ) (m : Reader) (l : length s ≤ 16777216) (z : m ≡ record { at = 0; rows = 0; depth = 0; top = topLevel }) (q : Step)
     (e : after u g q ≡ recordStep s (roomOf t) (stateOf t f m) W.Start) where
   -- what the header's step says of the whole
-  told : begin s (roomOf t) (after u g q) ≡ readOf s (roomOf t)
-  unfolding readOf
+  told : begin s (roomOf t) (after u g q) ≡ rawOf s (roomOf t)
+  unfolding rawOf
   told =
       rw (le-ltb 16777216 (length s) l) (ap (begin s (roomOf t)) (e ∙ ap (λ (st : State). recordStep s (roomOf t) st W.Start) (fresh-start t f m z)))
 
-  begun : begin s (roomOf t) (after u g q) ≡ readOf s (roomOf t) → (x : Step) → q ≡ x → begin s (roomOf t) (after u g x) ≡ readOf s (roomOf t)
+  begun : begin s (roomOf t) (after u g q) ≡ rawOf s (roomOf t) → (x : Step) → q ≡ x → begin s (roomOf t) (after u g x) ≡ rawOf s (roomOf t)
   begun k x c = ap (λ (y : Step). begin s (roomOf t) (after u g y)) (sym c) ∙ k
 
   fine₀ : Fine s (roomOf t) start
@@ -94,12 +109,12 @@ module _ (s t u f g : List ℕ) (m : Reader) (l : length s ≤ 16777216) (z : m 
       subst (λ (x : Next). NextFine s (roomOf t) 0 x) (sym (e ∙ ap (λ (st : State). recordStep s (roomOf t) st W.Start) (fresh-start t f m z)))
       (record-fine s (roomOf t) start fine₀ W.Start)
 
-  pub head-on : (n : Reader) → q ≡ Q.Go n → length g ≡ 384 → Runs s (roomOf t) (readOf s (roomOf t)) u g n
+  pub head-on : (n : Reader) → q ≡ Q.Go n → length g ≡ 384 → Runs s (roomOf t) (rawOf s (roomOf t)) u g n
   head-on n c d =
       let w : NextFine s (roomOf t) 0 (go (stateOf u g n)) = subst (λ (x : Step). NextFine s (roomOf t) 0 (after u g x)) c headed in
       record { framed = d; fine = w .0; fuel = length s; enough = omega arith; same = begun told (Q.Go n) c }
 
-  pub head-end : (n p : ℕ) → q ≡ Q.Ended n p → finish s (rowsOf n u) p ≡ readOf s (roomOf t)
+  pub head-end : (n p : ℕ) → q ≡ Q.Ended n p → finish s (rowsOf n u) p ≡ rawOf s (roomOf t)
   head-end n p c = begun told (Q.Ended n p) c
 
   pub head-roomy : (n p : ℕ) → q ≡ Q.Ended n p → (n ≤ roomOf t) × (n ≤ length s)
@@ -110,19 +125,19 @@ module _ (s t u f g : List ℕ) (m : Reader) (l : length s ≤ 16777216) (z : m 
       let b = w .1 in
       (omega arith, omega arith)
 
-  pub head-bad : (r : Refusal) (p : ℕ) → q ≡ Q.Refuse r p → refused r p ≡ readOf s (roomOf t)
+  pub head-bad : (r : Refusal) (p : ℕ) → q ≡ Q.Refuse r p → refused r p ≡ rawOf s (roomOf t)
   head-bad r p c = begun told (Q.Refuse r p) c
 
 -- the same, said of the room that the table has now
-pub runs-room : (s t u g : List ℕ) (n : Reader) → length u ≡ length t → Runs s (roomOf t) (readOf s (roomOf t)) u g n → Runs s (roomOf u) (readOf s (roomOf u)) u g n
-runs-room s t u g n l w = subst (λ (k : ℕ). Runs s (k / 8) (readOf s (k / 8)) u g n) (sym l) w
+pub runs-room : (s t u g : List ℕ) (n : Reader) → length u ≡ length t → Runs s (roomOf t) (rawOf s (roomOf t)) u g n → Runs s (roomOf u) (rawOf s (roomOf u)) u g n
+runs-room s t u g n l w = subst (λ (k : ℕ). Runs s (k / 8) (rawOf s (k / 8)) u g n) (sym l) w
 
 pub fresh-held : (room : ℕ) (m : Reader) → m ≡ record { at = 0; rows = 0; depth = 0; top = topLevel } → Held room m
 fresh-held room m e = rw e (record { inside = omega arith; counted = omega arith; roomy = omega arith; shallow = omega arith })
 
-pub answered-room : (s t u v : List ℕ) (r : ReadAnswer) → length u ≡ length t → (outcomeOf v r ≡ readOf s (roomOf u)) × Within (roomOf u) r
-    → (outcomeOf v r ≡ readOf s (roomOf t)) × Within (roomOf t) r
-answered-room s t u v r l w = subst (λ (k : ℕ). (outcomeOf v r ≡ readOf s (k / 8)) × Within (k / 8) r) l w
+pub answered-room : (keep : Bool) (s t u v : List ℕ) (r : ReadAnswer) → length u ≡ length t → (outcomeOf v r ≡ endBy keep (rawOf s (roomOf u))) × Within (roomOf u) r
+    → (outcomeOf v r ≡ endBy keep (rawOf s (roomOf t))) × Within (roomOf t) r
+answered-room keep s t u v r l w = subst (λ (k : ℕ). (outcomeOf v r ≡ endBy keep (rawOf s (k / 8))) × Within (k / 8) r) l w
 
 -- ---- the answer and the words
 

@@ -128,10 +128,10 @@ module _ (s : List ℕ) (room : ℕ) (st : State) (w : Fine s room st) where
       (λ t. kind-fine (kindOf v (getD s (st .at) 0)) (ltb-true (st .at) (length s) t))
       (λ t. tt)
 
-  value-fine : (c : PrimitiveCode) (v : Field) → valueAt s c (st .at) ≡ v → NextFine s room (st .at) (onValue s room st v)
+  value-fine : (c : PrimitiveCode) (v : Field) → valueAt s c (st .at) ≡ v → NextFine s room (st .at) (onValue s room st c v)
   value-fine c (F.End end) e =
       let m = value-moves s c (st .at) end e in
-      slots-fine 32 (valueHead end) (m .0) (m .1) 1 (moved s (st .stack .cur .typed))
+      slots-fine 32 (valueHead c end) (m .0) (m .1) 1 (moved s (st .stack .cur .typed))
   value-fine c (F.Fault f) e = tt
 
   slot-fine : (t : SlotType) → NextFine s room (st .at) (bySlot s room st t)

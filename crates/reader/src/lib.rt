@@ -9,15 +9,15 @@ ghost use mathlib.Core.Path.{_≡_};
 ghost use Prim.Native.Nat.{_≤_, _<_};
 ghost use lib.ListN.{length};
 ghost use Rattle.format.specs.Rows.{roomOf, rowsOf};
-ghost use Rattle.format.specs.Machine.{finish, readOf};
+ghost use Rattle.format.specs.Machine.{finish, rawOf};
 ghost use Rattle.format.specs.Promises.{ReadPromise};
 ghost use Rattle.reader.specs.Loop.{Runs};
-ghost use Rattle.reader.specs.Ends.{outcomeOf, Within};
+ghost use Rattle.reader.specs.Ends.{outcomeOf, endBy, Within};
 
 // After the end record: trailing bytes, the root, the references; then the links.
-fn finish_rows(s: &[u8], table: &mut [u32], rows: usize, at: usize) -> ReadAnswer
+fn finish_rows(s: &[u8], table: &mut [u32], rows: usize, at: usize, keep: bool) -> ReadAnswer
     requires { ⌜ (rows ≤ roomOf (now table)) × (rows ≤ 16777216) ⌝ }
-    ensures { λ r. ⌜ (outcomeOf (now (table .exit)) r ≡ finish (now (s .entry)) (rowsOf rows (now (table .entry))) at)
+    ensures { λ r. ⌜ (outcomeOf (now (table .exit)) r ≡ endBy keep (finish (now (s .entry)) (rowsOf rows (now (table .entry))) at))
         × Within (roomOf (now (table .entry))) r ⌝ }
 {
     if at < s.len() {
@@ -28,7 +28,7 @@ fn finish_rows(s: &[u8], table: &mut [u32], rows: usize, at: usize) -> ReadAnswe
     if root == 0 {
         return ReadAnswer::Refused(Refusal::NoRoot, 0);
     }
-    let lost = links::link_all(table, rows);
+    let lost = links::link_all(table, rows, keep);
     if lost != 0 {
         let r = table::row_at(table, rows, lost - 1);
         return ReadAnswer::Refused(Refusal::NoObject, r.offset as usize);
@@ -42,9 +42,10 @@ fn drive(
     table: &mut [u32],
     frames: &mut [u32; Reader::WORDS],
     first: Reader,
+    keep: bool,
 ) -> ReadAnswer
-    requires { ⌜ Runs (now s) (roomOf (now table)) (readOf (now s) (roomOf (now table))) (now table) (now frames) first × (length (now s) ≤ 16777216) ⌝ }
-    ensures { λ r. ⌜ (outcomeOf (now (table .exit)) r ≡ readOf (now (s .entry)) (roomOf (now (table .entry))))
+    requires { ⌜ Runs (now s) (roomOf (now table)) (rawOf (now s) (roomOf (now table))) (now table) (now frames) first × (length (now s) ≤ 16777216) ⌝ }
+    ensures { λ r. ⌜ (outcomeOf (now (table .exit)) r ≡ endBy keep (rawOf (now (s .entry)) (roomOf (now (table .entry)))))
         × Within (roomOf (now (table .entry))) r ⌝ }
 {
     let mut m = first;
@@ -52,15 +53,16 @@ fn drive(
         let q = turns::one_step(s, table, frames, m);
         match q {
             Step::Go(n) => m = n,
-            Step::Ended(rows, at) => return finish_rows(s, table, rows, at),
+            Step::Ended(rows, at) => return finish_rows(s, table, rows, at, keep),
             Step::Refuse(r, place) => return ReadAnswer::Refused(r, place),
         }
     }
 }
 
-// The limit, the header, and all after it. The rows that are taken stand in the table; nothing is said of the words after them.
-fn judge(s: &[u8], table: &mut [u32]) -> ReadAnswer
-    ensures { λ r. ⌜ (outcomeOf (now (table .exit)) r ≡ readOf (now (s .entry)) (roomOf (now (table .entry))))
+// The limit, the header, and all after it. The rows that are taken stand in the table; nothing is said of the words after them. With
+// keep only references and the header get links: a class's row keeps the place of its type bytes, a member value's its code.
+pub fn judge(s: &[u8], table: &mut [u32], keep: bool) -> ReadAnswer
+    ensures { λ r. ⌜ (outcomeOf (now (table .exit)) r ≡ endBy keep (rawOf (now (s .entry)) (roomOf (now (table .entry)))))
         × Within (roomOf (now (table .entry))) r ⌝ }
 {
     if Reader::LIMIT < s.len() {
@@ -70,8 +72,8 @@ fn judge(s: &[u8], table: &mut [u32]) -> ReadAnswer
     let fresh = Reader::fresh();
     let q = turns::header_step(s, table, &mut frames, fresh);
     match q {
-        Step::Go(m) => drive(s, table, &mut frames, m),
-        Step::Ended(rows, at) => finish_rows(s, table, rows, at),
+        Step::Go(m) => drive(s, table, &mut frames, m, keep),
+        Step::Ended(rows, at) => finish_rows(s, table, rows, at, keep),
         Step::Refuse(r, place) => ReadAnswer::Refused(r, place),
     }
 }
@@ -81,7 +83,7 @@ fn judge(s: &[u8], table: &mut [u32]) -> ReadAnswer
 pub fn read(s: &[u8], table: &mut [u32]) -> ReadAnswer
     ensures { λ r. ⌜ ReadPromise (now (s .entry)) (now (table .entry)) r (now (table .exit)) ⌝ }
 {
-    let a = judge(s, table);
+    let a = judge(s, table, false);
     match a {
         ReadAnswer::Accepted(n) => {
             table::clear_after(table, n);

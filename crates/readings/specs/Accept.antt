@@ -17,10 +17,10 @@ use Rattle.format.specs.declared.Frame.{Frame}
 use Rattle.format.specs.Types.{moved}
 use Rattle.format.specs.Rows.{blank, isObject, objectRow, findFrom, isLost, linked}
 use Rattle.format.specs.Records.{inSlot, isClassKind}
-use Rattle.format.specs.Contents.{Rec, header, string, typedPrimitive, reference, null, nulls, manyNulls, end, library, value, enc, encs}
+use Rattle.format.specs.Contents.{Prefixed, Rec, header, string, typedPrimitive, reference, null, nulls, manyNulls, end, library, value, enc, encs}
 use Rattle.format.specs.Grammar.{Entry, another, aLibrary, Value, typesOf, Cur, cur, size, rowOf, Object, system-class, library-class, class-by-id, Body, hollow, Slots, full, member-value, an-object, a-string, a-typed-primitive, a-reference, a-null, a-run, a-long-run, a-library, Array, of-objects, of-strings, of-primitives, of-any, of-values, Objects, the-end, one-object, one-string, one-array, one-library, Reading, takesRecords}
 use Rattle.format.specs.Grammar as G
-use Rattle.format.specs.Machine.{Open, State, Outcome, accepted, go, ended, close, filledBy, filled, opened, rowIn, valueHead, step, finish, onward, run, start, begin, readOf}
+use Rattle.format.specs.Machine.{Open, State, Next, Outcome, accepted, go, ended, close, filledBy, filled, opened, rowIn, valueHead, step, finish, onward, run, start, begin, rawOf, withLinks, readOf}
 use Rattle.links.specs.Links.{length-linked}
 use Rattle.items.specs.Keeps.{value-moves}
 use Rattle.laws.specs.Fields.{size-header}
@@ -30,32 +30,32 @@ use Rattle.places.specs.Env.{slotsFrom, envFrom, entryOf, envOf, env-more}
 use Rattle.places.specs.Stand.{Stand, stand-of, stand-rest}
 use Rattle.places.specs.Recs.{Good, is-header, is-class-by-id, is-system-class, is-library-class, is-string, is-typed-primitive, is-reference, is-null, is-end, is-library, is-nulls, is-many-nulls, is-array, entryFor, rowWith}
 use Rattle.places.specs.Read.{member-read}
-use Rattle.readings.specs.Rows.{bare, bare-more, first-id, linked-bare, row-bare, shown-bare, none-lost}
+use Rattle.readings.specs.Rows.{bare, bare-more, first-id, linked-bare, row-bare, good-low, shown-bare, none-lost}
 use Rattle.readings.specs.Frames.{openAt, still-open, shut, filled-is, left-slots, number-on, frameOf, spent, Nearest, next-slot, Passing, run-law, opened-is, takes-strings, class-slot, class-top, allows, allows-any, allows-object, typed-primitive-slot, array-kinds, allows-top, top-kinds}
 use Rattle.readings.specs.Steps.{stateAt, Allows, Taken, record-taken, fillsOne, isRun, value-goes, hollow-goes, object-goes, fills-goes, run-goes, library-goes, end-goes, top-filled, header-goes}
 
 -- ---- what comes of a state
 
--- with any fuel that is enough, the machine comes to this
+-- with any fuel that is enough, the machine comes to this, once links are put in
 pub record Leads (s : List ℕ) (room : ℕ) (st : State) (v : Outcome) : Type 0 where
-  pub ends : (k : ℕ) → length s ≤ st .at + k → run k s room st ≡ v
+  pub ends : (k : ℕ) → length s ≤ st .at + k → withLinks (run k s room st) ≡ v
 
 module _ {s : List ℕ} {room : ℕ} {st : State} {v : Outcome} (i : st .at < length s) where
-  last : {rows : List Row} {at : ℕ} → step s room st ≡ ended rows at → finish s rows at ≡ v → Leads s room st v
+  last : {rows : List Row} {at : ℕ} → step s room st ≡ ended rows at → withLinks (finish s rows at) ≡ v → Leads s room st v
   unfolding run
   last {rows} {at} e f = record { ends = goes }
     where
-      goes : (k : ℕ) → length s ≤ st .at + k → run k s room st ≡ v
+      goes : (k : ℕ) → length s ≤ st .at + k → withLinks (run k s room st) ≡ v
       goes zero h = absurd (omega arith)
-      goes (suc k) h = ap (onward s (run k s room)) e ∙ f
+      goes (suc k) h = ap (λ (x : Next). withLinks (onward s (run k s room) x)) e ∙ f
 
   next : {st′ : State} → step s room st ≡ go st′ → st .at < st′ .at → Leads s room st′ v → Leads s room st v
   unfolding run
   next {st′} e m w = record { ends = goes }
     where
-      goes : (k : ℕ) → length s ≤ st .at + k → run k s room st ≡ v
+      goes : (k : ℕ) → length s ≤ st .at + k → withLinks (run k s room st) ≡ v
       goes zero h = absurd (omega arith)
-      goes (suc k) h = ap (onward s (run k s room)) e ∙ w .ends k (omega arith)
+      goes (suc k) h = ap (λ (x : Next). withLinks (onward s (run k s room) x)) e ∙ w .ends k (omega arith)
 
 -- ---- sizes that the grammar gives as numbers
 
@@ -66,10 +66,6 @@ size-null = refl
 size-nulls : (k : ℕ) → size (nulls k) ≡ 2
 unfolding enc
 size-nulls k = refl
-
-size-value : (v : List ℕ) → size (value v) ≡ length v
-unfolding enc
-size-value v = refl
 
 encs-first : (r : Rec) (rs : List Rec) → encs (r ∷ rs) ≡ enc r ++ encs rs
 unfolding encs
@@ -90,7 +86,7 @@ array-entry row (of-values a b c) = refl
 
 -- final: all rows of the grammar; v: what the machine says after them
 module _ (s : List ℕ) (room : ℕ) (final : List Row) (v : Outcome) (big : length final ≤ room)
-    (whole : (rows : List Row) (at : ℕ) → final ≡ map bare rows → length s ≤ at → finish s rows at ≡ v) where
+    (whole : (rows : List Row) (at : ℕ) → final ≡ map bare rows → length s ≤ at → withLinks (finish s rows at) ≡ v) where
   -- with these objects open, what stands at the cursor leads to v
   pub record Ok (o : Open) (at row : ℕ) (es : List Entry) (rs : List Rec) (is : List Row) : Type 0 where
     pub leads : (rows : List Row) → final ≡ map bare rows ++ is → length rows ≡ row → envOf s rows ≡ es → at ≤ length s → drop at s ≡ encs rs
@@ -136,7 +132,7 @@ module _ (s : List ℕ) (room : ℕ) (final : List Row) (v : Outcome) (big : len
         let i : Row = rowWith k (w .head) at (w .head .end) own slot in
         let c = subst (λ (m : ℕ). Ok (a .0) (at + m) (suc row) es′ rs is) (sym z) (a .2) in
         next (w .told .inside) (a .1) (w .onward)
-        (c .leads (rows ++ (i ∷ [])) (rows-more rows it i is e (row-bare (w .told) own slot ∙ sym q)) (length-more rows i row l)
+        (c .leads (rows ++ (i ∷ [])) (rows-more rows it i is e (row-bare (w .told) (good-low g) own slot ∙ sym q)) (length-more rows i row l)
         (env-after rows i row es (entryFor (suc row) r) es′ l y (w .told .entry-is (suc row) at (w .head .end) own slot) x)
         (p .room) (stand-rest s (enc r) (encs rs) at h b));
   }
@@ -198,7 +194,7 @@ module _ (s : List ℕ) (room : ℕ) (final : List Row) (v : Outcome) (big : len
       )))
 
   -- a library fills no slot
-  library-ok : {at row i : ℕ} {n : List ℕ} {es : List Entry} {rs : List Rec} {it : Row} {is : List Row} (o : Open)
+  library-ok : {at row i : ℕ} {n : Prefixed} {es : List Entry} {rs : List Rec} {it : Row} {is : List Row} (o : Open)
       → Good es 12 (library i n) i 0 0 [] → Allows o 12 → it ≡ rowOf 12 at (library i n) i 0 0 0 0
       → Ok o (at + size (library i n)) (suc row) (es ++ (aLibrary i ∷ [])) rs is → Ok o at row es (library i n ∷ rs) (it ∷ is)
   library-ok {at} {i = i} {n = n} o g a q c =
@@ -206,25 +202,24 @@ module _ (s : List ℕ) (room : ℕ) (final : List Row) (v : Outcome) (big : len
       (o, library-goes s room at rows o (at + size (library i n)) 12 (library i n) i 0 0 [] w a refl h, c))
 
   -- a member value
-  value-ok : {at row : ℕ} {es : List Entry} {v : List ℕ} {rs : List Rec} {it : Row} {is : List Row} (f g : Frame) (gs : List Frame) (b : PrimitiveCode) (own slot : ℕ)
-      → 0 < f .left → f .typed .slot ≡ S.Primitive b → Value b v → f .owner ≡ own → f .count ≡ slot + f .left → it ≡ rowOf 32 at (value v) 0 own slot 0 0
-      → Ok (close (filledBy f 1 (moved s (f .typed))) (g ∷ gs)) (at + length v) (suc row) es rs is → Ok (close f (g ∷ gs)) at row es (value v ∷ rs) (it ∷ is)
+  value-ok : {at row : ℕ} {es : List Entry} {v : Prefixed} {rs : List Rec} {it : Row} {is : List Row} (f g : Frame) (gs : List Frame) (b : PrimitiveCode) (own slot : ℕ)
+      → 0 < f .left → f .typed .slot ≡ S.Primitive b → Value b v → f .owner ≡ own → f .count ≡ slot + f .left → it ≡ rowOf 32 at (value b v) 0 own slot 0 0
+      → Ok (close (filledBy f 1 (moved s (f .typed))) (g ∷ gs)) (at + size (value b v)) (suc row) es rs is → Ok (close f (g ∷ gs)) at row es (value b v ∷ rs) (it ∷ is)
   value-ok {at} {row} {es} {v} {rs} {it} {is} f g gs b own slot p t w x y q c =
-      subst (λ (o : Open). Ok o at row es (value v ∷ rs) (it ∷ is)) (sym (still-open f g gs p)) (record {
+      subst (λ (o : Open). Ok o at row es (value b v ∷ rs) (it ∷ is)) (sym (still-open f g gs p)) (record {
         leads = λ rows e l k h d.
             let o : Open = openAt f (g ∷ gs) in
-            let n : ℕ = at + size (value v) in
-            let z : drop at s ≡ enc (value v) ++ encs rs = d ∙ encs-first (value v) rs in
-            let stand : Stand s (enc (value v)) at n = stand-of s (enc (value v)) (encs rs) at h z in
-            let i : Row = rowIn (stateAt at rows o) 32 (valueHead n) in
+            let n : ℕ = at + size (value b v) in
+            let z : drop at s ≡ enc (value b v) ++ encs rs = d ∙ encs-first (value b v) rs in
+            let stand : Stand s (enc (value b v)) at n = stand-of s (enc (value b v)) (encs rs) at h z in
+            let i : Row = rowIn (stateAt at rows o) 32 (valueHead b n) in
             let m = value-moves s b at n (member-read s b v at n w stand) in
             let u : f .count - f .left ≡ slot = omega arith in
             let a : Ok (filled o 1 (moved s (f .typed))) n (suc row) es rs is =
-            subst (λ (o : Open). Ok o n (suc row) es rs is) (sym (filled-is o 1 (moved s (f .typed))))
-            (subst (λ (j : ℕ). Ok (close (filledBy f 1 (moved s (f .typed))) (g ∷ gs)) (at + j) (suc row) es rs is) (sym (size-value v)) c) in
+            subst (λ (o : Open). Ok o n (suc row) es rs is) (sym (filled-is o 1 (moved s (f .typed)))) c in
             next (omega (arith, m .0, m .1)) (value-goes s room at rows o b v n t w stand (row-fits rows it is e)) (m .0)
-            (a .leads (rows ++ (i ∷ [])) (rows-more rows it i is e (sym (own-row (value v) f x u q))) (length-more rows i row l)
-            (env-after rows i row es [] es l k refl (append-nil es)) (m .1) (stand-rest s (enc (value v)) (encs rs) at h z));
+            (a .leads (rows ++ (i ∷ [])) (rows-more rows it i is e (sym (own-row (value b v) f x u q))) (length-more rows i row l)
+            (env-after rows i row es [] es l k refl (append-nil es)) (m .1) (stand-rest s (enc (value b v)) (encs rs) at h z));
       })
 
   -- a null run fills as many slots as it counts
@@ -325,7 +320,7 @@ module _ (s : List ℕ) (room : ℕ) (final : List Row) (v : Outcome) (big : len
         let w = record-taken s rows at (at + size end) 11 end 0 0 0 [] (is-end) (stand-of s (enc end) [] at h b) in
         let i : Row = rowIn (stateAt at rows (start .stack)) 11 (w .head) in
         last (w .told .inside) (end-goes s room at rows (start .stack) (at + size end) 11 end 0 0 0 [] w (allows-top 11 (top-kinds .1)) refl (row-fits rows it [] e))
-        (whole (rows ++ (i ∷ [])) (at + size end) (rows-more rows it i [] e (row-bare (w .told) 0 0 ∙ sym q) ∙ append-nil (map bare (rows ++ (i ∷ []))))
+        (whole (rows ++ (i ∷ [])) (at + size end) (rows-more rows it i [] e (row-bare (w .told) refl 0 0 ∙ sym q) ∙ append-nil (map bare (rows ++ (i ∷ []))))
         (nothing-after (at + size end) (stand-rest s (enc end) [] at h b)));
   }
 
@@ -355,7 +350,7 @@ module _ {s : List ℕ} {rows : List Row} (w : Reading s rows) where
       shown-bare (w .rs) raw (subst (λ (l : List Row). Shown (w .rs) l) e (record { ids = x .ids; refs = x .refs }))
 
   -- what is judged after the end record
-  finishes : (raw : List Row) (at : ℕ) → headRow ∷ w .is ≡ map bare raw → length s ≤ at → finish s raw at ≡ accepted rows
+  finishes : (raw : List Row) (at : ℕ) → headRow ∷ w .is ≡ map bare raw → length s ≤ at → withLinks (finish s raw at) ≡ accepted rows
   unfolding finish
   finishes raw at e h =
       let x = shown raw e in
@@ -386,12 +381,12 @@ module _ {s : List ℕ} {rows : List Row} (w : Reading s rows) where
         (ap (λ (x : Row). x ∷ w .is) (sym e)) refl k p d
 
     pub accepts : readOf s room ≡ accepted rows
-    unfolding readOf envFrom
+    unfolding readOf rawOf envFrom
     accepts =
         let x = first-taken in
         let n = roomy room h in
         let row : Row = rowIn start 0 (x .head) in
         let e : envOf s (row ∷ []) ≡ [] = append-nil (entryOf s 1 row) ∙ x .told .entry-is 1 0 (x .head .end) 0 0 in
-        let g = runs row (row-bare (x .told) 0 0) e in
+        let g = runs row (row-bare (x .told) refl 0 0) e in
         rw (le-ltb 16777216 (length s) (w .small))
-        (ap (begin s room) (header-goes s room 17 (header (w .root) (w .header-id)) (w .root) 0 0 [] x (omega arith)) ∙ g .ends (length s) (omega arith))
+        (ap (λ (x : Next). withLinks (begin s room x)) (header-goes s room 17 (header (w .root) (w .header-id)) (w .root) 0 0 [] x (omega arith)) ∙ g .ends (length s) (omega arith))

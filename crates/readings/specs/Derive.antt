@@ -23,7 +23,7 @@ use Rattle.format.specs.Rows.{blank, objectRow, findFrom, isLost, linked}
 use Rattle.format.specs.Records.{allowed, kindAt, headingAt}
 use Rattle.format.specs.Contents.{Rec, header, enc}
 use Rattle.format.specs.Grammar.{Reading, Entry, cur, rowOf, Objects, Links, idsOf, refsOf, among}
-use Rattle.format.specs.Machine.{State, Next, go, ended, refuse, close, filled, add, act, onKind, recordStep, topLevel, step, Outcome, accepted, refused, finish, onward, run, start, begin, readOf}
+use Rattle.format.specs.Machine.{State, Next, go, ended, refuse, close, filled, add, act, onKind, recordStep, topLevel, step, Outcome, accepted, refused, finish, onward, run, start, begin, rawOf, withLinks, readOf}
 use Rattle.fields.specs.Judged.{picked}
 use Rattle.num.specs.Le.{Bytes}
 use Rattle.links.specs.Links.{length-linked}
@@ -45,11 +45,11 @@ use Rattle.readings.specs.StepSaid.{step-said}
 
 -- ---- after the end record
 
--- what an acceptance says of the rows before linking
+-- what an acceptance says of the rows as they are read
 pub record Finished (rows final : List Row) : Type 0 where
   pub root : eqb (objectRow (getD final 0 blank .id) final) 0 ≡ false
   pub targets : findFrom (isLost final) 0 final ≡ 0
-  pub same : rows ≡ linked final
+  pub same : rows ≡ final
 
 no-accept : {A : Type 0} (r : Refusal) (place : ℕ) (rows : List Row) → refused r place ≡ accepted rows → A
 no-accept r place rows e = absurd (let z : _≡_ {A = ℕ} 0 1 = cc in omega arith)
@@ -134,20 +134,20 @@ module _ (s : List ℕ) (byte : Bytes s) (room : ℕ) (rows : List Row) where
   -- ---- the whole stream
 
   reading-of : length s ≤ 16777216 → (h : Head) {es : List Entry} {id count class : ℕ} {r : Rec} {ts : List SlotType} → Good es 0 r id count class ts
-      → Told s 0 0 h r id count class ts → Comes s room (headed h) rows → Reading s rows × (length rows ≤ room)
+      → Told s 0 0 h r id count class ts → Comes s room (headed h) rows → Reading s (linked rows) × (length (linked rows) ≤ room)
   unfolding envFrom
   reading-of small h (is-header {root = root} {h = other} x y) t c =
       let g = c .goal in
       let row = rowWith 0 h 0 (h .end) 0 0 in
-      let first : bare row ≡ rowOf 0 0 (header root other) root 0 0 0 0 = row-bare t 0 0 in
+      let first : bare row ≡ rowOf 0 0 (header root other) root 0 0 0 0 = row-bare t refl 0 0 in
       let end : h .end ≡ 17 = told-end t ∙ (ap (λ (n : ℕ). 0 + n) (size-header root other)) in
       let objects : Objects (cur 17 1 [] (g .rs) (map bare (g .later))) = subst Objects (same-cur end refl (told-env t [] 0 (h .end) 0 0)) (g .rest) in
       let here = shown-more (bare row) (header root other) 0 0 root 0 0 0 0 first refl refl (objects-shown objects) in
       let shown = shown-bare (header root other ∷ g .rs) (row ∷ g .later) here in
       let f : Finished rows (row ∷ g .later) = subst (Finished rows) (g .rows-are) (c .finished) in
-      let n : length rows ≡ length (c .final) = ap length (c .finished .same) ∙ length-linked (c .final) in
+      let n : length (linked rows) ≡ length (c .final) = length-linked rows ∙ ap length (c .finished .same) in
       let bared : List Row = rowOf 0 0 (header root other) root 0 0 0 0 ∷ map bare (g .later) in
-      let same : rows ≡ linked bared = f .same ∙ (sym (linked-bare (row ∷ g .later)) ∙ ap (λ (x : Row). linked (x ∷ map bare (g .later))) first) in
+      let same : linked rows ≡ linked bared = ap linked (f .same) ∙ (sym (linked-bare (row ∷ g .later)) ∙ ap (λ (x : Row). linked (x ∷ map bare (g .later))) first) in
       let rooted : among root (idsOf (g .rs)) ≡ true =
       id-back (header root other ∷ g .rs) (row ∷ g .later) shown root (subst (λ (i : ℕ). eqb (objectRow i (row ∷ g .later)) 0 ≡ false) (t .id-is) (f .root)) in
       let targets : (i : ℕ) → among i (refsOf (g .rs)) ≡ true → among i (idsOf (g .rs)) ≡ true =
@@ -174,12 +174,22 @@ module _ (s : List ℕ) (byte : Bytes s) (room : ℕ) (rows : List Row) where
   begun h = record { later = (λ t. apart t, tt); shaped = record { tight = tt; based = refl } }
 
 -- a stream that is accepted has a reading with these rows, and they fit the table
+raw-reading : (s : List ℕ) → Bytes s → (room : ℕ) (raw : List Row) → rawOf s room ≡ accepted raw → Reading s (linked raw) × (length (linked raw) ≤ room)
+unfolding rawOf
+raw-reading s byte room raw =
+    let P : Outcome → Type 0 = λ (x : Outcome). x ≡ accepted raw → Reading s (linked raw) × (length (linked raw) ≤ room) in
+    picked P (ltb 16777216 (length s)) (λ t e. no-accept R.TooLarge 0 raw e)
+    (λ t e.
+    let a = header-began s byte room raw e in
+    reading-of s byte room raw (ltb-false 16777216 (length s) t) (a .head) (a .back .good) (a .back .told)
+    (run-comes s byte room raw (length s) (headed s byte room raw (a .head)) (begun s byte room raw (a .head)) (a .ran)))
+
 pub accepted-reading : (s : List ℕ) → Bytes s → (room : ℕ) (rows : List Row) → readOf s room ≡ accepted rows → Reading s rows × (length rows ≤ room)
 unfolding readOf
-accepted-reading s byte room rows =
-    let P : Outcome → Type 0 = λ (x : Outcome). x ≡ accepted rows → Reading s rows × (length rows ≤ room) in
-    picked P (ltb 16777216 (length s)) (λ t e. no-accept R.TooLarge 0 rows e)
-    (λ t e.
-    let a = header-began s byte room rows e in
-    reading-of s byte room rows (ltb-false 16777216 (length s) t) (a .head) (a .back .good) (a .back .told)
-    (run-comes s byte room rows (length s) (headed s byte room rows (a .head)) (begun s byte room rows (a .head)) (a .ran)))
+accepted-reading s byte room rows = go (rawOf s room) refl
+  where
+    go : (o : Outcome) → rawOf s room ≡ o → withLinks o ≡ accepted rows → Reading s rows × (length rows ≤ room)
+    go (accepted raw) q e =
+        let same : linked raw ≡ rows = cc in
+        subst (λ (rows : List Row). Reading s rows × (length rows ≤ room)) same (raw-reading s byte room raw q)
+    go (refused r place) q e = no-accept r place rows e

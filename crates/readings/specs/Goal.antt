@@ -15,7 +15,7 @@ use Rattle.places.specs.Stand.{Stand, stand-size}
 use Rattle.places.specs.Recs.{Back, rowWith, entryFor, told-env}
 use Rattle.readings.specs.Steps.{stateAt}
 use Rattle.readings.specs.Frames.{openAt}
-use Rattle.readings.specs.Rows.{bare, row-bare}
+use Rattle.readings.specs.Rows.{bare, row-bare, good-low}
 use Rattle.readings.specs.Rest.{Rest, RestOf}
 use Rattle.readings.specs.Fills.{after}
 
@@ -53,4 +53,4 @@ module _ (s : List ℕ) (at : ℕ) (rows : List Row) (f : Frame) (gs : List Fram
       → (final : List Row) → Goal s (stateAt (h .end) (rows ++ (rowWith k h at (h .end) own slot ∷ [])) o) final → Goal s (stateAt at rows (openAt f gs)) final
   back-more k h b own slot =
       goal-more (h .end) (rowWith k h at (h .end) own slot) (rowOf k at (b .rec) (b .id) own slot (b .class) (b .count)) (b .rec) (envOf s rows ++ entryFor (suc (length rows)) (b .rec))
-      (row-bare (b .told) own slot) (b .told .stands) (told-env (b .told) rows at (h .end) own slot)
+      (row-bare (b .told) (good-low (b .good)) own slot) (b .told .stands) (told-env (b .told) rows at (h .end) own slot)

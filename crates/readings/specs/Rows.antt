@@ -1,5 +1,5 @@
--- The rows of the machine, before linking, against the rows of the grammar (01, The table): they are the same but for the links of classes, which
--- linking sets to 0. The numbers and the references of the rows are those of the records.
+-- The rows of the machine, before linking, against the rows of the grammar (01, The table): they are the same but for the links of classes and of
+-- member values, which linking sets to 0. The numbers and the references of the rows are those of the records.
 use Prim.Native.Nat.{ℕ, suc, _+_}
 use mathlib.Core.Path.{_≡_, refl, sym, ap, _∙_}
 use mathlib.Core.Bool.{Bool, true, false, _&&_, _||_}
@@ -7,22 +7,26 @@ use mathlib.Core.List.{List, [], _∷_, _++_, map}
 use native.Mathlib.Omega.{arith}
 use lib.ListN.{length, getD}
 use lib.Dec.{eqb}
-use borrow.Author.Tests.{eqb-true, eq-eqb}
+use borrow.Author.Tests.{eqb-true, eq-eqb, ne-eqb}
 use Rattle.format.specs.declared.SlotType.{SlotType}
 use Rattle.format.specs.declared.Head.{Head}
 use Rattle.format.specs.declared.Row.{Row}
 use Rattle.format.specs.Bytes.{pick}
 use Rattle.format.specs.Rows.{blank, isObject, isClass, findFrom, objectRow, withLink, linkOf, linked, isLost}
 use Rattle.format.specs.Contents.{Rec}
-use Rattle.format.specs.Grammar.{rowOf, idsOf, refsOf, among}
+use Rattle.format.specs.Grammar.{Entry, rowOf, idsOf, refsOf, among}
 use Rattle.laws.specs.Tests.{or-right}
 use Rattle.laws.specs.Ids.{rowIds, rowRefs, Shown, id-there, id-back}
-use Rattle.places.specs.Recs.{Told, told-end, rowWith}
+use Rattle.places.specs.Recs.{Good, good-kind, Told, told-end, rowWith}
+use Rattle.places.specs.Tell.{kinds-taken}
 
--- ---- without the links of classes
+-- ---- without the links of classes and of member values
+
+abbrev pub isLoose : ℕ → Bool
+isLoose kind = pick (eqb kind 32) true (isClass kind)
 
 abbrev pub bare : Row → Row
-bare r = withLink r (pick (isClass (r .kind)) 0 (r .link))
+bare r = withLink r (pick (isLoose (r .kind)) 0 (r .link))
 
 pub bare-more : (rows : List Row) (r : Row) (is : List Row) → map bare (rows ++ (r ∷ [])) ++ is ≡ map bare rows ++ (bare r ∷ is)
 bare-more [] r is = refl
@@ -38,7 +42,7 @@ module _ (p : Row → Bool) (keep : (r : Row) (link : ℕ) → p (withLink r lin
   pub find-bare : (k : ℕ) (rows : List Row) → findFrom p k (map bare rows) ≡ findFrom p k rows
   unfolding findFrom
   find-bare k [] = refl
-  find-bare k (r ∷ rows) = rw (keep r (pick (isClass (r .kind)) 0 (r .link)), find-bare (k + 1) rows)
+  find-bare k (r ∷ rows) = rw (keep r (pick (isLoose (r .kind)) 0 (r .link)), find-bare (k + 1) rows)
 
 module _ (id : ℕ) (rows : List Row) where
   pub object-bare : objectRow id (map bare rows) ≡ objectRow id rows
@@ -47,11 +51,11 @@ module _ (id : ℕ) (rows : List Row) where
 
 -- ---- linking
 
--- the links of classes go
-kept : (k link : ℕ) → pick (eqb k 1) (pick (isClass k) 0 link) 0 ≡ pick (eqb k 1) link 0
+-- the links of classes and of member values go
+kept : (k link : ℕ) → pick (eqb k 1) (pick (isLoose k) 0 link) 0 ≡ pick (eqb k 1) link 0
 kept k link = go (eqb k 1) refl
   where
-    go : (t : Bool) → eqb k 1 ≡ t → pick t (pick (isClass k) 0 link) 0 ≡ pick t link 0
+    go : (t : Bool) → eqb k 1 ≡ t → pick t (pick (isLoose k) 0 link) 0 ≡ pick t link 0
     go true e = rw (eqb-true k 1 e)
     go false e = refl
 
@@ -74,9 +78,16 @@ same-row : {kind offset owner slot e e′ id id′ link link′ count count′ :
     (record { kind = kind; offset = offset; end = e′; id = id′; owner = owner; slot = slot; link = link′; count = count′ })
 same-row a b c d = cc
 
-pub row-bare : {s : List ℕ} {k at id count class : ℕ} {h : Head} {r : Rec} {ts : List SlotType} → Told s k at h r id count class ts → (owner slot : ℕ)
+pub row-bare : {s : List ℕ} {k at id count class : ℕ} {h : Head} {r : Rec} {ts : List SlotType} → Told s k at h r id count class ts → eqb k 32 ≡ false → (owner slot : ℕ)
     → bare (rowWith k h at (h .end) owner slot) ≡ rowOf k at r id owner slot class count
-row-bare t owner slot = same-row (told-end t) (t .id-is) (t .link-is) (t .count-is)
+row-bare t low owner slot = same-row (told-end t) (t .id-is) (rw low (t .link-is)) (t .count-is)
+
+-- the kind of a good record is not that of a member value's row
+pub good-low : {es : List Entry} {k id count class : ℕ} {r : Rec} {ts : List SlotType} → Good es k r id count class ts → eqb k 32 ≡ false
+good-low {k = k} g =
+    let a = good-kind g in
+    let b = kinds-taken k (a .0) (a .1) in
+    ne-eqb k 32 (λ e. omega (arith, b .0))
 
 -- ---- numbers and references
 

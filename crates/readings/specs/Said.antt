@@ -19,12 +19,11 @@ use Rattle.format.specs.declared.Passed.{Passed}
 use Rattle.format.specs.declared.Passed.the-variants as O
 use Rattle.format.specs.declared.Row.{Row}
 use Rattle.format.specs.declared.Frame.{Frame}
-use Rattle.format.specs.Bytes.{part}
 use Rattle.format.specs.Values.{valueAt}
 use Rattle.format.specs.Types.{moved, isPrimitive, passedOf}
 use Rattle.format.specs.Rows.{isObject}
 use Rattle.format.specs.Records.{allowed}
-use Rattle.format.specs.Contents.{Rec, value, enc, encs}
+use Rattle.format.specs.Contents.{Prefixed, Rec, value, enc, encs}
 use Rattle.format.specs.Grammar.{Cur, cur, rowOf, size, Body, Slots, member-value, Objects}
 use Rattle.format.specs.Machine.{Open, State, Next, go, ended, refuse, close, filledBy, filled, opened, rowIn, rowApart, add, object, runOver, nullRun, ending, valueHead, onValue, valueStep, whereIn}
 use Rattle.fields.specs.Judged.{picked}
@@ -33,6 +32,7 @@ use Rattle.laws.specs.Tests.{apart}
 use Rattle.places.specs.Env.{envOf, env-same}
 use Rattle.places.specs.Stand.{stand-size}
 use Rattle.places.specs.Recs.{Back, told-slots}
+use Rattle.places.specs.Values.{valueIn}
 use Rattle.places.specs.Tell.{member-told}
 use Rattle.readings.specs.Steps.{stateAt, whereOf}
 use Rattle.readings.specs.Frames.{openAt, spent}
@@ -183,7 +183,7 @@ module _ (s : List ℕ) (room at : ℕ) (rows : List Row) (f : Frame) where
       -- the top level has no owner
       own-row : bare (rowIn (with-open []) 11 h) ≡ rowOf 11 at (d .rec) (d .id) 0 0 (d .class) (d .count)
       own-row =
-          row-bare (d .told) (f .owner) (f .count - f .left)
+          row-bare (d .told) refl (f .owner) (f .count - f .left)
           ∙ ap (λ (x : Frame). rowOf 11 at (d .rec) (d .id) (x .owner) (x .count - x .left) (d .class) (d .count)) (b .shaped .based)
   end-said (g ∷ gs) b h d w = apart (sym (in-slots (λ (w : Where). allowed w 11 ≡ false) refl refl refl (f .typed .slot)) ∙ w)
 
@@ -193,22 +193,22 @@ module _ (s : List ℕ) (room at : ℕ) (rows : List Row) (f : Frame) where
   value-said byte [] b c e = apart (ap isPrimitive (sym (ap (λ (x : Frame). x .typed .slot) (b .shaped .based)) ∙ e))
   value-said byte (g ∷ gs) b c e = by-value (valueAt s c at) refl
     where
-      value-row : {end : ℕ} (v : List ℕ) → end ≡ at + size (value v)
-          → bare (rowIn (with-open (g ∷ gs)) 32 (valueHead end)) ≡ rowOf 32 at (value v) 0 (f .owner) (f .count - f .left) 0 0
+      value-row : {end : ℕ} (v : Prefixed) → end ≡ at + size (value c v)
+          → bare (rowIn (with-open (g ∷ gs)) 32 (valueHead c end)) ≡ rowOf 32 at (value c v) 0 (f .owner) (f .count - f .left) 0 0
       value-row v z = rw z
 
-      by-value : (x : Field) → valueAt s c at ≡ x → NextSaid room s (with-open (g ∷ gs)) (onValue s room (with-open (g ∷ gs)) x)
+      by-value : (x : Field) → valueAt s c at ≡ x → NextSaid room s (with-open (g ∷ gs)) (onValue s room (with-open (g ∷ gs)) c x)
       by-value (F.End end) q =
-          let v = part s at (end - at) in
+          let v = valueIn s c at in
           let m = member-told s c at end byte q in
-          let row = rowIn (with-open (g ∷ gs)) 32 (valueHead end) in
-          let it = rowOf 32 at (value v) 0 (f .owner) (f .count - f .left) 0 0 in
+          let row = rowIn (with-open (g ∷ gs)) 32 (valueHead c end) in
+          let it = rowOf 32 at (value c v) 0 (f .owner) (f .count - f .left) 0 0 in
           add-said s room at rows f (g ∷ gs) b row (close (spent s f) (g ∷ gs)) (λ t. apart t)
           (close-shaped (spent s f) (g ∷ gs) (based-spent s f (g ∷ gs) (b .shaped .based)))
-          (goal-more s at rows f (g ∷ gs) (close (spent s f) (g ∷ gs)) end row it (value v) (envOf s rows) (value-row v (stand-size (m .1))) (m .1)
+          (goal-more s at rows f (g ∷ gs) (close (spent s f) (g ∷ gs)) end row it (value c v) (envOf s rows) (value-row v (stand-size (m .1))) (m .1)
           (env-same s rows row refl) (λ rs is r.
-          let c₁ = cur (at + size (value v)) (suc (length rows)) (envOf s rows) rs is in
-          let c₀ = cur at (length rows) (envOf s rows) (value v ∷ rs) (it ∷ is) in
+          let c₁ = cur (at + size (value c v)) (suc (length rows)) (envOf s rows) rs is in
+          let c₀ = cur at (length rows) (envOf s rows) (value c v ∷ rs) (it ∷ is) in
           fill-one s f g gs (b .shaped .based .0) (b .shaped .tight) c₀ c₁ (λ us c₂ x.
           subst (λ (t : SlotType). Slots (64 - suc (length gs)) (f .owner) (f .count - f .left) (t ∷ us) c₀ c₂) (sym e) (member-value (m .0) refl x))
           (rest-close s (spent s f) (g ∷ gs) c₁ r)))

@@ -22,7 +22,7 @@ use Rattle.format.specs.declared.Row.{Row}
 use Rattle.format.specs.Types.{alike, moved, isPrimitive, passedOf}
 use Rattle.format.specs.Rows.{isObject}
 use Rattle.format.specs.Records.{isKind, notTaken, allowed, kindOf, kindAt, headingAt}
-use Rattle.format.specs.Contents.{Rec, value, enc}
+use Rattle.format.specs.Contents.{Prefixed, Rec, value, enc}
 use Rattle.format.specs.Grammar.{Value}
 use Rattle.format.specs.Machine.{Open, State, go, ended, close, filled, opened, rowIn, rowApart, add, object, nullRun, ending, act, onKind, recordStep, valueHead, onValue, valueStep, whereIn, bySlot, step, start}
 use Rattle.class_info.specs.Ends.{EndsIn}
@@ -118,12 +118,12 @@ module _ (s : List ℕ) (room at : ℕ) (rows : List Row) (o : Open) where
   adds r o′ e h q = rw (lt-ltb (length rows) room h) (ap (λ (p : ℕ). go (stateAt p (rows ++ (r ∷ [])) o′)) q)
 
   -- a member value
-  pub value-goes : (c : PrimitiveCode) (v : List ℕ) (e : ℕ) → o .cur .typed .slot ≡ S.Primitive c → Value c v → Stand s (enc (value v)) at e → length rows < room
-      → step s room (stateAt at rows o) ≡ go (stateAt e (rows ++ (rowIn (stateAt at rows o) 32 (valueHead e) ∷ [])) (filled o 1 (moved s (o .cur .typed))))
+  pub value-goes : (c : PrimitiveCode) (v : Prefixed) (e : ℕ) → o .cur .typed .slot ≡ S.Primitive c → Value c v → Stand s (enc (value c v)) at e → length rows < room
+      → step s room (stateAt at rows o) ≡ go (stateAt e (rows ++ (rowIn (stateAt at rows o) 32 (valueHead c e) ∷ [])) (filled o 1 (moved s (o .cur .typed))))
   unfolding step valueStep
   value-goes c v e slot g w h =
-      ap (bySlot s room (stateAt at rows o)) slot ∙ ap (onValue s room (stateAt at rows o)) (member-read s c v at e g w)
-      ∙ adds (rowIn (stateAt at rows o) 32 (valueHead e)) (filled o 1 (moved s (o .cur .typed))) e h refl
+      ap (bySlot s room (stateAt at rows o)) slot ∙ ap (onValue s room (stateAt at rows o) c) (member-read s c v at e g w)
+      ∙ adds (rowIn (stateAt at rows o) 32 (valueHead c e)) (filled o 1 (moved s (o .cur .typed))) e h refl
 
   module _ (e k : ℕ) (r : Rec) (id count class : ℕ) (ts : List SlotType) (w : Taken s rows at e k r id count class ts) where
     record-acts : (v : Where) → allowed v k ≡ true → recordStep s room (stateAt at rows o) v ≡ act s room (stateAt at rows o) k (H.Fields (w .head))

@@ -36,7 +36,7 @@ madeKnown row (library i n) = aLibrary i ∷ []
 madeKnown row (primitiveArray i n c vs) = another i ∷ []
 madeKnown row (objectArray i n) = another i ∷ []
 madeKnown row (stringArray i n) = another i ∷ []
-madeKnown row (value v) = []
+madeKnown row (value c v) = []
 
 -- ---- entries after others
 

@@ -13,8 +13,8 @@ use Rattle.format.specs.Bytes.{pick}
 use Rattle.format.specs.Rows.{isObject}
 use Rattle.format.specs.Contents.{Rec, array, end}
 use Rattle.format.specs.Grammar.{Positive, Entry, Array, of-objects, of-strings, of-primitives, of-any, of-values, idOf, refOf, idsOf, refsOf, among}
-use Rattle.format.specs.Says.{Class, What, anObject, aString, anArray, aPrimitive, aReference, aNull, aPrimitiveArray, anObjectArray, aStringArray, aValue, Node}
-use Rattle.format.specs.Tidy.{sameClass, numberIn, Progress, nothing, Libraries, libraryRecords, allEntered, detailNeeds, classNeeds, detailBy, classBy, objectBy, afterObject, recordsOf, afterWhat}
+use Rattle.format.specs.Says.{Class, What, anObject, aString, anArray, aPrimitive, aReference, aNull, aPrimitiveArray, anObjectArray, aStringArray, aValue, Node, codeOf}
+use Rattle.format.specs.Tidy.{valuesBy, sameClass, numberIn, Progress, nothing, Libraries, libraryRecords, allEntered, detailNeeds, classNeeds, detailBy, classBy, objectBy, afterObject, recordsOf, afterWhat}
 use Rattle.laws.specs.Tests.{apart}
 use Rattle.laws.specs.Numbers.{afterNodes}
 use Rattle.laws.specs.Runs.{libraries-length, Sort, a-null, plain, sort-of}
@@ -47,7 +47,7 @@ what-enough p (anObject c) = object-enough (numberIn (sameClass c) (p .classes))
 what-enough p (aString t) = omega arith
 what-enough p (anArray type ns d vs) =
     let a = libraries-length (detailNeeds d) (p .libraries) in
-    let r : Rec = array (suc (p .count)) type ns (detailBy (allEntered (detailNeeds d) (p .libraries)) d) vs in
+    let r : Rec = array (suc (p .count)) type ns (detailBy (allEntered (detailNeeds d) (p .libraries)) d) (valuesBy (codeOf d) vs) in
     let b = length-append (libraryRecords (detailNeeds d) (p .libraries)) (r ∷ []) in
     omega arith
 what-enough p (aPrimitive c v) = omega arith
@@ -56,7 +56,7 @@ what-enough p aNull = omega arith
 what-enough p (aPrimitiveArray n c vs) = omega arith
 what-enough p (anObjectArray n) = omega arith
 what-enough p (aStringArray n) = omega arith
-what-enough p (aValue v) = omega arith
+what-enough p (aValue c v) = omega arith
 
 pub length-shown : (o n : ℕ) (rs : List Rec) → length (allShown o n rs) ≡ length rs
 length-shown o n [] = refl

@@ -1,6 +1,6 @@
 -- What may be said: nodes that fill the slots of open objects in order, each with what its slot's type allows. Nothing here is about ids,
 -- places, libraries' numbers or packing.
-use Prim.Native.Nat.{ℕ, suc, _+_, _≤_, _<_}
+use Prim.Native.Nat.{ℕ, zero, suc, _+_, _≤_, _<_}
 use mathlib.Core.Path.{_≡_, refl}
 use mathlib.Core.Bool.{true}
 use mathlib.Core.List.{List, [], _∷_}
@@ -9,36 +9,41 @@ use Rattle.format.specs.declared.PrimitiveCode.{PrimitiveCode}
 use Rattle.format.specs.declared.SlotType.{SlotType}
 use Rattle.format.specs.declared.SlotType.the-variants as S
 use Rattle.format.specs.Contents.{Detail, primitive, text, object, system, class, objects, texts, primitives, Member, slotFor}
-use Rattle.format.specs.Grammar.{Name, Value, Values, takesObjects, takesStrings, Shape, product, takesRecords}
+use Rattle.format.specs.Grammar.{Characters, Content, takesObjects, takesStrings, Shape, product, takesRecords}
 use Rattle.format.specs.Says.{From, theSystem, theLibrary, Class, What, anObject, aString, anArray, aPrimitive, aReference, aNull, aPrimitiveArray, anObjectArray, aStringArray, aValue, Node, Model}
 
 -- ---- contents
 
-abbrev pub GoodType : Detail (List ℕ) → Type 0
+abbrev pub GoodType : Detail (List ℕ) (List ℕ) → Type 0
 GoodType (primitive c) = Unit {0}
 GoodType text = Unit {0}
 GoodType object = Unit {0}
-GoodType (system n) = Name n
-GoodType (class n l) = Name n × Name l
+GoodType (system n) = Characters n
+GoodType (class n l) = Characters n × Characters l
 GoodType objects = Unit {0}
 GoodType texts = Unit {0}
 GoodType (primitives c) = Unit {0}
 
-pub data GoodMembers : List (Member (List ℕ)) → Type 0 where
+pub data GoodMembers : List (Member (List ℕ) (List ℕ)) → Type 0 where
   no-more : GoodMembers []
-  member : {m : Member (List ℕ)} {ms : List (Member (List ℕ))} → Name (m .name) → GoodType (m .type) → GoodMembers ms → GoodMembers (m ∷ ms)
+  member : {m : Member (List ℕ) (List ℕ)} {ms : List (Member (List ℕ) (List ℕ))} → Characters (m .name) → GoodType (m .type) → GoodMembers ms → GoodMembers (m ∷ ms)
 
 pub data GoodFrom : From → Type 0 where
   of-system : GoodFrom theSystem
-  of-library : {n : List ℕ} → Name n → GoodFrom (theLibrary n)
+  of-library : {n : List ℕ} → Characters n → GoodFrom (theLibrary n)
 
 pub record GoodClass (c : Class) : Type 0 where
-  pub named : Name (c .name)
+  pub named : Characters (c .name)
   pub from : GoodFrom (c .from)
   pub counted : length (c .members) < 2147483648
   pub members : GoodMembers (c .members)
 
-abbrev pub slotsOf : List (Member (List ℕ)) → List SlotType
+-- the items of a primitive array: n contents of this code
+pub data Contents : PrimitiveCode → ℕ → List (List ℕ) → Type 0 where
+  no-item : {c : PrimitiveCode} → Contents c zero []
+  an-item : {c : PrimitiveCode} {n : ℕ} {v : List ℕ} {vs : List (List ℕ)} → Content c v → Contents c n vs → Contents c (suc n) (v ∷ vs)
+
+abbrev pub slotsOf : List (Member (List ℕ) (List ℕ)) → List SlotType
 slotsOf [] = []
 slotsOf (m ∷ ms) = slotFor (m .type) ∷ slotsOf ms
 
@@ -96,19 +101,19 @@ pub data Deep : List SlotType → List Place → Type 0 where
 
 pub data Allowed (total : ℕ) : List Place → What → Type 0 where
   top-object : {c : Class} → GoodClass c → Allowed total [] (anObject c)
-  top-string : {x : List ℕ} → Name x → Allowed total [] (aString x)
+  top-string : {x : List ℕ} → Characters x → Allowed total [] (aString x)
   top-objects : {n : ℕ} → n < 2147483648 → Allowed total [] (anObjectArray n)
   top-strings : {n : ℕ} → n < 2147483648 → Allowed total [] (aStringArray n)
-  top-primitives : {n : ℕ} {c : PrimitiveCode} {vs : List ℕ} → n < 2147483648 → Values c n vs → Allowed total [] (aPrimitiveArray n c vs)
-  top-array : {type : ℕ} {ns : List ℕ} {d : Detail (List ℕ)} → Shape type ns → GoodType d → takesRecords (slotFor d) ≡ true → Allowed total [] (anArray type ns d [])
-  top-values : {type : ℕ} {ns : List ℕ} {c : PrimitiveCode} {vs : List ℕ} → Shape type ns → Values c (product ns) vs → Allowed total [] (anArray type ns (primitive c) vs)
+  top-primitives : {n : ℕ} {c : PrimitiveCode} {vs : List (List ℕ)} → n < 2147483648 → Contents c n vs → Allowed total [] (aPrimitiveArray n c vs)
+  top-array : {type : ℕ} {ns : List ℕ} {d : Detail (List ℕ) (List ℕ)} → Shape type ns → GoodType d → takesRecords (slotFor d) ≡ true → Allowed total [] (anArray type ns d [])
+  top-values : {type : ℕ} {ns : List ℕ} {c : PrimitiveCode} {vs : List (List ℕ)} → Shape type ns → Contents c (product ns) vs → Allowed total [] (anArray type ns (primitive c) vs)
   in-object : {o n : ℕ} {t : SlotType} {ts : List SlotType} {fs : List Place} {c : Class} → takesObjects t ≡ true → GoodClass c → Deep (slotsOf (c .members)) (place o n (t ∷ ts) ∷ fs)
       → Allowed total (place o n (t ∷ ts) ∷ fs) (anObject c)
-  in-string : {o n : ℕ} {t : SlotType} {ts : List SlotType} {fs : List Place} {x : List ℕ} → takesStrings t ≡ true → Name x → Allowed total (place o n (t ∷ ts) ∷ fs) (aString x)
-  in-primitive : {o n : ℕ} {t : SlotType} {ts : List SlotType} {fs : List Place} {c : PrimitiveCode} {v : List ℕ} → takesObjects t ≡ true → Value c v → Allowed total (place o n (t ∷ ts) ∷ fs) (aPrimitive c v)
+  in-string : {o n : ℕ} {t : SlotType} {ts : List SlotType} {fs : List Place} {x : List ℕ} → takesStrings t ≡ true → Characters x → Allowed total (place o n (t ∷ ts) ∷ fs) (aString x)
+  in-primitive : {o n : ℕ} {t : SlotType} {ts : List SlotType} {fs : List Place} {c : PrimitiveCode} {v : List ℕ} → takesObjects t ≡ true → Content c v → Allowed total (place o n (t ∷ ts) ∷ fs) (aPrimitive c v)
   in-reference : {o n k : ℕ} {t : SlotType} {ts : List SlotType} {fs : List Place} → takesRecords t ≡ true → 0 < k → k ≤ total → Allowed total (place o n (t ∷ ts) ∷ fs) (aReference k)
   in-null : {o n : ℕ} {t : SlotType} {ts : List SlotType} {fs : List Place} → takesRecords t ≡ true → Allowed total (place o n (t ∷ ts) ∷ fs) aNull
-  in-value : {o n : ℕ} {c : PrimitiveCode} {ts : List SlotType} {fs : List Place} {v : List ℕ} → Value c v → Allowed total (place o n (S.Primitive c ∷ ts) ∷ fs) (aValue v)
+  in-value : {o n : ℕ} {c : PrimitiveCode} {ts : List SlotType} {fs : List Place} {v : List ℕ} → Content c v → Allowed total (place o n (S.Primitive c ∷ ts) ∷ fs) (aValue c v)
 
 -- how many objects it is, and the open objects after it
 abbrev pub countOf : What → ℕ
@@ -121,10 +126,10 @@ countOf aNull = 0
 countOf (aPrimitiveArray n c vs) = 1
 countOf (anObjectArray n) = 1
 countOf (aStringArray n) = 1
-countOf (aValue v) = 0
+countOf (aValue c v) = 0
 
 -- the types of the slots of an array's items: none where they are primitive
-abbrev pub itemSlots : List ℕ → Detail (List ℕ) → List SlotType
+abbrev pub itemSlots : List ℕ → Detail (List ℕ) (List ℕ) → List SlotType
 itemSlots ns (primitive c) = []
 itemSlots ns text = replicate (product ns) S.Text
 itemSlots ns object = replicate (product ns) S.Object
@@ -144,7 +149,7 @@ openAfter count fs aNull = shut (filledOne fs)
 openAfter count fs (aPrimitiveArray n c vs) = shut (filledOne fs)
 openAfter count fs (anObjectArray n) = openedIn (suc count) (replicate n S.Object) fs
 openAfter count fs (aStringArray n) = openedIn (suc count) (replicate n S.Text) fs
-openAfter count fs (aValue v) = shut (filledOne fs)
+openAfter count fs (aValue c v) = shut (filledOne fs)
 
 -- the nodes that are left, after so many objects, with these objects open
 pub data Fits (total : ℕ) : (count : ℕ) → List Place → List Node → Type 0 where

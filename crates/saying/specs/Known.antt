@@ -12,9 +12,9 @@ use Rattle.format.specs.declared.SlotType.{SlotType}
 use Rattle.format.specs.declared.Row.{Row}
 use Rattle.format.specs.Bytes.{pick}
 use Rattle.format.specs.Rows.{blank, findFrom, libraryRow}
-use Rattle.format.specs.Contents.{Detail, primitive, text, object, system, class, objects, texts, primitives, Member}
+use Rattle.format.specs.Contents.{Prefixed, Detail, primitive, text, object, system, class, objects, texts, primitives, Member}
 use Rattle.format.specs.Says.{From, Class, textFrom, libraryName, classFrom}
-use Rattle.format.specs.Grammar.{Name, Entry, aClass, another, aLibrary, known, classed, classOf, GoodDetail, Members, no-more, member, ClassInfo}
+use Rattle.format.specs.Grammar.{Characters, Entry, aClass, another, aLibrary, known, classed, classOf, GoodDetail, Members, no-more, member, ClassInfo}
 use Rattle.format.specs.Meant.{named, namedAll, classOfAll}
 use Rattle.saying.specs.Good.{GoodType, GoodMembers, GoodFrom, GoodClass, slotsOf}
 use Rattle.saying.specs.Good as G
@@ -46,7 +46,7 @@ module _ (s : List ℕ) (rows : List Row) where
   abbrev GoodEntry : Entry → Type 0
   GoodEntry (aClass i row ts) = ClassAt row ts
   GoodEntry (another i) = Unit {0}
-  GoodEntry (aLibrary i) = Name (libraryName s rows i)
+  GoodEntry (aLibrary i) = Characters (libraryName s rows i)
 
   pub data GoodEntries : List Entry → Type 0 where
     no-entry : GoodEntries []
@@ -56,14 +56,14 @@ module _ (s : List ℕ) (rows : List Row) where
   entries-more e no-entry g = an-entry g no-entry
   entries-more e (an-entry {e = d} h w) g = an-entry {e = d} h (entries-more e w g)
 
-  pub library-known : (l : ℕ) (es : List Entry) → GoodEntries es → known l es ≡ true → Name (libraryName s rows l)
+  pub library-known : (l : ℕ) (es : List Entry) → GoodEntries es → known l es ≡ true → Characters (libraryName s rows l)
   library-known l [] w e = absurd (let z : _≡_ {A = ℕ} 0 1 = cc in omega arith)
   library-known l (aClass i r ts ∷ es) (an-entry g w) e = library-known l es w e
   library-known l (another i ∷ es) (an-entry g w) e = library-known l es w e
   library-known l (aLibrary i ∷ es) (an-entry g w) e = go (eqb i l) refl e (library-known l es w)
     where
-      go : (t : Bool) → eqb i l ≡ t → pick t true (known l es) ≡ true → (known l es ≡ true → Name (libraryName s rows l)) → Name (libraryName s rows l)
-      go true q e h = subst (λ (k : ℕ). Name (libraryName s rows k)) (eqb-true i l q) g
+      go : (t : Bool) → eqb i l ≡ t → pick t true (known l es) ≡ true → (known l es ≡ true → Characters (libraryName s rows l)) → Characters (libraryName s rows l)
+      go true q e h = subst (λ (k : ℕ). Characters (libraryName s rows k)) (eqb-true i l q) g
       go false q e h = h e
 
   pub class-known : (k row : ℕ) (ts : List SlotType) (es : List Entry) → GoodEntries es → classOf k es ≡ classed row ts → ClassAt row ts
@@ -82,28 +82,28 @@ module _ (s : List ℕ) (rows : List Row) where
   -- ---- classes whose libraries are known are good
 
   module _ (es : List Entry) (w : GoodEntries es) where
-    pub type-good : (d : Detail ℕ) → GoodDetail es d → GoodType (named (libraryName s rows) d)
+    pub type-good : (d : Detail Prefixed ℕ) → GoodDetail es d → GoodType (named (libraryName s rows) d)
     type-good (primitive c) g = tt
     type-good text g = tt
     type-good object g = tt
-    type-good (system n) g = g
-    type-good (class n l) g = (g .0, library-known l es w (g .1 .there))
+    type-good (system n) g = g .characters
+    type-good (class n l) g = (g .0 .characters, library-known l es w (g .1 .there))
     type-good objects g = tt
     type-good texts g = tt
     type-good (primitives c) g = tt
 
-    members-good : {ms : List (Member ℕ)} → Members es ms → GoodMembers (namedAll (libraryName s rows) ms)
+    members-good : {ms : List (Member Prefixed ℕ)} → Members es ms → GoodMembers (namedAll (libraryName s rows) ms)
     members-good no-more = G.no-more
-    members-good (member {m = m} n g gs) = G.member n (type-good (m .type) g) (members-good gs)
+    members-good (member {m = m} n g gs) = G.member (n .characters) (type-good (m .type) g) (members-good gs)
 
-    pub class-good : (n : List ℕ) (from : From) (ms : List (Member ℕ)) → ClassInfo es n ms → GoodFrom from
-        → GoodClass (classOfAll (libraryName s rows) n from ms)
+    pub class-good : (n : Prefixed) (from : From) (ms : List (Member Prefixed ℕ)) → ClassInfo es n ms → GoodFrom from
+        → GoodClass (classOfAll (libraryName s rows) (n .text) from ms)
     class-good n from ms g f =
         let l : length (namedAll (libraryName s rows) ms) ≡ length ms = length-named ms in
         let h = g .counted in
-        record { named = g .named; from = f; counted = omega arith; members = members-good (g .members) }
+        record { named = g .named .characters; from = f; counted = omega arith; members = members-good (g .members) }
       where
-        length-named : (ms : List (Member ℕ)) → length (namedAll (libraryName s rows) ms) ≡ length ms
+        length-named : (ms : List (Member Prefixed ℕ)) → length (namedAll (libraryName s rows) ms) ≡ length ms
         length-named [] = refl
         length-named (m ∷ ms) = ap suc (length-named ms)
 
@@ -174,7 +174,7 @@ module _ (s : List ℕ) (rows : List Row) where
         go false e = refl
 
     module _ {es : List Entry} (j : ℕ) (k : w .kind ≡ 12) (q : w .id ≡ j) (n : known j es ≡ false) (g : Knows row es) where
-      pub knows-library : Name (textFrom s (w .offset + 5)) → Knows (suc row) (es ++ (aLibrary j ∷ []))
+      pub knows-library : Characters (textFrom s (w .offset + 5)) → Knows (suc row) (es ++ (aLibrary j ∷ []))
       unfolding libraryName
       knows-library h =
           let z : suc row - 1 ≡ row = omega arith in

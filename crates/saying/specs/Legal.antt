@@ -11,7 +11,7 @@ use Rattle.format.specs.declared.SlotType.{SlotType}
 use Rattle.format.specs.declared.SlotType.the-variants as S
 use Rattle.format.specs.Bytes.{pick}
 use Rattle.format.specs.Rows.{isObject, isClass}
-use Rattle.format.specs.Contents.{Member, Rec, header, classById, systemClass, libraryClass, string, array, typedPrimitive, reference, null, nulls, manyNulls, end, library, primitiveArray, objectArray, stringArray, value}
+use Rattle.format.specs.Contents.{Prefixed, Member, Rec, header, classById, systemClass, libraryClass, string, array, typedPrimitive, reference, null, nulls, manyNulls, end, library, primitiveArray, objectArray, stringArray, value}
 use Rattle.format.specs.Grammar.{Positive, Entry, known, classed, classOf, ClassId, ObjectId, LibraryId, Name, Value, ClassInfo, typesOf, takesObjects, takesStrings, Array, idOf, takesRecords, allTake}
 use Rattle.saying.specs.Good.{Place, place, shut, ownerOf, slotOf, openedIn, Deep}
 use Rattle.saying.specs.There.{kindOf}
@@ -21,19 +21,19 @@ use Rattle.saying.specs.Counts.{madeKnown}
 -- what a record may hold where this is known, and the types of its slots; total is how many objects there are
 pub data Takes (total : ℕ) (es : List Entry) : Rec → List SlotType → Type 0 where
   class-by-id : {i k row : ℕ} {ts : List SlotType} → ClassId i es → k < 4294967296 → classOf k es ≡ classed row ts → Takes total es (classById i k) ts
-  system-class : {i : ℕ} {n : List ℕ} {ms : List (Member ℕ)} {ts : List SlotType} → ClassId i es → ClassInfo es n ms → ts ≡ typesOf ms
+  system-class : {i : ℕ} {n : Prefixed} {ms : List (Member Prefixed ℕ)} {ts : List SlotType} → ClassId i es → ClassInfo es n ms → ts ≡ typesOf ms
       → Takes total es (systemClass i n ms) ts
-  library-class : {i l : ℕ} {n : List ℕ} {ms : List (Member ℕ)} {ts : List SlotType} → ClassId i es → ClassInfo es n ms → LibraryId l es → ts ≡ typesOf ms
+  library-class : {i l : ℕ} {n : Prefixed} {ms : List (Member Prefixed ℕ)} {ts : List SlotType} → ClassId i es → ClassInfo es n ms → LibraryId l es → ts ≡ typesOf ms
       → Takes total es (libraryClass i n ms l) ts
-  a-string : {i : ℕ} {x : List ℕ} → ObjectId i es → Name x → Takes total es (string i x) []
+  a-string : {i : ℕ} {x : Prefixed} → ObjectId i es → Name x → Takes total es (string i x) []
   an-array : {k i n : ℕ} {r : Rec} {ts : List SlotType} → ObjectId i es → Array es r k i n ts → Takes total es r ts
-  a-primitive : {c : PrimitiveCode} {v : List ℕ} → Value c v → Takes total es (typedPrimitive c v) []
+  a-primitive : {c : PrimitiveCode} {v : Prefixed} → Value c v → Takes total es (typedPrimitive c v) []
   a-reference : {i : ℕ} → Positive i → i ≤ total → Takes total es (reference i) []
   a-null : Takes total es null []
   some-nulls : {k : ℕ} → 0 < k → k < 256 → Takes total es (nulls k) []
   many-nulls : {k : ℕ} → Positive k → Takes total es (manyNulls k) []
-  a-library : {i : ℕ} {x : List ℕ} → Positive i → known i es ≡ false → Name x → Takes total es (library i x) []
-  a-value : {c : PrimitiveCode} {v : List ℕ} → Value c v → Takes total es (value v) []
+  a-library : {i : ℕ} {x : Prefixed} → Positive i → known i es ≡ false → Name x → Takes total es (library i x) []
+  a-value : {c : PrimitiveCode} {v : Prefixed} → Value c v → Takes total es (value c v) []
 
 -- one null, or a run of so many
 pub data Nulls : Rec → ℕ → Type 0 where
@@ -48,20 +48,20 @@ ofClass k = eqb k 1 || isClass k
 -- where a record with slots of these types may stand: at top level, or in the next slot of the innermost open object
 pub data Stands : List Place → Rec → List SlotType → Type 0 where
   top-object : {r : Rec} {ts : List SlotType} → isObject (kindOf r) ≡ true → Stands [] r ts
-  top-library : {i : ℕ} {x : List ℕ} → Stands [] (library i x) []
+  top-library : {i : ℕ} {x : Prefixed} → Stands [] (library i x) []
   in-object : {o n : ℕ} {t : SlotType} {us ts : List SlotType} {fs : List Place} {r : Rec} → takesObjects t ≡ true → ofClass (kindOf r) ≡ true
       → Deep ts (place o n (t ∷ us) ∷ fs) → Stands (place o n (t ∷ us) ∷ fs) r ts
-  in-string : {o n i : ℕ} {t : SlotType} {us : List SlotType} {fs : List Place} {x : List ℕ} → takesStrings t ≡ true
+  in-string : {o n i : ℕ} {t : SlotType} {us : List SlotType} {fs : List Place} {x : Prefixed} → takesStrings t ≡ true
       → Stands (place o n (t ∷ us) ∷ fs) (string i x) []
-  in-primitive : {o n : ℕ} {t : SlotType} {us : List SlotType} {fs : List Place} {c : PrimitiveCode} {v : List ℕ} → takesObjects t ≡ true
+  in-primitive : {o n : ℕ} {t : SlotType} {us : List SlotType} {fs : List Place} {c : PrimitiveCode} {v : Prefixed} → takesObjects t ≡ true
       → Stands (place o n (t ∷ us) ∷ fs) (typedPrimitive c v) []
   in-reference : {o n i : ℕ} {t : SlotType} {us : List SlotType} {fs : List Place} → takesRecords t ≡ true → Stands (place o n (t ∷ us) ∷ fs) (reference i) []
   -- nulls fill slots of one object, none of them primitive
   in-nulls : {o n k : ℕ} {t : SlotType} {us : List SlotType} {fs : List Place} {r : Rec} → Nulls r k → takesRecords t ≡ true → k ≤ length (t ∷ us)
       → allTake (take k (t ∷ us)) ≡ true → Stands (place o n (t ∷ us) ∷ fs) r []
-  in-library : {o n i : ℕ} {t : SlotType} {us : List SlotType} {fs : List Place} {x : List ℕ} → takesRecords t ≡ true
+  in-library : {o n i : ℕ} {t : SlotType} {us : List SlotType} {fs : List Place} {x : Prefixed} → takesRecords t ≡ true
       → Stands (place o n (t ∷ us) ∷ fs) (library i x) []
-  in-value : {o n : ℕ} {c : PrimitiveCode} {us : List SlotType} {fs : List Place} {v : List ℕ} → Value c v → Stands (place o n (S.Primitive c ∷ us) ∷ fs) (value v) []
+  in-value : {o n : ℕ} {c : PrimitiveCode} {us : List SlotType} {fs : List Place} {v : Prefixed} → Value c v → Stands (place o n (S.Primitive c ∷ us) ∷ fs) (value c v) []
 
 -- how many slots a record that is no object fills
 abbrev pub fills : Rec → ℕ
@@ -81,7 +81,7 @@ fills (library i n) = 0
 fills (primitiveArray i n c vs) = 1
 fills (objectArray i n) = 1
 fills (stringArray i n) = 1
-fills (value v) = 1
+fills (value c v) = 1
 
 abbrev pub filledBy : ℕ → List Place → List Place
 filledBy k [] = []

@@ -2,6 +2,8 @@
 pub mod Order
 pub mod Said
 pub mod Good
+pub mod Prefixes
+pub mod Codes
 pub mod There
 pub mod Known
 pub mod SaidGood
@@ -10,6 +12,7 @@ pub mod Shown
 pub mod Round
 pub mod Counts
 pub mod Legal
+pub mod Nesting
 pub mod Limits
 pub mod Written
 pub mod Enough

@@ -10,14 +10,15 @@ use lib.Dec.{eqb}
 use Rattle.format.specs.declared.SlotType.{SlotType}
 use Rattle.format.specs.declared.SlotType.the-variants as S
 use Rattle.format.specs.Bytes.{pick, sameBytes}
-use Rattle.format.specs.Contents.{Detail, primitive, text, object, system, class, objects, texts, primitives, Member, slotFor}
-use Rattle.format.specs.Grammar.{Positive, Entry, LibraryId, GoodDetail, Members, Name, ClassInfo, typesOf, product, takesRecords}
+use Rattle.format.specs.Contents.{shortest, Detail, primitive, text, object, system, class, objects, texts, primitives, Member, slotFor}
+use Rattle.format.specs.Grammar.{Positive, Entry, LibraryId, GoodDetail, Members, Characters, ClassInfo, typesOf, product, takesRecords}
 use Rattle.format.specs.Grammar as G
 use Rattle.format.specs.Says.{From, theSystem, theLibrary, Class, What, anObject, aString, anArray, aPrimitive, aReference, aNull, aPrimitiveArray, anObjectArray, aStringArray, aValue, Node}
 use Rattle.format.specs.Tidy.{sameClass, numberIn, Progress, Libraries, entered, allEntered, detailNeeds, membersNeed, fromNeeds, classNeeds, detailBy, membersBy, afterObject, afterWhat}
 use Rattle.laws.specs.Numbers.{afterNodes}
 use Rattle.saying.specs.Good.{GoodType, GoodMembers, no-more, member, GoodFrom, of-library, GoodClass, slotsOf, Place, place, shutBy, shut, filledOne, openedIn, Allowed, top-object, top-string, top-objects, top-strings, top-primitives, top-array, top-values, in-object, in-string, in-primitive, in-reference, in-null, in-value, countOf, itemSlots, openAfter, Fits, the-end, a-node}
 use Rattle.saying.specs.Numbers.{Listed, number-within, Each, no-name, a-name, each-left, each-right, Has}
+use Rattle.saying.specs.Prefixes.{shortest-name}
 use Rattle.saying.specs.Counts.{Knows}
 
 -- ---- numbers
@@ -53,7 +54,7 @@ what-grows w aNull = omega arith
 what-grows w (aPrimitiveArray n c vs) = omega arith
 what-grows w (anObjectArray n) = omega arith
 what-grows w (aStringArray n) = omega arith
-what-grows w (aValue v) = omega arith
+what-grows w (aValue c v) = omega arith
 
 pub nodes-grow : (w : Progress) (ns : List Node) → length (w .libraries) ≤ length (afterNodes w ns .libraries)
 unfolding afterNodes
@@ -75,7 +76,7 @@ what-count w aNull = omega arith
 what-count w (aPrimitiveArray n c vs) = omega arith
 what-count w (anObjectArray n) = omega arith
 what-count w (aStringArray n) = omega arith
-what-count w (aValue v) = omega arith
+what-count w (aValue c v) = omega arith
 
 pub fits-le : (total count : ℕ) (fs : List Place) (ns : List Node) → Fits total count fs ns → count ≤ total
 fits-le total count fs [] (the-end e) = omega arith
@@ -83,11 +84,11 @@ fits-le total count fs (n ∷ ns) (a-node a o s f) = let h = fits-le total (coun
 
 -- ---- contents
 
-pub types-by : (ls : Libraries) (ms : List (Member (List ℕ))) → typesOf (membersBy ls ms) ≡ slotsOf ms
+pub types-by : (ls : Libraries) (ms : List (Member (List ℕ) (List ℕ))) → typesOf (membersBy ls ms) ≡ slotsOf ms
 types-by ls [] = refl
 types-by ls (m ∷ ms) = go (m .type) (types-by ls ms)
   where
-    go : (d : Detail (List ℕ)) → typesOf (membersBy ls ms) ≡ slotsOf ms → slotFor (detailBy ls d) ∷ typesOf (membersBy ls ms) ≡ slotFor d ∷ slotsOf ms
+    go : (d : Detail (List ℕ) (List ℕ)) → typesOf (membersBy ls ms) ≡ slotsOf ms → slotFor (detailBy ls d) ∷ typesOf (membersBy ls ms) ≡ slotFor d ∷ slotsOf ms
     go (primitive c) e = ap (_∷_ (S.Primitive c)) e
     go text e = ap (_∷_ S.Text) e
     go object e = ap (_∷_ S.Object) e
@@ -97,38 +98,38 @@ types-by ls (m ∷ ms) = go (m .type) (types-by ls ms)
     go texts e = ap (_∷_ S.StringArray) e
     go (primitives c) e = ap (_∷_ (S.PrimitiveArray c)) e
 
-pub length-by : (ls : Libraries) (ms : List (Member (List ℕ))) → length (membersBy ls ms) ≡ length ms
+pub length-by : (ls : Libraries) (ms : List (Member (List ℕ) (List ℕ))) → length (membersBy ls ms) ≡ length ms
 length-by ls [] = refl
 length-by ls (m ∷ ms) = ap suc (length-by ls ms)
 
-length-slots : (ms : List (Member (List ℕ))) → length (slotsOf ms) ≡ length ms
+pub length-slots : (ms : List (Member (List ℕ) (List ℕ))) → length (slotsOf ms) ≡ length ms
 length-slots [] = refl
 length-slots (m ∷ ms) = ap suc (length-slots ms)
 
 -- libraries by number are known where all that have one are
 module _ (es : List Entry) (ls : Libraries) (there : (n : List ℕ) → Has ls n → LibraryId (numberIn (sameBytes n) ls) es) where
-  pub detail-good : (d : Detail (List ℕ)) → GoodType d → Each (Has ls) (detailNeeds d) → GoodDetail es (detailBy ls d)
+  pub detail-good : (d : Detail (List ℕ) (List ℕ)) → GoodType d → Each (Has ls) (detailNeeds d) → GoodDetail es (detailBy ls d)
   detail-good (primitive c) g h = tt
   detail-good text g h = tt
   detail-good object g h = tt
-  detail-good (system n) g h = g
-  detail-good (class n l) g (a-name p h) = (g .0, there l p)
+  detail-good (system n) g h = shortest-name g
+  detail-good (class n l) g (a-name p h) = (shortest-name (g .0), there l p)
   detail-good objects g h = tt
   detail-good texts g h = tt
   detail-good (primitives c) g h = tt
 
-  members-good : (ms : List (Member (List ℕ))) → GoodMembers ms → Each (Has ls) (membersNeed ms) → Members es (membersBy ls ms)
+  members-good : (ms : List (Member (List ℕ) (List ℕ))) → GoodMembers ms → Each (Has ls) (membersNeed ms) → Members es (membersBy ls ms)
   members-good [] no-more h = G.no-more
   members-good (m ∷ ms) (member n t g) h =
-      G.member n (detail-good (m .type) t (each-left (detailNeeds (m .type)) (membersNeed ms) h))
+      G.member (shortest-name n) (detail-good (m .type) t (each-left (detailNeeds (m .type)) (membersNeed ms) h))
       (members-good ms g (each-right (detailNeeds (m .type)) (membersNeed ms) h))
 
-  pub class-good : (c : Class) → GoodClass c → Each (Has ls) (classNeeds c) → ClassInfo es (c .name) (membersBy ls (c .members))
+  pub class-good : (c : Class) → GoodClass c → Each (Has ls) (classNeeds c) → ClassInfo es (shortest (c .name)) (membersBy ls (c .members))
   class-good c g h =
       let l = length-by ls (c .members) in
       let k = g .counted in
       record {
-        named = g .named;
+        named = shortest-name (g .named);
         counted = omega arith;
         members = members-good (c .members) (g .members) (each-left (membersNeed (c .members)) (fromNeeds (c .from)) h);
       }
@@ -145,7 +146,7 @@ each-append : (P : List ℕ → Type 0) (a b : List (List ℕ)) → Each P a →
 each-append P [] b no-name h = h
 each-append P (n ∷ a) b (a-name p g) h = a-name p (each-append P a b g h)
 
-pub detail-names : (d : Detail (List ℕ)) → GoodType d → Each Name (detailNeeds d)
+pub detail-names : (d : Detail (List ℕ) (List ℕ)) → GoodType d → Each Characters (detailNeeds d)
 detail-names (primitive c) g = no-name
 detail-names text g = no-name
 detail-names object g = no-name
@@ -155,16 +156,16 @@ detail-names objects g = no-name
 detail-names texts g = no-name
 detail-names (primitives c) g = no-name
 
-members-names : (ms : List (Member (List ℕ))) → GoodMembers ms → Each Name (membersNeed ms)
+members-names : (ms : List (Member (List ℕ) (List ℕ))) → GoodMembers ms → Each Characters (membersNeed ms)
 members-names [] no-more = no-name
-members-names (m ∷ ms) (member n t g) = each-append Name (detailNeeds (m .type)) (membersNeed ms) (detail-names (m .type) t) (members-names ms g)
+members-names (m ∷ ms) (member n t g) = each-append Characters (detailNeeds (m .type)) (membersNeed ms) (detail-names (m .type) t) (members-names ms g)
 
-from-names : (x : From) → GoodFrom x → Each Name (fromNeeds x)
+from-names : (x : From) → GoodFrom x → Each Characters (fromNeeds x)
 from-names theSystem g = no-name
 from-names (theLibrary n) (of-library g) = a-name g no-name
 
-pub class-names : (c : Class) → GoodClass c → Each Name (classNeeds c)
-class-names c g = each-append Name (membersNeed (c .members)) (fromNeeds (c .from)) (members-names (c .members) (g .members)) (from-names (c .from) (g .from))
+pub class-names : (c : Class) → GoodClass c → Each Characters (classNeeds c)
+class-names c g = each-append Characters (membersNeed (c .members)) (fromNeeds (c .from)) (members-names (c .members) (g .members)) (from-names (c .from) (g .from))
 
 -- ---- slots of open objects are few
 
@@ -207,9 +208,9 @@ slotsFor aNull = []
 slotsFor (aPrimitiveArray n c vs) = []
 slotsFor (anObjectArray n) = replicate n S.Object
 slotsFor (aStringArray n) = replicate n S.Text
-slotsFor (aValue v) = []
+slotsFor (aValue c v) = []
 
-pub item-slots : (ns : List ℕ) (d : Detail (List ℕ)) → takesRecords (slotFor d) ≡ true → itemSlots ns d ≡ replicate (product ns) (slotFor d)
+pub item-slots : (ns : List ℕ) (d : Detail (List ℕ) (List ℕ)) → takesRecords (slotFor d) ≡ true → itemSlots ns d ≡ replicate (product ns) (slotFor d)
 item-slots ns (primitive c) e = absurd (let z : _≡_ {A = ℕ} 0 1 = cc in omega arith)
 item-slots ns text e = refl
 item-slots ns object e = refl
@@ -234,7 +235,7 @@ few total fs aNull a = omega arith
 few total fs (aPrimitiveArray n c vs) a = omega arith
 few total fs (anObjectArray n) (top-objects a) = let l = length-replicate n S.Object in omega arith
 few total fs (aStringArray n) (top-strings a) = let l = length-replicate n S.Text in omega arith
-few total fs (aValue v) a = omega arith
+few total fs (aValue c v) a = omega arith
 
 small-opened : (count : ℕ) (ts : List SlotType) (fs : List Place) → length ts < 2147483648 → Small (filledOne fs) → Small (openedIn (suc count) ts fs)
 small-opened count ts fs l h = small-shut (place (suc count) 0 ts ∷ filledOne fs) (omega arith, h)
@@ -252,4 +253,4 @@ small-after total count fs x a h = go x (few total fs x a) (small-filled total f
     go (aPrimitiveArray n c vs) l s = small-shut (filledOne fs) s
     go (anObjectArray n) l s = small-opened count (replicate n S.Object) fs l s
     go (aStringArray n) l s = small-opened count (replicate n S.Text) fs l s
-    go (aValue v) l s = small-shut (filledOne fs) s
+    go (aValue c v) l s = small-shut (filledOne fs) s

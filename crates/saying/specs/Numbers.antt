@@ -152,7 +152,7 @@ numbered-what w aNull h = h
 numbered-what w (aPrimitiveArray n c vs) h = numbered-counted w h
 numbered-what w (anObjectArray n) h = numbered-counted w h
 numbered-what w (aStringArray n) h = numbered-counted w h
-numbered-what w (aValue v) h = h
+numbered-what w (aValue c v) h = h
 
 pub numbered-nodes : (w : Progress) (ns : List Node) → Numbered w → Numbered (afterNodes w ns)
 unfolding afterNodes
@@ -198,7 +198,7 @@ later-what w aNull = later-same w w refl refl
 later-what w (aPrimitiveArray n c vs) = later-same w (counted w) refl refl
 later-what w (anObjectArray n) = later-same w (counted w) refl refl
 later-what w (aStringArray n) = later-same w (counted w) refl refl
-later-what w (aValue v) = later-same w w refl refl
+later-what w (aValue c v) = later-same w w refl refl
 
 pub later-nodes : (w : Progress) (ns : List Node) → Later w (afterNodes w ns)
 unfolding afterNodes

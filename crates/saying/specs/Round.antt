@@ -10,9 +10,9 @@ use lib.Dec.{eqb, leb}
 use borrow.Author.Tests.{eqb-true}
 use Rattle.format.specs.declared.SlotType.{SlotType}
 use Rattle.format.specs.Bytes.{pick, sameBytes}
-use Rattle.format.specs.Contents.{Detail, primitive, text, object, system, class, objects, texts, primitives, Member, Rec, null, library}
-use Rattle.format.specs.Says.{From, theSystem, theLibrary, Class, What, anObject, aString, anArray, aPrimitive, aReference, aNull, aPrimitiveArray, anObjectArray, aStringArray, aValue, Node, node, spread}
-use Rattle.format.specs.Tidy.{sameClass, numberIn, Progress, nothing, Libraries, libraryRecords, allEntered, entered, detailNeeds, membersNeed, fromNeeds, classNeeds, detailBy, membersBy, classBy, objectBy, afterObject, recordsOf, afterWhat, runOf}
+use Rattle.format.specs.Contents.{shortest, textsOf, Detail, primitive, text, object, system, class, objects, texts, primitives, Member, Rec, null, library}
+use Rattle.format.specs.Says.{From, theSystem, theLibrary, Class, What, anObject, aString, anArray, aPrimitive, aReference, aNull, aPrimitiveArray, anObjectArray, aStringArray, aValue, Node, node, codeOf, spread}
+use Rattle.format.specs.Tidy.{valuesBy, sameClass, numberIn, Progress, nothing, Libraries, libraryRecords, allEntered, entered, detailNeeds, membersNeed, fromNeeds, classNeeds, detailBy, membersBy, classBy, objectBy, afterObject, recordsOf, afterWhat, runOf}
 use Rattle.fields.specs.Judged.{picked}
 use Rattle.laws.specs.Tests.{class-of}
 use Rattle.laws.specs.Numbers.{afterNodes}
@@ -20,6 +20,7 @@ use Rattle.laws.specs.Runs.{Plain, Sort, a-null, plain, sort-of}
 use Rattle.format.specs.Meant.{named, namedAll, classOfAll}
 use Rattle.saying.specs.Said.{saidBy}
 use Rattle.saying.specs.Good.{Place, place, shutBy, shut, ownerOf, slotOf, filledOne, openedIn, Allowed, in-null, countOf, openAfter, Fits, a-node}
+use Rattle.saying.specs.Prefixes.{text-by, texts-by}
 use Rattle.saying.specs.Numbers.{Each, no-name, a-name, each-left, each-right, each-so, all-have, Numbered, numbered-none, numbered-what, numbered-nodes, Later, later-nodes, nameIn, classIn, name-back, class-back}
 use Rattle.saying.specs.Shown.{Shown, shown, allShown, packed, Wait, wait, noWait, runShown, oneMore, squeezed, saidNodes, saidAll, squeezed-null, squeezed-records}
 
@@ -40,7 +41,7 @@ module _ (name : ℕ → List ℕ) (of : ℕ → Class) (order : ℕ → ℕ) wh
   said-libraries o n (x ∷ names) ls rs = go (eqb (numberIn (sameBytes x) ls) 0) (said-libraries o n names (entered x ls) rs)
     where
       go : (b : Bool) → saidAll name of order (allShown o n (libraryRecords names (entered x ls) ++ rs)) ≡ saidAll name of order (allShown o n rs)
-          → saidAll name of order (allShown o n ((pick b (library (suc (length ls)) x ∷ []) [] ++ libraryRecords names (entered x ls)) ++ rs))
+          → saidAll name of order (allShown o n ((pick b (library (suc (length ls)) (shortest x) ∷ []) [] ++ libraryRecords names (entered x ls)) ++ rs))
           ≡ saidAll name of order (allShown o n rs)
       go true again = again
       go false again = again
@@ -62,7 +63,7 @@ module _ (name : ℕ → List ℕ) (ls : Libraries) where
   abbrev pub Back : List ℕ → Type 0
   Back n = name (numberIn (sameBytes n) ls) ≡ n
 
-  pub detail-back : (d : Detail (List ℕ)) → Each Back (detailNeeds d) → named name (detailBy ls d) ≡ d
+  pub detail-back : (d : Detail (List ℕ) (List ℕ)) → Each Back (detailNeeds d) → named name (detailBy ls d) ≡ d
   detail-back (primitive c) h = refl
   detail-back text h = refl
   detail-back object h = refl
@@ -72,12 +73,12 @@ module _ (name : ℕ → List ℕ) (ls : Libraries) where
   detail-back texts h = refl
   detail-back (primitives c) h = refl
 
-  pub members-back : (ms : List (Member (List ℕ))) → Each Back (membersNeed ms) → namedAll name (membersBy ls ms) ≡ ms
+  pub members-back : (ms : List (Member (List ℕ) (List ℕ))) → Each Back (membersNeed ms) → namedAll name (membersBy ls ms) ≡ ms
   members-back [] h = refl
   members-back (m ∷ ms) h =
       let e = detail-back (m .type) (each-left (detailNeeds (m .type)) (membersNeed ms) h) in
       let f = members-back ms (each-right (detailNeeds (m .type)) (membersNeed ms) h) in
-      ap (λ (d : Detail (List ℕ)). record { name = m .name; type = d } ∷ namedAll name (membersBy ls ms)) e ∙ ap (λ (x : List (Member (List ℕ))). m ∷ x) f
+      ap (λ (d : Detail (List ℕ) (List ℕ)). record { name = m .name; type = d } ∷ namedAll name (membersBy ls ms)) e ∙ ap (λ (x : List (Member (List ℕ) (List ℕ))). m ∷ x) f
 
   pub class-said : (of : ℕ → Class) (order : ℕ → ℕ) (id : ℕ) (c : Class) → Each Back (classNeeds c) → saidBy name of order (classBy ls id c (c .from)) ≡ anObject c ∷ []
   class-said of order id c h = go (c .from) refl (each-right (membersNeed (c .members)) (fromNeeds (c .from)) h)
@@ -118,18 +119,19 @@ module _ (v : Progress) (good : Numbered v) where
   unfolding recordsOf afterWhat spread
   node-said w (anObject c) o n h l = object-said (numberIn (sameClass c) (w .classes)) w c o n refl h l
   node-said w (aString t) o n h l = refl
-  node-said w (anArray type ns d vs) o n h l =
-      let ls : Libraries = allEntered (detailNeeds d) (w .libraries) in
-      let back = each-so (detailNeeds d) (name-back v good (afterWhat w (anArray type ns d vs)) l) (all-have (detailNeeds d) (w .libraries) (h .libraries-rise)) in
-      said-libraries (nameIn v) (classIn v) (λ (k : ℕ). k) o n (detailNeeds d) (w .libraries) _
-      ∙ ap (λ (d : Detail (List ℕ)). node (anArray type ns d vs) o n ∷ []) (detail-back (nameIn v) ls d back)
-  node-said w (aPrimitive c x) o n h l = refl
+  node-said w (anArray type ns item vs) o n h l =
+      let ls : Libraries = allEntered (detailNeeds item) (w .libraries) in
+      let back = each-so (detailNeeds item) (name-back v good (afterWhat w (anArray type ns item vs)) l) (all-have (detailNeeds item) (w .libraries) (h .libraries-rise)) in
+      said-libraries (nameIn v) (classIn v) (λ (k : ℕ). k) o n (detailNeeds item) (w .libraries) _
+      ∙ (ap (λ (d : Detail (List ℕ) (List ℕ)). node (anArray type ns d (textsOf (valuesBy (codeOf item) vs))) o n ∷ []) (detail-back (nameIn v) ls item back)
+      ∙ ap (λ (us : List (List ℕ)). node (anArray type ns item us) o n ∷ []) (texts-by (codeOf item) vs))
+  node-said w (aPrimitive c x) o n h l = ap (λ (y : List ℕ). node (aPrimitive c y) o n ∷ []) (text-by c x)
   node-said w (aReference k) o n h l = refl
   node-said w aNull o n h l = refl
-  node-said w (aPrimitiveArray k c vs) o n h l = refl
+  node-said w (aPrimitiveArray k c vs) o n h l = ap (λ (us : List (List ℕ)). node (aPrimitiveArray k c us) o n ∷ []) (texts-by c vs)
   node-said w (anObjectArray k) o n h l = refl
   node-said w (aStringArray k) o n h l = refl
-  node-said w (aValue x) o n h l = refl
+  node-said w (aValue c x) o n h l = ap (λ (y : List ℕ). node (aValue c y) o n ∷ []) (text-by c x)
 
 -- ---- owners of open objects
 
@@ -172,7 +174,7 @@ under-after count fs aNull h = under-next count 0 fs h
 under-after count fs (aPrimitiveArray n c vs) h = under-next count 1 fs h
 under-after count fs (anObjectArray n) h = under-opened count _ fs h
 under-after count fs (aStringArray n) h = under-opened count _ fs h
-under-after count fs (aValue v) h = under-next count 0 fs h
+under-after count fs (aValue c v) h = under-next count 0 fs h
 
 -- the innermost is below, and if its order is 0 there is none
 pub owner-below : (b : ℕ) (fs : List Place) → Under b fs → ownerOf fs < b

@@ -21,13 +21,13 @@ own-contents (system-class a b c) = (b .named, own-members (b .members))
 own-contents (library-class {l = l} a b c d) = (b .named, own-members (b .members), positive-bits l (c .sign))
 own-contents (a-string a b) = b
 own-contents (an-array a b) = own-array b
-own-contents (a-primitive a) = tt
+own-contents (a-primitive a) = a
 own-contents (a-reference a b) = tt
 own-contents a-null = tt
 own-contents (some-nulls a b) = tt
 own-contents (many-nulls a) = tt
 own-contents (a-library a b c) = c
-own-contents (a-value a) = tt
+own-contents (a-value a) = a
 
 -- nulls by the count in the row
 module _ (name : ℕ → List ℕ) (of : ℕ → Class) (order : ℕ → ℕ) (o n k : ℕ) where
@@ -49,7 +49,7 @@ module _ (name : ℕ → List ℕ) (of : ℕ → Class) (order : ℕ → ℕ) (o
   said-row (primitiveArray i m b vs) c = refl
   said-row (objectArray i m) c = refl
   said-row (stringArray i m) c = refl
-  said-row (value v) c = refl
+  said-row (value b v) c = refl
 
 pub row-said : (s : List ℕ) (rows : List Row) (w : Row) (of : ℕ → Class) (order : ℕ → ℕ) (q : List ℕ) (at : ℕ) (r : Rec) → drop at s ≡ enc r ++ q → RowOf r at w
     → GoodRec r → LinkIs s rows of order r w → nodesOf s rows w ≡ saidNodes (libraryName s rows) of order (shown r (orderOf rows (w .owner)) (w .slot))

@@ -13,9 +13,9 @@ use Rattle.format.specs.declared.SlotType.the-variants as S
 use Rattle.format.specs.declared.Row.{Row}
 use Rattle.format.specs.Bytes.{pick}
 use Rattle.format.specs.Rows.{blank, isObject, findFrom, objectRow, withLink, linkOf, linked}
-use Rattle.format.specs.Contents.{Detail, primitive, text, object, system, class, objects, texts, primitives, Member, slotFor, Rec, header, classById, systemClass, libraryClass, string, typedPrimitive, reference, null, nulls, manyNulls, end, library, value, enc, encs}
-use Rattle.format.specs.Grammar.{Name, Values, ClassInfo, LibraryId, typesOf, classed, classOf, product, Array, of-objects, of-strings, of-primitives, of-any, of-values, Object, system-class, library-class, class-by-id, Body, hollow, filled, Slots, full, member-value, an-object, a-string, a-typed-primitive, a-reference, a-null, a-run, a-long-run, a-library, Objects, the-end, one-object, one-string, one-array, one-library, Entry, aClass, another, aLibrary, known, Cur, cur, size, rowOf, refOf, refsOf, idsOf, among, Reading, takesRecords, allTake}
-use Rattle.format.specs.Says.{theSystem, theLibrary, Class, What, anObject, aString, anArray, aPrimitive, aReference, aNull, aPrimitiveArray, anObjectArray, aStringArray, aValue, Node, node, libraryName, classFrom, objectsIn, orderOf, spread, isNulls, nodesOf, nodesFrom, says}
+use Rattle.format.specs.Contents.{Prefixed, textsOf, Detail, primitive, text, object, system, class, objects, texts, primitives, Member, slotFor, Rec, header, classById, systemClass, libraryClass, string, typedPrimitive, reference, null, nulls, manyNulls, end, library, value, enc, encs}
+use Rattle.format.specs.Grammar.{Characters, Name, Value, Values, ClassInfo, LibraryId, typesOf, classed, classOf, product, Array, of-objects, of-strings, of-primitives, of-any, of-values, Object, system-class, library-class, class-by-id, Body, hollow, filled, Slots, full, member-value, an-object, a-string, a-typed-primitive, a-reference, a-null, a-run, a-long-run, a-library, Objects, the-end, one-object, one-string, one-array, one-library, Entry, aClass, another, aLibrary, known, Cur, cur, size, rowOf, refOf, refsOf, idsOf, among, Reading, takesRecords, allTake}
+use Rattle.format.specs.Says.{theSystem, theLibrary, Class, What, anObject, aString, anArray, aPrimitive, aReference, aNull, aPrimitiveArray, anObjectArray, aStringArray, aValue, Node, node, libraryName, classFrom, objectsIn, orderOf, spread, isNulls, codeIn, classRowOf, nodesOf, nodesFrom, says}
 use Rattle.laws.specs.Fields.{size-header, positive-bits}
 use Rattle.laws.specs.Ids.{among-right, shown-more, objects-shown, id-there}
 use Rattle.laws.specs.Links.{rows-are}
@@ -23,7 +23,9 @@ use Rattle.format.specs.Meant.{named, classOfAll}
 use Rattle.saying.specs.Said.{saidBy}
 use Rattle.saying.specs.Good.{length-filled, GoodClass, slotsOf, Place, place, shut, ownerOf, slotOf, filledOne, openedIn, Deep, never-open, one-more, Allowed, in-null, countOf, itemSlots, openAfter, Fits, a-node, Good}
 use Rattle.saying.specs.Good as G
-use Rattle.saying.specs.There.{rest-there, own-detail, system-class-from, library-class-from, kindOf, CountIs, row-of, row-linked, GoodRec, LinkIs, inSlot, run, library-said, nodes-there, slot-same, slots-same, own-members}
+use Rattle.saying.specs.There.{rest-there, own-detail, system-class-from, library-class-from, kindOf, CountIs, row-of, row-linked, GoodRec, no-items, LinkIs, inSlot, run, library-said, nodes-there, slot-same, slots-same, own-members}
+use Rattle.saying.specs.Prefixes.{contents-of}
+use Rattle.saying.specs.Codes.{ownerClass, Codes, value-code, class-codes, row-class, run-codes, array-codes}
 use Rattle.saying.specs.Order.{item-there, items-after, order-more, order-end, nodes-more, Ordered, target-ordered}
 use Rattle.saying.specs.Known.{classAt, no-entry, Knows, library-known, class-known, type-good, class-good, knows-same, knows-another, knows-class, knows-library}
 
@@ -150,12 +152,19 @@ module _ (s : List ℕ) (raw : List Row) where
         subst (Fits total (orderOf table row) fs) (sym (nodes-are w ∙ ap (λ (l : List Node). l ++ ns) (nodes-said p c g n w t)))
         (a-node (t .allowed) refl refl u)
 
+    -- what follows may use where the record stands
+    record-opens : {at₁ : ℕ} {it : Row} {fs gs : List Place} → it ≡ rowFor at r id own slot link count → Stands fs own slot → CountIs r count → GoodRec r
+        → isNulls (kindOf r) ≡ false → at₁ ≡ at + size r
+        → (At at row es (r ∷ rs) (rowFor at r id own slot link count ∷ is) → Step fs gs row r (rowFor at r id own slot link count) es₁)
+        → (At at row es (r ∷ rs) (rowFor at r id own slot link count ∷ is) → Ok gs at₁ (suc row) es₁ rs is) → Ok fs at row es (r ∷ rs) (it ∷ is)
+    record-opens {fs = fs} q p c g n e t k =
+        subst (λ (x : Row). Ok fs at row es (r ∷ rs) (x ∷ is)) (sym q) (record { leads = λ w. record-fits p c g n e w (t w) (k w) })
+
     record-ok : {at₁ : ℕ} {it : Row} {fs gs : List Place} → it ≡ rowFor at r id own slot link count → Stands fs own slot → CountIs r count → GoodRec r
         → isNulls (kindOf r) ≡ false → at₁ ≡ at + size r
         → (At at row es (r ∷ rs) (rowFor at r id own slot link count ∷ is) → Step fs gs row r (rowFor at r id own slot link count) es₁)
         → Ok gs at₁ (suc row) es₁ rs is → Ok fs at row es (r ∷ rs) (it ∷ is)
-    record-ok {fs = fs} q p c g n e t k =
-        subst (λ (x : Row). Ok fs at row es (r ∷ rs) (x ∷ is)) (sym q) (record { leads = λ w. record-fits p c g n e w (t w) k })
+    record-ok q p c g n e t k = record-opens q p c g n e t (λ w. k)
 
   -- ---- what a record leaves known
 
@@ -175,6 +184,10 @@ module _ (s : List ℕ) (raw : List Row) where
         ∙ (ap (classFrom s table) (item-there table (map withOwn is) (withOwn x) row (w .rows-there) blank) ∙ e) in
         knows-class s table (map withOwn is) (withOwn x) row (w .rows-there) i (suc row) ts n
         (record { good = subst GoodClass (sym a) g; slots = ap (λ (d : Class). slotsOf (d .members)) a ∙ h }) (w .knows)
+
+    -- an object of this class has the codes of its slots
+    row-codes : (c : Class) (ts : List SlotType) → classFrom s table (classRowOf table (withOwn x)) ≡ c → slotsOf (c .members) ≡ ts → Codes s table (suc row) 0 ts
+    row-codes c ts e f = class-codes s table (suc row) c ts (row-class s table (map withOwn is) (withOwn x) row (w .rows-there) ∙ e) f
 
     -- the order of an object
     order-next : isObject (x .kind) ≡ true → suc (orderOf table row) ≡ orderOf table (suc row)
@@ -205,24 +218,25 @@ module _ (s : List ℕ) (raw : List Row) where
   slot-stands = record { owner-is = refl; slot-is = refl }
 
   module _ {at row own slot : ℕ} {es : List Entry} {rs : List Rec} {it : Row} {is : List Row} {fs : List Place} (p : Stands fs own slot) where
-    string-ok : {i : ℕ} {x : List ℕ} → Allowed total fs (aString x) → Name x → it ≡ rowOf 6 at (string i x) i own slot 0 0
+    string-ok : {i : ℕ} {x : Prefixed} → Allowed total fs (aString (x .text)) → Name x → it ≡ rowOf 6 at (string i x) i own slot 0 0
         → Ok (shut (filledOne fs)) (at + size (string i x)) (suc row) (es ++ (another i ∷ [])) rs is → Ok fs at row es (string i x ∷ rs) (it ∷ is)
     string-ok {i} {x} a n q k =
         record-ok i own slot 0 0 q p tt n refl refl
-        (λ w. plain-step (aString x) tt refl refl refl a (known-another w i refl)) k
+        (λ w. plain-step (aString (x .text)) tt refl refl refl a (known-another w i refl)) k
 
-    value-ok : {v : List ℕ} → Allowed total fs (aValue v) → it ≡ rowOf 32 at (value v) 0 own slot 0 0
-        → Ok (shut (filledOne fs)) (at + length v) (suc row) es rs is → Ok fs at row es (value v ∷ rs) (it ∷ is)
-    unfolding enc
-    value-ok {v} a q k =
-        record-ok 0 own slot 0 0 q p tt tt refl refl
-        (λ w. plain-step (aValue v) tt refl refl refl a (known-same w refl)) k
+    -- of the code that its owner's class has for its slot
+    value-ok : {b : PrimitiveCode} {v : Prefixed} → Allowed total fs (aValue b (v .text)) → Value b v → codeIn (ownerClass s table own .members) slot ≡ b
+        → it ≡ rowOf 32 at (value b v) 0 own slot 0 0
+        → Ok (shut (filledOne fs)) (at + size (value b v)) (suc row) es rs is → Ok fs at row es (value b v ∷ rs) (it ∷ is)
+    value-ok {b} {v} a g e q k =
+        record-ok 0 own slot 0 0 q p tt g refl refl
+        (λ w. plain-step (aValue b (v .text)) (value-code s table (withOwn (rowOf 32 at (value b v) 0 own slot 0 0)) b e) refl refl refl a (known-same w refl)) k
 
-    typed-primitive-ok : {b : PrimitiveCode} {v : List ℕ} → Allowed total fs (aPrimitive b v) → it ≡ rowOf 8 at (typedPrimitive b v) 0 own slot 0 0
+    typed-primitive-ok : {b : PrimitiveCode} {v : Prefixed} → Allowed total fs (aPrimitive b (v .text)) → Value b v → it ≡ rowOf 8 at (typedPrimitive b v) 0 own slot 0 0
         → Ok (shut (filledOne fs)) (at + size (typedPrimitive b v)) (suc row) es rs is → Ok fs at row es (typedPrimitive b v ∷ rs) (it ∷ is)
-    typed-primitive-ok {b} {v} a q k =
-        record-ok 0 own slot 0 0 q p tt tt refl refl
-        (λ w. plain-step (aPrimitive b v) tt refl refl refl a (known-same w refl)) k
+    typed-primitive-ok {b} {v} a g q k =
+        record-ok 0 own slot 0 0 q p tt g refl refl
+        (λ w. plain-step (aPrimitive b (v .text)) tt refl refl refl a (known-same w refl)) k
 
     reference-ok : {i : ℕ} → ((k : ℕ) → Ordered total k → Allowed total fs (aReference k)) → it ≡ rowOf 9 at (reference i) i own slot 0 0
         → Ok (shut (filledOne fs)) (at + size (reference i)) (suc row) es rs is → Ok fs at row es (reference i ∷ rs) (it ∷ is)
@@ -253,7 +267,7 @@ module _ (s : List ℕ) (raw : List Row) where
       (subst (λ (n : ℕ). Fits total n fs (ns ++ nodesFrom s table (drop (suc row) table))) (order-same w o) f)
 
   module _ {at row : ℕ} {es : List Entry} {rs : List Rec} {it : Row} {is : List Row} where
-    library-ok : {i : ℕ} {n : List ℕ} {fs : List Place} → known i es ≡ false → Name n → it ≡ rowOf 12 at (library i n) i 0 0 0 0
+    library-ok : {i : ℕ} {n : Prefixed} {fs : List Place} → known i es ≡ false → Name n → it ≡ rowOf 12 at (library i n) i 0 0 0 0
         → Ok fs (at + size (library i n)) (suc row) (es ++ (aLibrary i ∷ [])) rs is → Ok fs at row es (library i n ∷ rs) (it ∷ is)
     library-ok {i} {n} {fs} f g q k = subst (λ (x : Row). Ok fs at row es (library i n ∷ rs) (x ∷ is)) (sym q) (record { leads = leads })
       where
@@ -265,7 +279,7 @@ module _ (s : List ℕ) (raw : List Row) where
             let y = withOwn x in
             let h = row-linked (linkOf raw x) (row-of (library i n) at i 0 0 0 0 tt) in
             let e = nodes-there s table y (classAt s table) (orderOf table) (encs rs) at (library i n) (first-bytes w) h g tt in
-            let m = subst Name (sym (library-said s table y at (encs rs) i n g (first-bytes w) refl)) g in
+            let m = subst Characters (sym (library-said s table y at (encs rs) i n g (first-bytes w) refl)) (g .characters) in
             let u = knows-library s table (map withOwn is) y row (w .rows-there) i refl refl f (w .knows) m in
             fits-same [] w refl e (k .leads (after w refl u))
 
@@ -341,64 +355,75 @@ module _ (s : List ℕ) (raw : List Row) where
       }
 
   module _ {at row own slot : ℕ} {es : List Entry} {rs : List Rec} {it : Row} {is : List Row} {fs : List Place} (p : Stands fs own slot) (a : Takes fs) where
-    system-class-ok : {i : ℕ} {n : List ℕ} {ms : List (Member ℕ)} → ClassInfo es n ms → it ≡ rowOf 4 at (systemClass i n ms) i own slot 0 (length ms)
+    system-class-ok : {i : ℕ} {n : Prefixed} {ms : List (Member Prefixed ℕ)} → ClassInfo es n ms → it ≡ rowOf 4 at (systemClass i n ms) i own slot 0 (length ms)
         → Deep (typesOf ms) fs
-        → Ok (openedIn (orderOf table (suc row)) (typesOf ms) fs) (at + size (systemClass i n ms)) (suc row) (es ++ (aClass i (suc row) (typesOf ms) ∷ [])) rs is
+        → (Codes s table (suc row) 0 (typesOf ms)
+        → Ok (openedIn (orderOf table (suc row)) (typesOf ms) fs) (at + size (systemClass i n ms)) (suc row) (es ++ (aClass i (suc row) (typesOf ms) ∷ [])) rs is)
         → Ok fs at row es (systemClass i n ms ∷ rs) (it ∷ is)
     system-class-ok {i} {n} {ms} g q d k =
-        record-ok i own slot 0 (length ms) q p refl (g .named, own-members (g .members)) refl refl step k
+        record-opens i own slot 0 (length ms) q p refl (g .named, own-members (g .members)) refl refl step
+        (λ w. k (row-codes w c (typesOf ms) (from w) (slots-same (libraryName s table) ms)))
       where
         x : Row
         x = rowOf 4 at (systemClass i n ms) i own slot 0 (length ms)
 
         c : Class
-        c = classOfAll (libraryName s table) n theSystem ms
+        c = classOfAll (libraryName s table) (n .text) theSystem ms
+
+        from : At at row es (systemClass i n ms ∷ rs) (x ∷ is) → classFrom s table (withOwn x) ≡ c
+        from w =
+            let h = row-linked (linkOf raw x) (row-of (systemClass i n ms) at i own slot 0 (length ms) refl) in
+            system-class-from s table (withOwn x) at (encs rs) i n ms (g .named) (own-members (g .members)) (first-bytes w) h
 
         step : At at row es (systemClass i n ms ∷ rs) (x ∷ is)
             → Step fs (openedIn (orderOf table (suc row)) (typesOf ms) fs) row (systemClass i n ms) x (es ++ (aClass i (suc row) (typesOf ms) ∷ []))
         step w =
-            let h = row-linked (linkOf raw x) (row-of (systemClass i n ms) at i own slot 0 (length ms) refl) in
-            let e = system-class-from s table (withOwn x) at (encs rs) i n ms (g .named) (own-members (g .members)) (first-bytes w) h in
             let u = class-good s table es (w .knows .good) n theSystem ms g G.of-system in
             let v = slots-same (libraryName s table) ms in
-            class-step c w refl refl a d u v tt refl (known-class w i (typesOf ms) c refl e u v)
+            class-step c w refl refl a d u v tt refl (known-class w i (typesOf ms) c refl (from w) u v)
 
-    library-class-ok : {i l : ℕ} {n : List ℕ} {ms : List (Member ℕ)} → ClassInfo es n ms → LibraryId l es
+    library-class-ok : {i l : ℕ} {n : Prefixed} {ms : List (Member Prefixed ℕ)} → ClassInfo es n ms → LibraryId l es
         → it ≡ rowOf 5 at (libraryClass i n ms l) i own slot 0 (length ms) → Deep (typesOf ms) fs
-        → Ok (openedIn (orderOf table (suc row)) (typesOf ms) fs) (at + size (libraryClass i n ms l)) (suc row) (es ++ (aClass i (suc row) (typesOf ms) ∷ [])) rs is
+        → (Codes s table (suc row) 0 (typesOf ms)
+        → Ok (openedIn (orderOf table (suc row)) (typesOf ms) fs) (at + size (libraryClass i n ms l)) (suc row) (es ++ (aClass i (suc row) (typesOf ms) ∷ [])) rs is)
         → Ok fs at row es (libraryClass i n ms l ∷ rs) (it ∷ is)
     library-class-ok {i} {l} {n} {ms} g y q d k =
-        record-ok i own slot 0 (length ms) q p refl (g .named, own-members (g .members), positive-bits l (y .sign)) refl refl step k
+        record-opens i own slot 0 (length ms) q p refl (g .named, own-members (g .members), positive-bits l (y .sign)) refl refl step
+        (λ w. k (row-codes w c (typesOf ms) (from w) (slots-same (libraryName s table) ms)))
       where
         x : Row
         x = rowOf 5 at (libraryClass i n ms l) i own slot 0 (length ms)
 
         c : Class
-        c = classOfAll (libraryName s table) n (theLibrary (libraryName s table l)) ms
+        c = classOfAll (libraryName s table) (n .text) (theLibrary (libraryName s table l)) ms
+
+        from : At at row es (libraryClass i n ms l ∷ rs) (x ∷ is) → classFrom s table (withOwn x) ≡ c
+        from w =
+            let h = row-linked (linkOf raw x) (row-of (libraryClass i n ms l) at i own slot 0 (length ms) refl) in
+            library-class-from s table (withOwn x) at (encs rs) i n ms (g .named) (own-members (g .members)) l (positive-bits l (y .sign)) (first-bytes w) h
 
         step : At at row es (libraryClass i n ms l ∷ rs) (x ∷ is)
             → Step fs (openedIn (orderOf table (suc row)) (typesOf ms) fs) row (libraryClass i n ms l) x (es ++ (aClass i (suc row) (typesOf ms) ∷ []))
         step w =
-            let h = row-linked (linkOf raw x) (row-of (libraryClass i n ms l) at i own slot 0 (length ms) refl) in
-            let e = library-class-from s table (withOwn x) at (encs rs) i n ms (g .named) (own-members (g .members)) l (positive-bits l (y .sign)) (first-bytes w) h in
             let f = G.of-library (library-known s table l es (w .knows .good) (y .there)) in
             let u = class-good s table es (w .knows .good) n (theLibrary (libraryName s table l)) ms g f in
             let v = slots-same (libraryName s table) ms in
-            class-step c w refl refl a d u v tt refl (known-class w i (typesOf ms) c refl e u v)
+            class-step c w refl refl a d u v tt refl (known-class w i (typesOf ms) c refl (from w) u v)
 
     class-by-id-ok : {i j r : ℕ} {ts : List SlotType} → classOf j es ≡ classed r ts → it ≡ rowOf 1 at (classById i j) i own slot r (length ts) → Deep ts fs
-        → Ok (openedIn (orderOf table (suc row)) ts fs) (at + size (classById i j)) (suc row) (es ++ (another i ∷ [])) rs is
+        → (Codes s table (suc row) 0 ts → Ok (openedIn (orderOf table (suc row)) ts fs) (at + size (classById i j)) (suc row) (es ++ (another i ∷ [])) rs is)
         → Ok fs at row es (classById i j ∷ rs) (it ∷ is)
     unfolding linkOf
     class-by-id-ok {i} {j} {r} {ts} f q d k =
-        record-ok i own slot r (length ts) q p tt tt refl refl
+        record-opens i own slot r (length ts) q p tt tt refl refl
         (λ w.
         let g = class-known s table j r ts es (w .knows .good) f in
-        class-step (classAt s table r) w refl refl a d (g .good) (g .slots) refl refl (known-another w i refl)) k
+        class-step (classAt s table r) w refl refl a d (g .good) (g .slots) refl refl (known-another w i refl))
+        (λ w. k (row-codes w (classAt s table r) ts refl (class-known s table j r ts es (w .knows .good) f .slots)))
 
   -- ---- arrays
 
-  items-are : (name : ℕ → List ℕ) (ns : List ℕ) (d : Detail ℕ) → takesRecords (slotFor d) ≡ true
+  items-are : (name : ℕ → List ℕ) (ns : List ℕ) (d : Detail Prefixed ℕ) → takesRecords (slotFor d) ≡ true
       → itemSlots ns (named name d) ≡ replicate (product ns) (slotFor d)
   items-are name ns (primitive c) e = absurd (let z : _≡_ {A = ℕ} 0 1 = cc in omega arith)
   items-are name ns text e = refl
@@ -420,18 +445,18 @@ module _ (s : List ℕ) (raw : List Row) where
         record-ok i 0 0 0 n q top-stands refl tt refl refl
         (λ w. plain-step (aStringArray n) tt refl refl (opened [] {ts = replicate n S.Text} (order-next w refl) refl) (G.top-strings h) (known-another w i refl)) k
     array-ok {i = i} {n = n} (of-primitives {b = b} {vs = vs} h g) q k =
-        record-ok i 0 0 0 n q top-stands refl tt refl refl
-        (λ w. plain-step (aPrimitiveArray n b vs) tt refl refl refl (G.top-primitives h g) (known-another w i refl)) k
+        record-ok i 0 0 0 n q top-stands refl g refl refl
+        (λ w. plain-step (aPrimitiveArray n b (textsOf vs)) tt refl refl refl (G.top-primitives h (contents-of g)) (known-another w i refl)) k
     array-ok {i = i} {n = n} (of-any {type = type} {ns = ns} {d = d} g e h f z) q k =
         let name = libraryName s table in
         let u : itemSlots ns (named name d) ≡ replicate n (slotFor d) = items-are name ns d f ∙ ap (λ (m : ℕ). replicate m (slotFor d)) (sym e) in
-        record-ok i 0 0 0 n q top-stands tt (g, own-detail es d h) refl refl
+        record-ok i 0 0 0 n q top-stands e (g, own-detail es d h, no-items d (product ns) f) refl refl
         (λ w. plain-step (anArray type ns (named name d) []) tt refl refl (opened [] (order-next w refl) (u ∙ sym z))
         (G.top-array g (type-good s table es (w .knows .good) d h) (ap takesRecords (slot-same name d) ∙ f)) (known-another w i refl)) k
     array-ok {i = i} {n = n} (of-values {type = type} {ns = ns} {b = b} {vs = vs} g e h) q k =
-        record-ok i 0 0 0 n q top-stands tt (g, tt) refl refl
-        (λ w. plain-step (anArray type ns (primitive b) vs) tt refl refl refl
-        (G.top-values g (subst (λ (m : ℕ). Values b m vs) e h)) (known-another w i refl)) k
+        let v = subst (λ (m : ℕ). Values b m vs) e h in
+        record-ok i 0 0 0 n q top-stands e (g, tt, v) refl refl
+        (λ w. plain-step (anArray type ns (primitive b) (textsOf vs)) tt refl refl refl (G.top-values g (contents-of v)) (known-another w i refl)) k
 
   -- ---- along a derivation
 
@@ -453,40 +478,40 @@ module _ (s : List ℕ) (raw : List Row) where
 
     object-ok : {room own slot : ℕ} {c c₁ : Cur} (fs : List Place) → Object room own slot c c₁ → Stands fs own slot → Takes fs → room + length fs ≡ 64
         → OkIn (shut (filledOne fs)) c₁ → OkIn fs c
-    object-ok fs (system-class a b q d) p t h k = system-class-ok p t b q (body-deep fs d h) (body-ok fs d h k)
-    object-ok fs (library-class a b l q d) p t h k = library-class-ok p t b l q (body-deep fs d h) (body-ok fs d h k)
-    object-ok fs (class-by-id a b f q d) p t h k = class-by-id-ok p t f q (body-deep fs d h) (body-ok fs d h k)
+    object-ok fs (system-class a b q d) p t h k = system-class-ok p t b q (body-deep fs d h) (λ g. body-ok fs d h g k)
+    object-ok fs (library-class a b l q d) p t h k = library-class-ok p t b l q (body-deep fs d h) (λ g. body-ok fs d h g k)
+    object-ok fs (class-by-id a b f q d) p t h k = class-by-id-ok p t f q (body-deep fs d h) (λ g. body-ok fs d h g k)
 
     body-ok : {room row : ℕ} {ts : List SlotType} {c c₁ : Cur} (fs : List Place) → Body room row ts c c₁ → room + length fs ≡ 64
-        → OkIn (shut (filledOne fs)) c₁ → OkIn (openedIn (orderOf table row) ts fs) c
-    body-ok fs hollow h k = k
-    body-ok fs (filled d) h k =
+        → Codes s table row 0 ts → OkIn (shut (filledOne fs)) c₁ → OkIn (openedIn (orderOf table row) ts fs) c
+    body-ok fs hollow h g k = k
+    body-ok fs (filled d) h g k =
         let l : length (filledOne fs) ≡ length fs = length-filled fs in
-        slots-ok (filledOne fs) d (omega arith) k
+        slots-ok (filledOne fs) d (omega arith) g k
 
     slots-ok : {room own slot : ℕ} {ts : List SlotType} {c c₁ : Cur} (fs : List Place) → Slots room own slot ts c c₁ → room + length fs ≡ 63
-        → OkIn (shut fs) c₁ → OkIn (shut (place (orderOf table own) slot ts ∷ fs)) c
-    slots-ok fs full h k = k
-    slots-ok fs (member-value a q d) h k = value-ok slot-stands (G.in-value a) q (slots-ok fs d h k)
-    slots-ok fs (an-object {own = own} {slot = slot} {t = t} {ts = ts} o a d) h k =
-        object-ok (place (orderOf table own) slot (t ∷ ts) ∷ fs) a slot-stands (λ c g e. G.in-object o g e) (omega arith) (slots-ok fs d h k)
-    slots-ok fs (a-string t a b q d) h k = string-ok slot-stands (G.in-string t b) b q (slots-ok fs d h k)
-    slots-ok fs (a-typed-primitive t a q d) h k = typed-primitive-ok slot-stands (G.in-primitive t a) q (slots-ok fs d h k)
-    slots-ok fs (a-reference t a q d) h k = reference-ok slot-stands (λ k o. G.in-reference t (o .some) (o .inside)) q (slots-ok fs d h k)
-    slots-ok fs (a-null {t = t} {ts = ts} e q d) h k =
-        nulls-ok (t ∷ ts) fs null 1 refl refl refl refl tt tt (null-end _) (omega arith) (rw e) refl q (slots-ok fs d h k)
-    slots-ok fs (a-run {k = n} {t = t} {ts = ts} e a b f u q d) h k =
-        nulls-ok (t ∷ ts) fs (nulls n) n refl refl refl refl tt tt (nulls-end _ n) b f u q (slots-ok fs d h k)
-    slots-ok fs (a-long-run {k = n} {t = t} {ts = ts} e a b f u q d) h k =
-        nulls-ok (t ∷ ts) fs (manyNulls n) n refl refl refl refl tt tt refl b f u q (slots-ok fs d h k)
-    slots-ok fs (a-library t a b n q d) h k = library-ok b n q (slots-ok fs d h k)
+        → Codes s table own slot ts → OkIn (shut fs) c₁ → OkIn (shut (place (orderOf table own) slot ts ∷ fs)) c
+    slots-ok fs full h g k = k
+    slots-ok fs (member-value a q d) h g k = value-ok slot-stands (G.in-value (a .content)) a (g .0) q (slots-ok fs d h (g .1) k)
+    slots-ok fs (an-object {own = own} {slot = slot} {t = t} {ts = ts} o a d) h g k =
+        object-ok (place (orderOf table own) slot (t ∷ ts) ∷ fs) a slot-stands (λ c g e. G.in-object o g e) (omega arith) (slots-ok fs d h (g .1) k)
+    slots-ok fs (a-string t a b q d) h g k = string-ok slot-stands (G.in-string t (b .characters)) b q (slots-ok fs d h (g .1) k)
+    slots-ok fs (a-typed-primitive t a q d) h g k = typed-primitive-ok slot-stands (G.in-primitive t (a .content)) a q (slots-ok fs d h (g .1) k)
+    slots-ok fs (a-reference t a q d) h g k = reference-ok slot-stands (λ k o. G.in-reference t (o .some) (o .inside)) q (slots-ok fs d h (g .1) k)
+    slots-ok fs (a-null {t = t} {ts = ts} e q d) h g k =
+        nulls-ok (t ∷ ts) fs null 1 refl refl refl refl tt tt (null-end _) (omega arith) (rw e) refl q (slots-ok fs d h (g .1) k)
+    slots-ok fs (a-run {own = own} {slot = slot} {k = n} {t = t} {ts = ts} e a b f u q d) h g k =
+        nulls-ok (t ∷ ts) fs (nulls n) n refl refl refl refl tt tt (nulls-end _ n) b f u q (slots-ok fs d h (run-codes s table own slot n (t ∷ ts) u g) k)
+    slots-ok fs (a-long-run {own = own} {slot = slot} {k = n} {t = t} {ts = ts} e a b f u q d) h g k =
+        nulls-ok (t ∷ ts) fs (manyNulls n) n refl refl refl refl tt tt refl b f u q (slots-ok fs d h (run-codes s table own slot n (t ∷ ts) u g) k)
+    slots-ok fs (a-library t a b n q d) h g k = library-ok b n q (slots-ok fs d h g k)
 
   objects-ok : {c : Cur} → Objects c → OkIn [] c
   unfolding shut
   objects-ok (the-end q) = end-ok q refl
   objects-ok (one-object a d) = object-ok [] a top-stands (λ c g e. G.top-object g) refl (objects-ok d)
-  objects-ok (one-string a b q d) = string-ok top-stands (G.top-string b) b q (objects-ok d)
-  objects-ok (one-array a b q d f) = array-ok b q (body-ok [] d refl (objects-ok f))
+  objects-ok (one-string a b q d) = string-ok top-stands (G.top-string (b .characters)) b q (objects-ok d)
+  objects-ok (one-array a b q d f) = array-ok b q (body-ok [] d refl (array-codes s table _ b) (objects-ok f))
   objects-ok (one-library a b n q d) = library-ok b n q (objects-ok d)
 
 -- ---- the whole stream

@@ -1,37 +1,40 @@
 -- A record that stands at a place says, by format's Says, what it says by itself: its fields, the details of its types, its members, and the
 -- record of each kind. Its bytes are those of the encoder, and nothing is asked of the stream after them.
-use Prim.Native.Nat.{ℕ, suc, _+_, _-_, _*_, _<_}
-use mathlib.Core.Path.{_≡_, refl, sym, ap, _∙_}
+use Prim.Native.Nat.{ℕ, suc, _+_, _-_, _*_, _≤_, _<_}
+use mathlib.Core.Path.{_≡_, refl, sym, ap, subst, _∙_}
+use mathlib.Core.Bool.{true}
 use mathlib.Core.List.{List, [], _∷_, _++_, map, append-assoc}
 use native.Mathlib.Omega.{arith}
-use lib.ListN.{length, getD, drop, length-append}
+use lib.ListN.{length, getD, drop, length-drop, length-append}
 use lib.Dec.{eqb}
-use lib.Seq.{drop-drop, take-at, drop-at}
+use lib.Seq.{drop-drop, take-at, drop-at, getD-drop}
+use borrow.Author.Tests.{lt-ltb, le-leb, ne-eqb}
 use Rattle.format.specs.declared.PrimitiveCode.{PrimitiveCode}
 use Rattle.format.specs.declared.Coded.the-variants as D
-use Rattle.format.specs.declared.Text.the-variants as T
-use Rattle.format.specs.declared.Field.the-variants as F
+use Rattle.format.specs.declared.Setting.{Setting}
+use Rattle.format.specs.declared.Setting.the-variants as Q
+use Rattle.format.specs.declared.Span.{Span}
 use Rattle.format.specs.declared.SlotType.{SlotType}
 use Rattle.format.specs.declared.Row.{Row}
 use Rattle.format.specs.Bytes.{pick, part}
 use Rattle.format.specs.Numbers.{leBytes}
-use Rattle.format.specs.Prefix.{prefixBytes}
-use Rattle.format.specs.Text.{stringAt, stringBytes}
-use Rattle.format.specs.Types.{codeNumber, primitiveOf, codeAt, nameAt, infoAt, afterText, afterInfo}
-use Rattle.format.specs.Values.{times}
+use Rattle.format.specs.Prefix.{prefixOf}
+use Rattle.format.specs.Text.{needOf, spanAt}
+use Rattle.format.specs.Types.{codeNumber, primitiveOf, past, afterText, afterNumber, afterInfo}
+use Rattle.format.specs.Values.{sizeFrom, valueSpan}
 use Rattle.format.specs.Rows.{blank, withLink}
-use Rattle.format.specs.Contents.{Detail, primitive, text, object, system, class, objects, texts, primitives, Member, Rec, header, classById, systemClass, libraryClass, string, array, typedPrimitive, reference, null, nulls, manyNulls, end, library, primitiveArray, objectArray, stringArray, value, typeByte, infoBytes, slotFor, namesBytes, typesBytes, infosBytes, classBytes, numbersBytes, enc}
-use Rattle.format.specs.Says.{From, theSystem, theLibrary, Class, What, anObject, aString, anArray, aPrimitive, aReference, aPrimitiveArray, anObjectArray, aStringArray, aValue, Node, node, textFrom, numberFrom, codeFrom, numbersFrom, libraryName, detailFrom, membersFrom, classFrom, arrayFrom, orderOf, whatFrom, spread, isNulls, isSilent, nodesOf}
-use Rattle.format.specs.Grammar.{Positive, Name, GoodDetail, Members, no-more, member, Entry, typesOf, Lengths, no-length, length-of, Ranked, single, jagged, rectangular, Shape, rowOf, Array, of-objects, of-strings, of-primitives, of-any, of-values}
+use Rattle.format.specs.Contents.{Prefixed, hasPrefix, bytesIn, textsOf, itemsBytes, Detail, primitive, text, object, system, class, objects, texts, primitives, Member, Rec, header, classById, systemClass, libraryClass, string, array, typedPrimitive, reference, null, nulls, manyNulls, end, library, primitiveArray, objectArray, stringArray, value, typeByte, infoBytes, slotFor, namesBytes, typesBytes, infosBytes, classBytes, numbersBytes, enc}
+use Rattle.format.specs.Unicode.{Scalar, encode}
+use Rattle.format.specs.Says.{From, theSystem, theLibrary, Class, What, anObject, aString, anArray, aPrimitive, aReference, aPrimitiveArray, anObjectArray, aStringArray, aValue, Node, node, textFrom, afterTexts, numberFrom, codeFrom, contentFrom, itemsFrom, numbersFrom, libraryName, detailFrom, membersFrom, classFrom, valueCode, arrayFrom, orderOf, whatFrom, spread, isNulls, isSilent, nodesOf}
+use Rattle.format.specs.Grammar.{Positive, Width, Name, Sized, a-byte, an-sbyte, an-int16, a-uint16, an-int32, a-uint32, a-single, an-int64, a-uint64, a-double, a-time-span, Content, number, boolean, scalar, exact, moment, PrefixIf, Value, Values, none, more, product, takesRecords, GoodDetail, Members, no-more, member, Entry, typesOf, Lengths, no-length, length-of, Ranked, single, jagged, rectangular, Shape, rowOf, Array, of-objects, of-strings, of-primitives, of-any, of-values}
 use Rattle.num.specs.Le.{length-leBytes}
-use Rattle.num.specs.Read.{says-written, u32-written}
-use Rattle.strings.specs.Laws.{string-round}
+use Rattle.num.specs.Read.{says-written}
+use Rattle.prefix.specs.Widths.{length-prefixOf, width-written}
+use Rattle.spans.specs.Spans.{span-there}
 use Rattle.codes.specs.Codes.{primitive-number}
-use Rattle.spans.specs.Judged.{string-after, string-text, names-after, info-after}
-use Rattle.codes.specs.Ends.{code-end, name-end, library-end}
-use Rattle.format.specs.Own.{positive-exactly}
 use Rattle.laws.specs.Fields.{positive-bits, length-numbers-bytes}
-use Rattle.utf8.specs.Exactly.{utf8-exactly}
+use Rattle.laws.specs.Tests.{apart}
+use Rattle.utf8.specs.Widths.{width-told}
 use Rattle.format.specs.Meant.{named, namedAll, classOfAll}
 use Rattle.saying.specs.Said.{saidBy}
 use Rattle.saying.specs.Good.{slotsOf}
@@ -68,22 +71,123 @@ module _ (s q : List ℕ) (n p : ℕ) (d : drop p s ≡ leBytes 4 n ++ q) where
 
 -- ---- texts
 
-module _ (s x q : List ℕ) (p : ℕ) (n : Name x) (d : drop p s ≡ stringBytes x ++ q) where
-  string-there : stringAt s p ≡ T.Part (p + length (prefixBytes (length x))) (p + length (stringBytes x))
-  string-there = string-round s x q p d (utf8-exactly x .1 (n .good)) (n .short)
+-- what any setting takes, lenient takes
+as-lenient : {set : Setting} {w n : ℕ} → Width set w n → Width Q.Lenient w n
+as-lenient x = record { some = x .some; most = x .most; holds = x .holds; least = λ e v a b. absurd (let z : _≡_ {A = ℕ} 0 1 = cc in omega arith) }
 
-  pub name-there : nameAt s p ≡ F.End (p + length (stringBytes x))
-  name-there = name-end s p (p + length (prefixBytes (length x))) (p + length (stringBytes x)) string-there
+-- a text or value with its prefix
+pub length-bytes : (t : Prefixed) → length (bytesIn t) ≡ t .width + length (t .text)
+length-bytes t = length-append (prefixOf (t .width) (length (t .text))) (t .text) ∙ ap (λ (n : ℕ). n + length (t .text)) (length-prefixOf (t .width) (length (t .text)))
 
-  pub text-is : textFrom s p ≡ x
-  text-is =
-      let b = prefixBytes (length x) in
-      let l : length (stringBytes x) ≡ length b + length x = length-append b x in
-      let r = rest-there s b (x ++ q) p (p + length b) refl (d ∙ append-assoc b x q) in
-      string-text s p (p + length b) (p + length (stringBytes x)) string-there ∙ part-there s x q (p + length b) (p + length (stringBytes x)) (omega arith) r
+module _ (s : List ℕ) (t : Prefixed) (q : List ℕ) (p : ℕ) (d : drop p s ≡ bytesIn t ++ q) where
+  -- what stands behind the prefix
+  behind-there : drop (p + t .width) s ≡ t .text ++ q
+  behind-there =
+      let b = prefixOf (t .width) (length (t .text)) in
+      rest-there s b (t .text ++ q) p (p + t .width) (ap (λ (n : ℕ). p + n) (sym (length-prefixOf (t .width) (length (t .text))))) (d ∙ append-assoc b (t .text) q)
 
-  pub text-there : (textFrom s p ≡ x) × (afterText s p ≡ p + length (stringBytes x)) × (drop (p + length (stringBytes x)) s ≡ q)
-  text-there = (text-is, string-after s p (p + length (prefixBytes (length x))) (p + length (stringBytes x)) string-there, rest-there s (stringBytes x) q p (p + length (stringBytes x)) refl d)
+  pub behind-is : part s (p + t .width) (p + length (bytesIn t) - (p + t .width)) ≡ t .text
+  behind-is =
+      let l = length-bytes t in
+      part-there s (t .text) q (p + t .width) (p + length (bytesIn t)) (omega arith) behind-there
+
+  pub bytes-rest : drop (p + length (bytesIn t)) s ≡ q
+  bytes-rest = rest-there s (bytesIn t) q p (p + length (bytesIn t)) refl d
+
+  -- a prefix that some setting takes
+  module _ {set : Setting} (x : Width set (t .width) (length (t .text))) (h : length (t .text) < 2147483648) where
+    pub span-is : spanAt s p ≡ record { from = p + t .width; to = p + length (bytesIn t) }
+    span-is =
+        let n = length (t .text) in
+        let l = length-bytes t in
+        let r = length-append (bytesIn t) q in
+        let k : p + t .width + n ≤ length s = omega (arith, x .some, simp length-drop at (ap length d)) in
+        let w = width-written Q.Lenient (t .width) n s (t .text ++ q) p (as-lenient x) h (d ∙ append-assoc (prefixOf (t .width) n) (t .text) q) in
+        let z : p + t .width + n ≡ p + length (bytesIn t) = omega arith in
+        span-there s p n (p + t .width) w k ∙ ap (λ (e : ℕ). record { from = p + t .width; to = e }) z
+
+module _ (s : List ℕ) (t : Prefixed) (q : List ℕ) (p : ℕ) (n : Name t) (d : drop p s ≡ bytesIn t ++ q) where
+  name-span : spanAt s p ≡ record { from = p + t .width; to = p + length (bytesIn t) }
+  name-span = span-is s t q p d (n .prefix) (n .characters .short)
+
+  pub text-is : textFrom s p ≡ t .text
+  text-is = rw name-span (behind-is s t q p d)
+
+  pub text-there : (textFrom s p ≡ t .text) × (afterText s p ≡ p + length (bytesIn t)) × (drop (p + length (bytesIn t)) s ≡ q)
+  text-there = (text-is, ap (λ (x : Span). x .to) name-span, bytes-rest s t q p d)
+
+-- ---- values
+
+-- a value of a fixed size has no prefix and this size
+sized-is : {c : PrimitiveCode} {n : ℕ} (s : List ℕ) (p w m : ℕ) → Sized c n → PrefixIf (hasPrefix c) w m → (w ≡ 0) × (sizeFrom s c p ≡ n) × (0 < n)
+sized-is s p w m a-byte e = (e, refl, omega arith)
+sized-is s p w m an-sbyte e = (e, refl, omega arith)
+sized-is s p w m an-int16 e = (e, refl, omega arith)
+sized-is s p w m a-uint16 e = (e, refl, omega arith)
+sized-is s p w m an-int32 e = (e, refl, omega arith)
+sized-is s p w m a-uint32 e = (e, refl, omega arith)
+sized-is s p w m a-single e = (e, refl, omega arith)
+sized-is s p w m an-int64 e = (e, refl, omega arith)
+sized-is s p w m a-uint64 e = (e, refl, omega arith)
+sized-is s p w m a-double e = (e, refl, omega arith)
+sized-is s p w m a-time-span e = (e, refl, omega arith)
+
+module _ (s : List ℕ) (v : Prefixed) (q : List ℕ) (p : ℕ) (d : drop p s ≡ bytesIn v ++ q) where
+  -- a value without a prefix
+  bare-span : (c : PrimitiveCode) → v .width ≡ 0 → sizeFrom s c p ≡ length (v .text) → 0 < length (v .text)
+      → valueSpan s c p ≡ record { from = p + v .width; to = p + length (bytesIn v) }
+  unfolding valueSpan
+  bare-span c e z h =
+      let l = length-bytes v in
+      let a : p ≡ p + v .width = omega arith in
+      let b : p + length (v .text) ≡ p + length (bytesIn v) = omega arith in
+      rw (z, ne-eqb (length (v .text)) 0 (λ i. omega arith))
+      (ap (λ (x : ℕ). record { from = x; to = p + length (v .text) }) a ∙ ap (λ (x : ℕ). record { from = p + v .width; to = x }) b)
+
+  -- the first byte of a scalar tells its size
+  char-size : (k : ℕ) → Scalar k → v .text ≡ encode k → v .width ≡ 0 → needOf (getD s p 0) + 1 ≡ length (v .text)
+  char-size k g e z =
+      let y : p + v .width ≡ p = omega arith in
+      let f : drop p s ≡ encode k ++ q = ap (λ (x : ℕ). drop x s) (sym y) ∙ (behind-there s v q p d ∙ ap (λ (x : List ℕ). x ++ q) e) in
+      let u : p + 0 ≡ p = omega arith in
+      let i : getD s p 0 ≡ getD (encode k ++ q) 0 0 =
+      ap (λ (x : ℕ). getD s x 0) (sym u) ∙ (sym (getD-drop p s 0 0) ∙ ap (λ (x : List ℕ). getD x 0 0) f) in
+      rw (i, e) (width-told k g q .0)
+
+  span-by : (c : PrimitiveCode) (x : List ℕ) → v .text ≡ x → Content c x → PrefixIf (hasPrefix c) (v .width) (length (v .text))
+      → valueSpan s c p ≡ record { from = p + v .width; to = p + length (bytesIn v) }
+  unfolding valueSpan
+  span-by c x f (number g e) w =
+      let y = sized-is s p (v .width) (length (v .text)) g w in
+      let l = ap length f in
+      bare-span c (y .0) (y .1 ∙ (sym e ∙ sym l)) (omega (arith, y .2))
+  span-by c x f (boolean h) w = let l = ap length f in bare-span c w (sym l) (omega arith)
+  span-by c x f (scalar k g e) w = let l = char-size k g (f ∙ e) w in bare-span c w l (omega arith)
+  span-by c x f (exact g h) w = let l = ap length f in span-is s v q p d w (omega arith)
+  span-by c x f (moment e g) w = let l = ap length f in bare-span c w (sym (l ∙ e)) (omega arith)
+
+module _ (s : List ℕ) (c : PrimitiveCode) where
+  module _ (v : Prefixed) (q : List ℕ) (p : ℕ) (g : Value c v) (d : drop p s ≡ bytesIn v ++ q) where
+    value-span : valueSpan s c p ≡ record { from = p + v .width; to = p + length (bytesIn v) }
+    value-span = span-by s v q p d c (v .text) refl (g .content) (g .prefix)
+
+    pub content-is : contentFrom s c p ≡ v .text
+    content-is = rw value-span (behind-is s v q p d)
+
+    pub value-after : valueSpan s c p .to ≡ p + length (bytesIn v)
+    value-after = ap (λ (x : Span). x .to) value-span
+
+  -- the items of an array
+  pub items-there : (n : ℕ) (vs : List Prefixed) (q : List ℕ) (p : ℕ) → Values c n vs → drop p s ≡ itemsBytes vs ++ q → itemsFrom s c n p ≡ textsOf vs
+  unfolding itemsFrom
+  items-there n vs q p none d = refl
+  items-there n vs q p (more {n = m} {v = v} {vs = us} g gs) d =
+      let f : drop p s ≡ bytesIn v ++ (itemsBytes us ++ q) = d ∙ append-assoc (bytesIn v) (itemsBytes us) q in
+      rw (
+        content-is v (itemsBytes us ++ q) p g f,
+        value-after v (itemsBytes us ++ q) p g f,
+        items-there m us q (p + length (bytesIn v)) gs (bytes-rest s v (itemsBytes us ++ q) p f),
+      )
 
 -- ---- codes
 
@@ -94,13 +198,13 @@ module _ (s q : List ℕ) (c : PrimitiveCode) (p : ℕ) (d : drop p s ≡ codeNu
   pub code-there : codeFrom s p ≡ c
   code-there = rw code-is
 
-  code-ends : codeAt s p ≡ F.End (p + 1)
-  code-ends = code-end s p (byte-inside s q (codeNumber c) p d) c code-is
+  code-past : past (length s) p ≡ p + 1
+  code-past = rw (lt-ltb p (length s) (byte-inside s q (codeNumber c) p d))
 
 -- ---- details
 
 -- what is asked of a detail by itself, whatever is known from earlier records
-abbrev pub OwnDetail : Detail ℕ → Type 0
+abbrev pub OwnDetail : Detail Prefixed ℕ → Type 0
 OwnDetail (primitive c) = Unit {0}
 OwnDetail text = Unit {0}
 OwnDetail object = Unit {0}
@@ -110,7 +214,7 @@ OwnDetail objects = Unit {0}
 OwnDetail texts = Unit {0}
 OwnDetail (primitives c) = Unit {0}
 
-pub own-detail : (es : List Entry) (d : Detail ℕ) → GoodDetail es d → OwnDetail d
+pub own-detail : (es : List Entry) (d : Detail Prefixed ℕ) → GoodDetail es d → OwnDetail d
 own-detail es (primitive c) g = tt
 own-detail es text g = tt
 own-detail es object g = tt
@@ -121,81 +225,87 @@ own-detail es texts g = tt
 own-detail es (primitives c) g = tt
 
 module _ (s q : List ℕ) (p : ℕ) where
-  info-there : (d : Detail ℕ) → OwnDetail d → drop p s ≡ infoBytes d ++ q → infoAt s (typeByte d) p ≡ F.End (p + length (infoBytes d))
-  unfolding infoAt
-  info-there (primitive c) g d = code-ends s q c p d
-  info-there text g d = ap F.End (omega arith)
-  info-there object g d = ap F.End (omega arith)
-  info-there (system n) g d = name-there s n q p g d
+  -- the place after a number
+  number-after : (n : ℕ) → drop p s ≡ leBytes 4 n ++ q → afterNumber s p ≡ p + 4
+  number-after n d =
+      let l : length (leBytes 4 n) ≡ 4 = length-leBytes 4 n in
+      let r = length-append (leBytes 4 n) q in
+      rw (le-leb (p + 4) (length s) (omega (arith, simp length-drop at (ap length d))))
+
+-- the place after a detail, and what it says
+module _ (s q : List ℕ) (p : ℕ) where
+  info-there : (d : Detail Prefixed ℕ) → OwnDetail d → drop p s ≡ infoBytes d ++ q → afterInfo s (typeByte d) p ≡ p + length (infoBytes d)
+  unfolding afterInfo
+  info-there (primitive c) g d = code-past s q c p d
+  info-there text g d = omega arith
+  info-there object g d = omega arith
+  info-there (system n) g d = text-there s n q p g d .1
   info-there (class n l) g d =
-      let f : drop p s ≡ stringBytes n ++ (leBytes 4 l ++ q) = d ∙ append-assoc (stringBytes n) (leBytes 4 l) q in
-      let x = text-there s n (leBytes 4 l ++ q) p (g .0) f in
-      let m = p + length (stringBytes n) in
-      let u = u32-written s q m l (positive-bits l (g .1)) (x .2) in
-      let k : m + 4 ≡ p + length (stringBytes n ++ leBytes 4 l) = simp (length-append, length-leBytes) (omega arith) in
-      rw (name-there s n (leBytes 4 l ++ q) p (g .0) f, ← k) (library-end s m l (m + 4) u (positive-exactly l .1 (g .1)))
-  info-there objects g d = ap F.End (omega arith)
-  info-there texts g d = ap F.End (omega arith)
-  info-there (primitives c) g d = code-ends s q c p d
+      let x = text-there s n (leBytes 4 l ++ q) p (g .0) (d ∙ append-assoc (bytesIn n) (leBytes 4 l) q) in
+      let m = p + length (bytesIn n) in
+      let k : m + 4 ≡ p + length (bytesIn n ++ leBytes 4 l) = simp (length-append, length-leBytes) (omega arith) in
+      rw (x .1) (number-after s q m l (x .2) ∙ k)
+  info-there objects g d = omega arith
+  info-there texts g d = omega arith
+  info-there (primitives c) g d = code-past s q c p d
 
   module _ (rows : List Row) where
-    detail-is : (d : Detail ℕ) → OwnDetail d → drop p s ≡ infoBytes d ++ q → detailFrom s rows (typeByte d) p ≡ named (libraryName s rows) d
+    detail-is : (d : Detail Prefixed ℕ) → OwnDetail d → drop p s ≡ infoBytes d ++ q → detailFrom s rows (typeByte d) p ≡ named (libraryName s rows) d
     unfolding detailFrom
     detail-is (primitive c) g d = ap primitive (code-there s q c p d)
     detail-is text g d = refl
     detail-is object g d = refl
     detail-is (system n) g d = ap system (text-is s n q p g d)
     detail-is (class n l) g d =
-        let x = text-there s n (leBytes 4 l ++ q) p (g .0) (d ∙ append-assoc (stringBytes n) (leBytes 4 l) q) in
-        rw (x .0, x .1, number-there s q l (p + length (stringBytes n)) (x .2) (positive-bits l (g .1)))
+        let x = text-there s n (leBytes 4 l ++ q) p (g .0) (d ∙ append-assoc (bytesIn n) (leBytes 4 l) q) in
+        rw (x .0, x .1, number-there s q l (p + length (bytesIn n)) (x .2) (positive-bits l (g .1)))
     detail-is objects g d = refl
     detail-is texts g d = refl
     detail-is (primitives c) g d = ap primitives (code-there s q c p d)
 
-    pub detail-there : (d : Detail ℕ) → OwnDetail d → drop p s ≡ infoBytes d ++ q
+    pub detail-there : (d : Detail Prefixed ℕ) → OwnDetail d → drop p s ≡ infoBytes d ++ q
         → (detailFrom s rows (typeByte d) p ≡ named (libraryName s rows) d) × (afterInfo s (typeByte d) p ≡ p + length (infoBytes d))
         × (drop (p + length (infoBytes d)) s ≡ q)
-    detail-there d g f = (detail-is d g f, info-after s (typeByte d) p (p + length (infoBytes d)) (info-there d g f), rest-there s (infoBytes d) q p (p + length (infoBytes d)) refl f)
+    detail-there d g f = (detail-is d g f, info-there d g f, rest-there s (infoBytes d) q p (p + length (infoBytes d)) refl f)
 
 -- ---- members
 
-pub data OwnMembers : List (Member ℕ) → Type 0 where
+pub data OwnMembers : List (Member Prefixed ℕ) → Type 0 where
   no-member : OwnMembers []
-  own-member : {m : Member ℕ} {ms : List (Member ℕ)} → Name (m .name) → OwnDetail (m .type) → OwnMembers ms → OwnMembers (m ∷ ms)
+  own-member : {m : Member Prefixed ℕ} {ms : List (Member Prefixed ℕ)} → Name (m .name) → OwnDetail (m .type) → OwnMembers ms → OwnMembers (m ∷ ms)
 
-pub own-members : {es : List Entry} {ms : List (Member ℕ)} → Members es ms → OwnMembers ms
+pub own-members : {es : List Entry} {ms : List (Member Prefixed ℕ)} → Members es ms → OwnMembers ms
 own-members no-more = no-member
 own-members {es} (member {m = m} n g gs) = own-member n (own-detail es (m .type) g) (own-members gs)
 
 module _ (s : List ℕ) where
-  pub names-there : (ms : List (Member ℕ)) (q : List ℕ) (p : ℕ) → OwnMembers ms → drop p s ≡ namesBytes ms ++ q
-      → times (nameAt s) (length ms) p ≡ F.End (p + length (namesBytes ms))
-  unfolding times
-  names-there [] q p no-member d = ap F.End (omega arith)
+  pub names-there : (ms : List (Member Prefixed ℕ)) (q : List ℕ) (p : ℕ) → OwnMembers ms → drop p s ≡ namesBytes ms ++ q
+      → afterTexts s (length ms) p ≡ p + length (namesBytes ms)
+  unfolding afterTexts
+  names-there [] q p no-member d = omega arith
   names-there (m ∷ ms) q p (own-member n g gs) d =
-      let f : drop p s ≡ stringBytes (m .name) ++ (namesBytes ms ++ q) = d ∙ append-assoc (stringBytes (m .name)) (namesBytes ms) q in
-      let a = p + length (stringBytes (m .name)) in
-      let r = text-there s (m .name) (namesBytes ms ++ q) p n f .2 in
-      let k : a + length (namesBytes ms) ≡ p + length (stringBytes (m .name) ++ namesBytes ms) = simp length-append (omega arith) in
-      rw (name-there s (m .name) (namesBytes ms ++ q) p n f) (names-there ms q a gs r ∙ ap F.End k)
+      let x = text-there s (m .name) (namesBytes ms ++ q) p n (d ∙ append-assoc (bytesIn (m .name)) (namesBytes ms) q) in
+      let a = p + length (bytesIn (m .name)) in
+      let k : a + length (namesBytes ms) ≡ p + length (bytesIn (m .name) ++ namesBytes ms) = simp length-append (omega arith) in
+      ap (afterTexts s (length ms)) (x .1) ∙ (names-there ms q a gs (x .2) ∙ k)
 
   module _ (rows : List Row) where
-    pub members-there : (ms : List (Member ℕ)) (x y z : List ℕ) (a b c : ℕ) → OwnMembers ms
+    pub members-there : (ms : List (Member Prefixed ℕ)) (x y z : List ℕ) (a b c : ℕ) → OwnMembers ms
         → drop a s ≡ namesBytes ms ++ x → drop b s ≡ typesBytes ms ++ y → drop c s ≡ infosBytes ms ++ z
         → membersFrom s rows (length ms) a b c ≡ namedAll (libraryName s rows) ms
     unfolding membersFrom
     members-there [] x y z a b c no-member d e f = refl
     members-there (m ∷ ms) x y z a b c (own-member n g gs) d e f =
-        let u = text-there s (m .name) (namesBytes ms ++ x) a n (d ∙ append-assoc (stringBytes (m .name)) (namesBytes ms) x) in
+        let u = text-there s (m .name) (namesBytes ms ++ x) a n (d ∙ append-assoc (bytesIn (m .name)) (namesBytes ms) x) in
         let t = byte-there s (typesBytes ms ++ y) (typeByte (m .type)) b e in
         let v = byte-rest s (typesBytes ms ++ y) (typeByte (m .type)) b e in
         let w = detail-there s (infosBytes ms ++ z) c rows (m .type) g (f ∙ append-assoc (infoBytes (m .type)) (infosBytes ms) z) in
         rw (u .0, u .1, t, w .0, w .1)
-        (ap (λ (l : List (Member (List ℕ))). record { name = m .name; type = named (libraryName s rows) (m .type) } ∷ l)
-        (members-there ms x y z (a + length (stringBytes (m .name))) (b + 1) (c + length (infoBytes (m .type))) gs (u .2) v (w .2)))
+        (ap (λ (l : List (Member (List ℕ) (List ℕ))). record { name = m .name .text; type = named (libraryName s rows) (m .type) } ∷ l)
+        (members-there ms x y z (a + length (bytesIn (m .name))) (b + 1) (c + length (infoBytes (m .type))) gs (u .2) v (w .2)))
 
 -- the types of the slots are the same by number and by name
-pub slot-same : (name : ℕ → List ℕ) (d : Detail ℕ) → slotFor (named name d) ≡ slotFor d
+pub slot-same : (name : ℕ → List ℕ) (d : Detail Prefixed ℕ) → slotFor (named name d) ≡ slotFor d
 slot-same name (primitive c) = refl
 slot-same name text = refl
 slot-same name object = refl
@@ -205,7 +315,7 @@ slot-same name objects = refl
 slot-same name texts = refl
 slot-same name (primitives c) = refl
 
-pub slots-same : (name : ℕ → List ℕ) (ms : List (Member ℕ)) → slotsOf (namedAll name ms) ≡ typesOf ms
+pub slots-same : (name : ℕ → List ℕ) (ms : List (Member Prefixed ℕ)) → slotsOf (namedAll name ms) ≡ typesOf ms
 slots-same name [] = refl
 slots-same name (m ∷ ms) = rw (slot-same name (m .type), slots-same name ms)
 
@@ -243,7 +353,7 @@ kindOf (library i n) = 12
 kindOf (primitiveArray i n c vs) = 15
 kindOf (objectArray i n) = 16
 kindOf (stringArray i n) = 17
-kindOf (value v) = 32
+kindOf (value c v) = 32
 
 -- the count in its row, where what is said goes by it
 abbrev pub CountIs : Rec → ℕ → Type 0
@@ -252,7 +362,7 @@ CountIs (classById i k) n = Unit {0}
 CountIs (systemClass i x ms) n = n ≡ length ms
 CountIs (libraryClass i x ms l) n = n ≡ length ms
 CountIs (string i x) n = Unit {0}
-CountIs (array i t ns d vs) n = Unit {0}
+CountIs (array i t ns d vs) n = n ≡ product ns
 CountIs (typedPrimitive c v) n = Unit {0}
 CountIs (reference i) n = Unit {0}
 CountIs null n = n ≡ 1
@@ -263,7 +373,7 @@ CountIs (library i x) n = Unit {0}
 CountIs (primitiveArray i k c vs) n = n ≡ k
 CountIs (objectArray i k) n = n ≡ k
 CountIs (stringArray i k) n = n ≡ k
-CountIs (value v) n = Unit {0}
+CountIs (value c v) n = Unit {0}
 
 -- w is a row of the record r at this place
 pub record RowOf (r : Rec) (at : ℕ) (w : Row) : Type 0 where
@@ -278,6 +388,27 @@ row-of r at id own slot link count h = record { kind-is = refl; offset-is = refl
 pub row-linked : {r : Rec} {at : ℕ} {w : Row} (link : ℕ) → RowOf r at w → RowOf r at (withLink w link)
 row-linked link g = record { kind-is = g .kind-is; offset-is = g .offset-is; end-is = g .end-is; count-is = g .count-is }
 
+-- the items of an array of this item type: inside the record where they are primitive
+abbrev pub ItemsOf : Detail Prefixed ℕ → ℕ → List Prefixed → Type 0
+ItemsOf (primitive c) n vs = Values c n vs
+ItemsOf text n vs = vs ≡ []
+ItemsOf object n vs = vs ≡ []
+ItemsOf (system x) n vs = vs ≡ []
+ItemsOf (class x l) n vs = vs ≡ []
+ItemsOf objects n vs = vs ≡ []
+ItemsOf texts n vs = vs ≡ []
+ItemsOf (primitives c) n vs = vs ≡ []
+
+pub no-items : (d : Detail Prefixed ℕ) (n : ℕ) → takesRecords (slotFor d) ≡ true → ItemsOf d n []
+no-items (primitive c) n e = apart e
+no-items text n e = refl
+no-items object n e = refl
+no-items (system x) n e = refl
+no-items (class x l) n e = refl
+no-items objects n e = refl
+no-items texts n e = refl
+no-items (primitives c) n e = refl
+
 -- what is asked of a record by itself
 abbrev pub GoodRec : Rec → Type 0
 GoodRec (header r h) = Unit {0}
@@ -285,25 +416,39 @@ GoodRec (classById i k) = Unit {0}
 GoodRec (systemClass i n ms) = Name n × OwnMembers ms
 GoodRec (libraryClass i n ms l) = Name n × OwnMembers ms × (l < 4294967296)
 GoodRec (string i x) = Name x
-GoodRec (array i t ns d vs) = Shape t ns × OwnDetail d
-GoodRec (typedPrimitive c v) = Unit {0}
+GoodRec (array i t ns d vs) = Shape t ns × OwnDetail d × ItemsOf d (product ns) vs
+GoodRec (typedPrimitive c v) = Value c v
 GoodRec (reference i) = Unit {0}
 GoodRec null = Unit {0}
 GoodRec (nulls n) = Unit {0}
 GoodRec (manyNulls n) = Unit {0}
 GoodRec end = Unit {0}
 GoodRec (library i n) = Name n
-GoodRec (primitiveArray i n c vs) = Unit {0}
+GoodRec (primitiveArray i n c vs) = Values c n vs
 GoodRec (objectArray i n) = Unit {0}
 GoodRec (stringArray i n) = Unit {0}
-GoodRec (value v) = Unit {0}
+GoodRec (value c v) = Value c v
 
 pub own-array : {es : List Entry} {r : Rec} {kind id count : ℕ} {ts : List SlotType} → Array es r kind id count ts → GoodRec r
 own-array (of-objects h) = tt
 own-array (of-strings h) = tt
-own-array (of-primitives h g) = tt
-own-array {es} (of-any {d = d} g e h f k) = (g, own-detail es d h)
-own-array (of-values g e h) = (g, tt)
+own-array (of-primitives h g) = g
+own-array {es} (of-any {ns = ns} {d = d} g e h f k) = (g, own-detail es d h, no-items d (product ns) f)
+own-array (of-values {b = b} {vs = vs} g e h) = (g, tt, subst (λ (m : ℕ). Values b m vs) e h)
+
+-- the items by the bytes after the item type
+module _ (s q : List ℕ) (p n : ℕ) (vs : List Prefixed) where
+  items-of-there : (d : Detail Prefixed ℕ) → ItemsOf d n vs → drop p s ≡ infoBytes d ++ (itemsBytes vs ++ q)
+      → pick (eqb (typeByte d) 0) (itemsFrom s (codeFrom s p) n (p + length (infoBytes d))) [] ≡ textsOf vs
+  items-of-there (primitive c) g d =
+      rw (code-there s (itemsBytes vs ++ q) c p d) (items-there s c n vs q (p + 1) g (byte-rest s (itemsBytes vs ++ q) (codeNumber c) p d))
+  items-of-there text g d = sym (ap textsOf g)
+  items-of-there object g d = sym (ap textsOf g)
+  items-of-there (system x) g d = sym (ap textsOf g)
+  items-of-there (class x l) g d = sym (ap textsOf g)
+  items-of-there objects g d = sym (ap textsOf g)
+  items-of-there texts g d = sym (ap textsOf g)
+  items-of-there (primitives c) g d = sym (ap textsOf g)
 
 -- a row with these fields, and the others of w
 abbrev like : ℕ → ℕ → ℕ → ℕ → Row → Row
@@ -324,42 +469,42 @@ module _ (s q : List ℕ) (at : ℕ) where
       let l : length (leBytes 4 i) ≡ 4 = length-leBytes 4 i in
       rest-there s (k ∷ leBytes 4 i) (b ++ q) at (at + 5) (omega arith) (d ∙ ap (λ (x : List ℕ). k ∷ x) (append-assoc (leBytes 4 i) b q))
 
-length-types : (ms : List (Member ℕ)) → length (typesBytes ms) ≡ length ms
+length-types : (ms : List (Member Prefixed ℕ)) → length (typesBytes ms) ≡ length ms
 length-types [] = refl
 length-types (m ∷ ms) = ap suc (length-types ms)
 
 -- ---- classes
 
 module _ (s : List ℕ) (rows : List Row) (w : Row) (at : ℕ) where
-  class-like : (k e : ℕ) (n : List ℕ) (ms : List (Member ℕ)) (q : List ℕ) → Name n → OwnMembers ms → drop (at + 5) s ≡ classBytes n ms ++ q
+  class-like : (k e : ℕ) (n : Prefixed) (ms : List (Member Prefixed ℕ)) (q : List ℕ) → Name n → OwnMembers ms → drop (at + 5) s ≡ classBytes n ms ++ q
       → (from : From) → pick (eqb k 5) (theLibrary (libraryName s rows (numberFrom s (e - 4)))) theSystem ≡ from
-      → classFrom s rows (like k at e (length ms) w) ≡ classOfAll (libraryName s rows) n from ms
+      → classFrom s rows (like k at e (length ms) w) ≡ classOfAll (libraryName s rows) (n .text) from ms
   unfolding classFrom
   class-like k e n ms q g gs d from f =
       let types = typesBytes ms ++ infosBytes ms in
       let names = namesBytes ms ++ types in
       let count = leBytes 4 (length ms) in
-      let t = text-there s n ((count ++ names) ++ q) (at + 5) g (d ∙ append-assoc (stringBytes n) (count ++ names) q) in
-      let a = at + 5 + length (stringBytes n) + 4 in
-      let d1 = number-rest s (names ++ q) (length ms) (at + 5 + length (stringBytes n)) (t .2 ∙ append-assoc count names q) in
+      let t = text-there s n ((count ++ names) ++ q) (at + 5) g (d ∙ append-assoc (bytesIn n) (count ++ names) q) in
+      let a = at + 5 + length (bytesIn n) + 4 in
+      let d1 = number-rest s (names ++ q) (length ms) (at + 5 + length (bytesIn n)) (t .2 ∙ append-assoc count names q) in
       let d2 : drop a s ≡ namesBytes ms ++ (types ++ q) = d1 ∙ append-assoc (namesBytes ms) types q in
       let b = a + length (namesBytes ms) in
       let d3 : drop b s ≡ typesBytes ms ++ (infosBytes ms ++ q) =
       rest-there s (namesBytes ms) (types ++ q) a b refl d2 ∙ append-assoc (typesBytes ms) (infosBytes ms) q in
       let d4 : drop (b + length ms) s ≡ infosBytes ms ++ q =
       rest-there s (typesBytes ms) (infosBytes ms ++ q) b (b + length ms) (ap (λ (x : ℕ). b + x) (sym (length-types ms))) d3 in
-      rw (t .0, t .1, names-after s (length ms) a b (names-there s ms (types ++ q) a gs d2), f, members-there s rows ms (types ++ q) (infosBytes ms ++ q) q a b (b + length ms) gs d2 d3 d4)
+      rw (t .0, t .1, names-there s ms (types ++ q) a gs d2, f, members-there s rows ms (types ++ q) (infosBytes ms ++ q) q a b (b + length ms) gs d2 d3 d4)
 
-  module _ (q : List ℕ) (i : ℕ) (n : List ℕ) (ms : List (Member ℕ)) (g : Name n) (gs : OwnMembers ms) where
+  module _ (q : List ℕ) (i : ℕ) (n : Prefixed) (ms : List (Member Prefixed ℕ)) (g : Name n) (gs : OwnMembers ms) where
     pub system-class-from : drop at s ≡ enc (systemClass i n ms) ++ q → RowOf (systemClass i n ms) at w
-        → classFrom s rows w ≡ classOfAll (libraryName s rows) n theSystem ms
+        → classFrom s rows w ≡ classOfAll (libraryName s rows) (n .text) theSystem ms
     unfolding enc
     system-class-from d r =
         ap (classFrom s rows) (row-like w (r .kind-is) (r .offset-is) (r .end-is) (r .count-is))
         ∙ class-like 4 (at + length (enc (systemClass i n ms))) n ms q g gs (after-id s q at 4 i (classBytes n ms) d) theSystem refl
 
     pub library-class-from : (l : ℕ) → l < 4294967296 → drop at s ≡ enc (libraryClass i n ms l) ++ q → RowOf (libraryClass i n ms l) at w
-        → classFrom s rows w ≡ classOfAll (libraryName s rows) n (theLibrary (libraryName s rows l)) ms
+        → classFrom s rows w ≡ classOfAll (libraryName s rows) (n .text) (theLibrary (libraryName s rows l)) ms
     unfolding enc
     library-class-from l h d r =
         let b = classBytes n ms in
@@ -372,6 +517,12 @@ module _ (s : List ℕ) (rows : List Row) (w : Row) (at : ℕ) where
         ∙ class-like 5 e n ms (leBytes 4 l ++ q) g gs d1 (theLibrary (libraryName s rows l)) (rw m)
 
 -- ---- what each kind says
+
+-- a member value, of the code that its row's owner and slot lead to
+value-row : (s : List ℕ) (rows : List Row) (w : Row) → w .kind ≡ 32
+    → whatFrom s rows w ≡ aValue (valueCode s rows w) (contentFrom s (valueCode s rows w) (w .offset))
+unfolding whatFrom valueCode
+value-row s rows w k = ap (whatFrom s rows) (row-like w k refl refl refl)
 
 -- by the row alone
 module _ (s : List ℕ) (rows : List Row) (w : Row) (at : ℕ) where
@@ -395,69 +546,66 @@ module _ (s : List ℕ) (rows : List Row) (w : Row) (at : ℕ) where
 
 -- by the row and the bytes at its place
 module _ (s : List ℕ) (rows : List Row) (w : Row) (at : ℕ) (q : List ℕ) where
-  pub system-class-said : (i : ℕ) (n : List ℕ) (ms : List (Member ℕ)) → Name n → OwnMembers ms → drop at s ≡ enc (systemClass i n ms) ++ q
-      → RowOf (systemClass i n ms) at w → whatFrom s rows w ≡ anObject (classOfAll (libraryName s rows) n theSystem ms)
+  pub system-class-said : (i : ℕ) (n : Prefixed) (ms : List (Member Prefixed ℕ)) → Name n → OwnMembers ms → drop at s ≡ enc (systemClass i n ms) ++ q
+      → RowOf (systemClass i n ms) at w → whatFrom s rows w ≡ anObject (classOfAll (libraryName s rows) (n .text) theSystem ms)
   unfolding whatFrom
   system-class-said i n ms g gs d r =
       let z = row-like w (r .kind-is) refl refl refl in
       ap (whatFrom s rows) z ∙ ap anObject (ap (classFrom s rows) (sym z) ∙ system-class-from s rows w at q i n ms g gs d r)
 
-  pub library-class-said : (i : ℕ) (n : List ℕ) (ms : List (Member ℕ)) (l : ℕ) → Name n → OwnMembers ms → l < 4294967296
+  pub library-class-said : (i : ℕ) (n : Prefixed) (ms : List (Member Prefixed ℕ)) (l : ℕ) → Name n → OwnMembers ms → l < 4294967296
       → drop at s ≡ enc (libraryClass i n ms l) ++ q → RowOf (libraryClass i n ms l) at w
-      → whatFrom s rows w ≡ anObject (classOfAll (libraryName s rows) n (theLibrary (libraryName s rows l)) ms)
+      → whatFrom s rows w ≡ anObject (classOfAll (libraryName s rows) (n .text) (theLibrary (libraryName s rows l)) ms)
   unfolding whatFrom
   library-class-said i n ms l g gs h d r =
       let z = row-like w (r .kind-is) refl refl refl in
       ap (whatFrom s rows) z ∙ ap anObject (ap (classFrom s rows) (sym z) ∙ library-class-from s rows w at q i n ms g gs l h d r)
 
-  pub string-said : (i : ℕ) (x : List ℕ) → Name x → drop at s ≡ enc (string i x) ++ q → RowOf (string i x) at w → whatFrom s rows w ≡ aString x
+  pub string-said : (i : ℕ) (x : Prefixed) → Name x → drop at s ≡ enc (string i x) ++ q → RowOf (string i x) at w → whatFrom s rows w ≡ aString (x .text)
   unfolding enc whatFrom
   string-said i x g d r =
       ap (whatFrom s rows) (row-like w (r .kind-is) (r .offset-is) refl refl)
-      ∙ ap aString (text-is s x q (at + 5) g (after-id s q at 6 i (stringBytes x) d))
+      ∙ ap aString (text-is s x q (at + 5) g (after-id s q at 6 i (bytesIn x) d))
 
-  pub typed-primitive-said : (c : PrimitiveCode) (v : List ℕ) → drop at s ≡ enc (typedPrimitive c v) ++ q → RowOf (typedPrimitive c v) at w
-      → whatFrom s rows w ≡ aPrimitive c v
+  pub typed-primitive-said : (c : PrimitiveCode) (v : Prefixed) → Value c v → drop at s ≡ enc (typedPrimitive c v) ++ q → RowOf (typedPrimitive c v) at w
+      → whatFrom s rows w ≡ aPrimitive c (v .text)
   unfolding enc whatFrom
-  typed-primitive-said c v d r =
-      let e = at + length (enc (typedPrimitive c v)) in
-      let f : codeFrom s (at + 1) ≡ c = code-there s (v ++ q) c (at + 1) (byte-rest s (codeNumber c ∷ (v ++ q)) 8 at d) in
-      let a : drop (at + 2) s ≡ v ++ q = rest-there s (8 ∷ codeNumber c ∷ []) (v ++ q) at (at + 2) (omega arith) d in
-      let b : part s (at + 2) (e - (at + 2)) ≡ v = part-there s v q (at + 2) e (omega arith) a in
-      ap (whatFrom s rows) (row-like w (r .kind-is) (r .offset-is) (r .end-is) refl) ∙ rw (f, b)
+  typed-primitive-said c v g d r =
+      let f : codeFrom s (at + 1) ≡ c = code-there s (bytesIn v ++ q) c (at + 1) (byte-rest s (codeNumber c ∷ (bytesIn v ++ q)) 8 at d) in
+      let a : drop (at + 2) s ≡ bytesIn v ++ q = rest-there s (8 ∷ codeNumber c ∷ []) (bytesIn v ++ q) at (at + 2) (omega arith) d in
+      ap (whatFrom s rows) (row-like w (r .kind-is) (r .offset-is) refl refl) ∙ rw f (ap (aPrimitive c) (content-is s c v q (at + 2) g a))
 
-  pub primitive-array-said : (i n : ℕ) (c : PrimitiveCode) (vs : List ℕ) → drop at s ≡ enc (primitiveArray i n c vs) ++ q
-      → RowOf (primitiveArray i n c vs) at w → whatFrom s rows w ≡ aPrimitiveArray n c vs
+  pub primitive-array-said : (i n : ℕ) (c : PrimitiveCode) (vs : List Prefixed) → Values c n vs → drop at s ≡ enc (primitiveArray i n c vs) ++ q
+      → RowOf (primitiveArray i n c vs) at w → whatFrom s rows w ≡ aPrimitiveArray n c (textsOf vs)
   unfolding enc whatFrom
-  primitive-array-said i n c vs d r =
-      let e = at + length (enc (primitiveArray i n c vs)) in
+  primitive-array-said i n c vs g d r =
       let l : length (leBytes 4 n) ≡ 4 = length-leBytes 4 n in
-      let k : length (leBytes 4 i ++ (leBytes 4 n ++ (codeNumber c ∷ vs))) ≡ 9 + length vs = simp (length-append, length-leBytes) (omega arith) in
-      let a : drop (at + 5) s ≡ leBytes 4 n ++ (codeNumber c ∷ (vs ++ q)) =
-      after-id s q at 15 i (leBytes 4 n ++ (codeNumber c ∷ vs)) d ∙ append-assoc (leBytes 4 n) (codeNumber c ∷ vs) q in
-      let b : drop (at + 9) s ≡ codeNumber c ∷ (vs ++ q) = rest-there s (leBytes 4 n) (codeNumber c ∷ (vs ++ q)) (at + 5) (at + 9) (omega arith) a in
-      let f : codeFrom s (at + 9) ≡ c = code-there s (vs ++ q) c (at + 9) b in
-      let g : drop (at + 10) s ≡ vs ++ q = rest-there s (codeNumber c ∷ []) (vs ++ q) (at + 9) (at + 10) (omega arith) b in
-      let h : part s (at + 10) (e - (at + 10)) ≡ vs = part-there s vs q (at + 10) e (omega arith) g in
-      ap (whatFrom s rows) (row-like w (r .kind-is) (r .offset-is) (r .end-is) (r .count-is)) ∙ rw (f, h)
+      let x = itemsBytes vs in
+      let a : drop (at + 5) s ≡ leBytes 4 n ++ (codeNumber c ∷ (x ++ q)) =
+      after-id s q at 15 i (leBytes 4 n ++ (codeNumber c ∷ x)) d ∙ append-assoc (leBytes 4 n) (codeNumber c ∷ x) q in
+      let b : drop (at + 9) s ≡ codeNumber c ∷ (x ++ q) = rest-there s (leBytes 4 n) (codeNumber c ∷ (x ++ q)) (at + 5) (at + 9) (omega arith) a in
+      let f : codeFrom s (at + 9) ≡ c = code-there s (x ++ q) c (at + 9) b in
+      let e : drop (at + 10) s ≡ x ++ q = rest-there s (codeNumber c ∷ []) (x ++ q) (at + 9) (at + 10) (omega arith) b in
+      ap (whatFrom s rows) (row-like w (r .kind-is) (r .offset-is) refl (r .count-is))
+      ∙ rw f (ap (aPrimitiveArray n c) (items-there s c n vs q (at + 10) g e))
 
-  pub value-said : (v : List ℕ) → drop at s ≡ enc (value v) ++ q → RowOf (value v) at w → whatFrom s rows w ≡ aValue v
-  unfolding enc whatFrom
-  value-said v d r =
-      ap (whatFrom s rows) (row-like w (r .kind-is) (r .offset-is) (r .end-is) refl) ∙ ap aValue (part-there s v q at (at + length v) refl d)
+  -- a member value, by the code of the slot that its row names
+  pub value-said : (c : PrimitiveCode) (v : Prefixed) → Value c v → valueCode s rows w ≡ c → drop at s ≡ enc (value c v) ++ q → RowOf (value c v) at w
+      → whatFrom s rows w ≡ aValue c (v .text)
+  unfolding enc
+  value-said c v g e d r =
+      value-row s rows w (r .kind-is) ∙ (ap (λ (x : PrimitiveCode). aValue x (contentFrom s x (w .offset))) e
+      ∙ (ap (λ (x : ℕ). aValue c (contentFrom s c x)) (r .offset-is) ∙ ap (aValue c) (content-is s c v q at g d)))
 
-  pub array-said : (i t : ℕ) (ns : List ℕ) (x : Detail ℕ) (vs : List ℕ) → Shape t ns → OwnDetail x → drop at s ≡ enc (array i t ns x vs) ++ q
-      → RowOf (array i t ns x vs) at w → whatFrom s rows w ≡ anArray t ns (named (libraryName s rows) x) vs
+  pub array-said : (i t : ℕ) (ns : List ℕ) (x : Detail Prefixed ℕ) (vs : List Prefixed) → Shape t ns → OwnDetail x → ItemsOf x (product ns) vs
+      → drop at s ≡ enc (array i t ns x vs) ++ q → RowOf (array i t ns x vs) at w → whatFrom s rows w ≡ anArray t ns (named (libraryName s rows) x) (textsOf vs)
   unfolding enc whatFrom arrayFrom
-  array-said i t ns x vs g h d r =
-      let items = infoBytes x ++ vs in
+  array-said i t ns x vs g h y d r =
+      let items = infoBytes x ++ itemsBytes vs in
       let item = typeByte x ∷ items in
       let rank = leBytes 4 (length ns) in
-      let e = at + length (enc (array i t ns x vs)) in
       let l : length rank ≡ 4 = length-leBytes 4 (length ns) in
       let n = length-numbers-bytes ns in
-      let k : length (leBytes 4 i ++ (t ∷ (rank ++ (numbersBytes ns ++ item)))) ≡ 10 + 4 * length ns + length (infoBytes x) + length vs =
-      simp (length-append, length-leBytes) (omega arith) in
       let a = after-id s q at 7 i (t ∷ (rank ++ (numbersBytes ns ++ item))) d in
       let b : drop (at + 6) s ≡ rank ++ ((numbersBytes ns ++ item) ++ q) =
       rest-there s (t ∷ []) ((rank ++ (numbersBytes ns ++ item)) ++ q) (at + 5) (at + 6) (omega arith) a ∙ append-assoc rank (numbersBytes ns ++ item) q in
@@ -465,28 +613,26 @@ module _ (s : List ℕ) (rows : List Row) (w : Row) (at : ℕ) (q : List ℕ) wh
       rest-there s rank ((numbersBytes ns ++ item) ++ q) (at + 6) (at + 10) (omega arith) b ∙ append-assoc (numbersBytes ns) item q in
       let p = at + 10 + 4 * length ns in
       let f = rest-there s (numbersBytes ns) (item ++ q) (at + 10) p (omega arith) c in
-      let u : drop (p + 1) s ≡ infoBytes x ++ (vs ++ q) = byte-rest s (items ++ q) (typeByte x) p f ∙ append-assoc (infoBytes x) vs q in
-      let y = detail-there s (vs ++ q) (p + 1) rows x h u in
-      let m = p + 1 + length (infoBytes x) in
-      let v : part s m (e - m) ≡ vs = part-there s vs q m e (omega arith) (y .2) in
-      ap (whatFrom s rows) (row-like w (r .kind-is) (r .offset-is) (r .end-is) refl)
+      let u : drop (p + 1) s ≡ infoBytes x ++ (itemsBytes vs ++ q) = byte-rest s (items ++ q) (typeByte x) p f ∙ append-assoc (infoBytes x) (itemsBytes vs) q in
+      let z = detail-there s (itemsBytes vs ++ q) (p + 1) rows x h u in
+      ap (whatFrom s rows) (row-like w (r .kind-is) (r .offset-is) refl (r .count-is))
       ∙ rw (
         byte-there s ((rank ++ (numbersBytes ns ++ item)) ++ q) t (at + 5) a,
         number-there s ((numbersBytes ns ++ item) ++ q) (length ns) (at + 6) b (rank-bits (g .ranked)),
         numbers-there s ns (item ++ q) (at + 10) (g .lengths) c,
         byte-there s (items ++ q) (typeByte x) p f,
-        y .0,
-        y .1,
-        v,
+        z .0,
+        z .1,
       )
+      (ap (anArray t ns (named (libraryName s rows) x)) (items-of-there s q (p + 1) (product ns) vs x y u))
 
-  pub library-said : (i : ℕ) (n : List ℕ) → Name n → drop at s ≡ enc (library i n) ++ q → w .offset ≡ at → textFrom s (w .offset + 5) ≡ n
+  pub library-said : (i : ℕ) (n : Prefixed) → Name n → drop at s ≡ enc (library i n) ++ q → w .offset ≡ at → textFrom s (w .offset + 5) ≡ n .text
   unfolding enc
-  library-said i n g d z = ap (λ (p : ℕ). textFrom s (p + 5)) z ∙ text-is s n q (at + 5) g (after-id s q at 12 i (stringBytes n) d)
+  library-said i n g d z = ap (λ (p : ℕ). textFrom s (p + 5)) z ∙ text-is s n q (at + 5) g (after-id s q at 12 i (bytesIn n) d)
 
 -- ---- nodes
 
--- the class of a record of kind 1 and the target of a reference, from the row's link
+-- the class of a record of kind 1 and the target of a reference, from the row's link; the code of a member value, from its owner and slot
 module _ (s : List ℕ) (rows : List Row) (of : ℕ → Class) (order : ℕ → ℕ) where
   abbrev pub LinkIs : Rec → Row → Type 0
   LinkIs (header r h) w = Unit {0}
@@ -505,7 +651,7 @@ module _ (s : List ℕ) (rows : List Row) (of : ℕ → Class) (order : ℕ → 
   LinkIs (primitiveArray i n c vs) w = Unit {0}
   LinkIs (objectArray i n) w = Unit {0}
   LinkIs (stringArray i n) w = Unit {0}
-  LinkIs (value v) w = Unit {0}
+  LinkIs (value c v) w = valueCode s rows w ≡ c
 
 module _ (s : List ℕ) (rows : List Row) (w : Row) where
   -- in the slot of the row
@@ -532,15 +678,15 @@ module _ (s : List ℕ) (rows : List Row) (w : Row) where
   nodes-there of order q at (libraryClass i n ms k) d r g l =
       by-kind 5 (r .kind-is) ∙ one (library-class-said s rows w at q i n ms k (g .0) (g .1) (g .2) d r)
   nodes-there of order q at (string i x) d r g l = by-kind 6 (r .kind-is) ∙ one (string-said s rows w at q i x g d r)
-  nodes-there of order q at (array i t ns x vs) d r g l = by-kind 7 (r .kind-is) ∙ one (array-said s rows w at q i t ns x vs (g .0) (g .1) d r)
-  nodes-there of order q at (typedPrimitive c v) d r g l = by-kind 8 (r .kind-is) ∙ one (typed-primitive-said s rows w at q c v d r)
+  nodes-there of order q at (array i t ns x vs) d r g l = by-kind 7 (r .kind-is) ∙ one (array-said s rows w at q i t ns x vs (g .0) (g .1) (g .2) d r)
+  nodes-there of order q at (typedPrimitive c v) d r g l = by-kind 8 (r .kind-is) ∙ one (typed-primitive-said s rows w at q c v g d r)
   nodes-there of order q at (reference i) d r g l = by-kind 9 (r .kind-is) ∙ one (reference-said s rows w at i r ∙ ap aReference l)
   nodes-there of order q at null d r g l = by-kind 10 (r .kind-is)
   nodes-there of order q at (nulls n) d r g l = by-kind 13 (r .kind-is)
   nodes-there of order q at (manyNulls n) d r g l = by-kind 14 (r .kind-is)
   nodes-there of order q at end d r g l = by-kind 11 (r .kind-is)
   nodes-there of order q at (library i n) d r g l = by-kind 12 (r .kind-is)
-  nodes-there of order q at (primitiveArray i n c vs) d r g l = by-kind 15 (r .kind-is) ∙ one (primitive-array-said s rows w at q i n c vs d r)
+  nodes-there of order q at (primitiveArray i n c vs) d r g l = by-kind 15 (r .kind-is) ∙ one (primitive-array-said s rows w at q i n c vs g d r)
   nodes-there of order q at (objectArray i n) d r g l = by-kind 16 (r .kind-is) ∙ one (object-array-said s rows w at i n r)
   nodes-there of order q at (stringArray i n) d r g l = by-kind 17 (r .kind-is) ∙ one (string-array-said s rows w at i n r)
-  nodes-there of order q at (value v) d r g l = by-kind 32 (r .kind-is) ∙ one (value-said s rows w at q v d r)
+  nodes-there of order q at (value c v) d r g l = by-kind 32 (r .kind-is) ∙ one (value-said s rows w at q c v g l d r)

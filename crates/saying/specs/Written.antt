@@ -13,8 +13,8 @@ use Rattle.format.specs.declared.SlotType.{SlotType}
 use Rattle.format.specs.declared.SlotType.the-variants as S
 use Rattle.format.specs.Bytes.{pick, sameBytes}
 use Rattle.format.specs.Rows.{isObject}
-use Rattle.format.specs.Contents.{Detail, primitive, text, object, system, class, objects, texts, primitives, slotFor, Rec, null, library}
-use Rattle.format.specs.Grammar.{Entry, another, aClass, aLibrary, ClassId, ObjectId, Name, ClassInfo, takesObjects, product, of-objects, of-strings, of-primitives, of-any, of-values, takesRecords, allTake}
+use Rattle.format.specs.Contents.{Prefixed, shortest, Detail, primitive, text, object, system, class, objects, texts, primitives, slotFor, Rec, null, library}
+use Rattle.format.specs.Grammar.{Entry, another, aClass, aLibrary, ClassId, ObjectId, Characters, ClassInfo, takesObjects, product, of-objects, of-strings, of-primitives, of-any, of-values, takesRecords, allTake}
 use Rattle.format.specs.Grammar as G
 use Rattle.format.specs.Says.{From, theSystem, theLibrary, Class, What, anObject, aString, anArray, aPrimitive, aReference, aNull, aPrimitiveArray, anObjectArray, aStringArray, aValue, Node}
 use Rattle.format.specs.Tidy.{sameClass, numberIn, Progress, nothing, Libraries, libraryRecords, entered, allEntered, detailNeeds, membersNeed, fromNeeds, classNeeds, detailBy, membersBy, classBy, objectBy, afterObject, recordsOf, afterWhat, runOf}
@@ -23,6 +23,7 @@ use Rattle.fields.specs.Judged.{picked}
 use Rattle.laws.specs.Numbers.{entered-new, entered-old, afterNodes}
 use Rattle.laws.specs.Runs.{Sort, a-null, plain, sort-of}
 use Rattle.saying.specs.Good.{GoodClass, slotsOf, Place, place, shut, ownerOf, slotOf, openedIn, Allowed, top-object, top-string, top-objects, top-strings, top-primitives, top-array, top-values, in-object, in-string, in-primitive, in-reference, in-null, in-value, countOf, itemSlots, openAfter, Fits, the-end, a-node}
+use Rattle.saying.specs.Prefixes.{shortest-name, value-by, values-by}
 use Rattle.saying.specs.There.{kindOf}
 use Rattle.saying.specs.Numbers.{Listed, number-within, entered-listed, all-listed, Each, a-name, no-name, each-right, Has, all-have, Numbered, numbered-none, numbered-what}
 use Rattle.saying.specs.Shown.{Shown, shown, allShown, packed, Wait, wait, noWait, runShown, squeezed, squeezed-null, squeezed-records}
@@ -167,8 +168,8 @@ module _ (total : ℕ) (few : total < 2147483648) where
   object-id es p k l = record { sign = positive-of (suc (p .count)) (omega arith) (omega arith); fresh = k .used-not (suc (p .count)) (omega arith) }
 
   -- the libraries that are entered, and then what follows
-  module _ (count o n : ℕ) (cs : List (ℕ × Class)) (fs : List Place) (rs : List Rec) (xs : List Shown) (there : (i : ℕ) (x : List ℕ) → Stands fs (library i x) []) where
-    legal-libraries : (names : List (List ℕ)) (ls : Libraries) → Each Name names → Listed ls → length (allEntered names ls) < 2147483648
+  module _ (count o n : ℕ) (cs : List (ℕ × Class)) (fs : List Place) (rs : List Rec) (xs : List Shown) (there : (i : ℕ) (x : Prefixed) → Stands fs (library i x) []) where
+    legal-libraries : (names : List (List ℕ)) (ls : Libraries) → Each Characters names → Listed ls → length (allEntered names ls) < 2147483648
         → ((row : ℕ) (es : List Entry) → Knows es count cs (length (allEntered names ls)) → Legal total count row fs es (allShown o n rs ++ xs))
         → (row : ℕ) (es : List Entry) → Knows es count cs (length ls) → Legal total count row fs es (allShown o n (libraryRecords names ls ++ rs) ++ xs)
     unfolding allEntered libraryRecords
@@ -178,7 +179,7 @@ module _ (total : ℕ) (few : total < 2147483648) where
       where
         go : (m : ℕ) → numberIn (sameBytes x) ls ≡ m
             → ((row : ℕ) (es : List Entry) → Knows es count cs (length (entered x ls)) → Legal total count row fs es (allShown o n (libraryRecords names (entered x ls) ++ rs) ++ xs))
-            → Legal total count row fs es (allShown o n ((pick (eqb (numberIn (sameBytes x) ls) 0) (library (suc (length ls)) x ∷ []) [] ++ libraryRecords names (entered x ls)) ++ rs) ++ xs)
+            → Legal total count row fs es (allShown o n ((pick (eqb (numberIn (sameBytes x) ls) 0) (library (suc (length ls)) (shortest x) ∷ []) [] ++ libraryRecords names (entered x ls)) ++ rs) ++ xs)
         go zero e again =
             let l : length (entered x ls) ≡ suc (length ls) =
             ap length (entered-new x ls e) ∙ (length-append ls ((suc (length ls), x) ∷ []) ∙ omega arith) in
@@ -186,20 +187,22 @@ module _ (total : ℕ) (few : total < 2147483648) where
             let ds : List Entry = es ++ (aLibrary (suc (length ls)) ∷ []) in
             let q : Knows ds count cs (length (entered x ls)) = subst (λ (i : ℕ). Knows ds count cs i) (sym l) (knows-library es count cs (length ls) k) in
             subst
-            (λ (t : Bool). Legal total count row fs es (allShown o n ((pick t (library (suc (length ls)) x ∷ []) [] ++ libraryRecords names (entered x ls)) ++ rs) ++ xs))
+            (λ (t : Bool). Legal total count row fs es (allShown o n ((pick t (library (suc (length ls)) (shortest x) ∷ []) [] ++ libraryRecords names (entered x ls)) ++ rs) ++ xs))
             (sym (eq-eqb (numberIn (sameBytes x) ls) 0 e))
-            (a-record (L.a-library (positive-of (suc (length ls)) (omega arith) (omega arith)) (k .known-not (suc (length ls)) (omega arith)) g) (there (suc (length ls)) x)
+            (a-record
+            (L.a-library (positive-of (suc (length ls)) (omega arith) (omega arith)) (k .known-not (suc (length ls)) (omega arith)) (shortest-name g))
+            (there (suc (length ls)) (shortest x))
             refl refl refl (no-object count) refl refl (again (suc row) ds q))
         go (suc m) e again =
             let q : Knows es count cs (length (entered x ls)) = subst (λ (hs : Libraries). Knows es count cs (length hs)) (sym (entered-old x ls m e)) k in
             subst
-            (λ (t : Bool). Legal total count row fs es (allShown o n ((pick t (library (suc (length ls)) x ∷ []) [] ++ libraryRecords names (entered x ls)) ++ rs) ++ xs))
+            (λ (t : Bool). Legal total count row fs es (allShown o n ((pick t (library (suc (length ls)) (shortest x) ∷ []) [] ++ libraryRecords names (entered x ls)) ++ rs) ++ xs))
             (sym (ne-eqb (numberIn (sameBytes x) ls) 0 (λ z. omega arith)))
             (again row es q)
 
   -- an object of a class, where one may stand
   module _ (p : Progress) (c : Class) (o n : ℕ) (fs : List Place) (xs : List Shown) (h : Numbered p) (g : GoodClass c) (e : o ≡ ownerOf fs) (f : n ≡ slotOf fs)
-      (there : (i : ℕ) (x : List ℕ) → Stands fs (library i x) [])
+      (there : (i : ℕ) (x : Prefixed) → Stands fs (library i x) [])
       (here : (r : Rec) → ofClass (kindOf r) ≡ true → isObject (kindOf r) ≡ true → Stands fs r (slotsOf (c .members)))
       (l : suc (p .count) ≤ total) where
     legal-class : (ls : Libraries) → Listed ls → length ls < 2147483648 → Each (Has ls) (classNeeds c)
@@ -214,7 +217,7 @@ module _ (total : ℕ) (few : total < 2147483648) where
         library-is : (m : List ℕ) → Has ls m → G.LibraryId (numberIn (sameBytes m) ls) es
         library-is = library-there es (p .count) (p .classes) ls w b k
 
-        info : ClassInfo es (c .name) (membersBy ls (c .members))
+        info : ClassInfo es (shortest (c .name)) (membersBy ls (c .members))
         info = class-good es ls library-is c g has
 
         ts : slotsOf (c .members) ≡ G.typesOf (membersBy ls (c .members))
@@ -256,7 +259,7 @@ no-value S.ObjectArray e = refl
 no-value S.StringArray e = refl
 no-value (S.PrimitiveArray c) e = refl
 
-slot-by : (ls : Libraries) (d : Detail (List ℕ)) → slotFor d ≡ slotFor (detailBy ls d)
+slot-by : (ls : Libraries) (d : Detail (List ℕ) (List ℕ)) → slotFor d ≡ slotFor (detailBy ls d)
 slot-by ls (primitive c) = refl
 slot-by ls text = refl
 slot-by ls object = refl
@@ -285,10 +288,10 @@ module _ (total : ℕ) (few : total < 2147483648) (p : Progress) (h : Numbered p
       let m : suc (p .count) ≤ total = omega arith in
       legal-object total few p c o n fs xs h g e f (λ i x. in-library (no-value t q)) (λ r a i. L.in-object q a d) m (numberIn (sameClass c) (p .classes)) refl b again row es k
   legal-node fs (aString x) o n xs (top-string g) e f l b again row es k =
-      a-record (L.a-string (object-id total few es p k l) g) (L.top-object refl) e f refl (one-object (p .count)) refl refl
+      a-record (L.a-string (object-id total few es p k l) (shortest-name g)) (L.top-object refl) e f refl (one-object (p .count)) refl refl
       (again (suc row) _ (after-another (p .libraries) row es k))
   legal-node fs (aString x) o n xs (in-string q g) e f l b again row es k =
-      a-record (L.a-string (object-id total few es p k l) g) (L.in-string q) e f refl (one-object (p .count)) refl refl
+      a-record (L.a-string (object-id total few es p k l) (shortest-name g)) (L.in-string q) e f refl (one-object (p .count)) refl refl
       (again (suc row) _ (after-another (p .libraries) row es k))
   legal-node fs (anArray type ns d vs) o n xs (top-array s g q) e f l b again row es k =
       let ls : Libraries = allEntered (detailNeeds d) (p .libraries) in
@@ -302,10 +305,10 @@ module _ (total : ℕ) (few : total < 2147483648) (p : Progress) (h : Numbered p
       (L.top-object refl) e f refl (one-object (p .count)) refl refl (again (suc row) _ (after-another ls row es k)))
       row es k
   legal-node fs (anArray type ns d vs) o n xs (top-values s g) e f l b again row es k =
-      a-record (an-array (object-id total few es p k l) (of-values s refl g)) (L.top-object refl) e f refl (one-object (p .count)) refl refl
+      a-record (an-array (object-id total few es p k l) (of-values s refl (values-by g))) (L.top-object refl) e f refl (one-object (p .count)) refl refl
       (again (suc row) _ (after-another (p .libraries) row es k))
   legal-node fs (aPrimitive c v) o n xs (in-primitive q g) e f l b again row es k =
-      a-record (L.a-primitive g) (L.in-primitive q) e f refl (no-object (p .count)) refl (sym (append-nil es)) (again (suc row) es k)
+      a-record (L.a-primitive (value-by g)) (L.in-primitive q) e f refl (no-object (p .count)) refl (sym (append-nil es)) (again (suc row) es k)
   legal-node fs (aReference i) o n xs (in-reference q a r) e f l b again row es k =
       a-record (L.a-reference (positive-of i a (omega arith)) r) (L.in-reference q) e f refl (no-object (p .count)) refl (sym (append-nil es)) (again (suc row) es k)
   legal-node fs aNull o n xs (in-null {t = t} {ts = ts} q) e f l b again row es k =
@@ -313,7 +316,7 @@ module _ (total : ℕ) (few : total < 2147483648) (p : Progress) (h : Numbered p
       let i : allTake (t ∷ []) ≡ true = rw q in
       a-record L.a-null (in-nulls one q m i) e f refl (no-object (p .count)) refl (sym (append-nil es)) (again (suc row) es k)
   legal-node fs (aPrimitiveArray i c vs) o n xs (top-primitives a g) e f l b again row es k =
-      a-record (an-array (object-id total few es p k l) (of-primitives a g)) (L.top-object refl) e f refl (one-object (p .count)) refl refl
+      a-record (an-array (object-id total few es p k l) (of-primitives a (values-by g))) (L.top-object refl) e f refl (one-object (p .count)) refl refl
       (again (suc row) _ (after-another (p .libraries) row es k))
   legal-node fs (anObjectArray i) o n xs (top-objects a) e f l b again row es k =
       a-record (an-array (object-id total few es p k l) (of-objects a)) (L.top-object refl) e f refl (one-object (p .count)) refl refl
@@ -321,8 +324,8 @@ module _ (total : ℕ) (few : total < 2147483648) (p : Progress) (h : Numbered p
   legal-node fs (aStringArray i) o n xs (top-strings a) e f l b again row es k =
       a-record (an-array (object-id total few es p k l) (of-strings a)) (L.top-object refl) e f refl (one-object (p .count)) refl refl
       (again (suc row) _ (after-another (p .libraries) row es k))
-  legal-node fs (aValue v) o n xs (in-value g) e f l b again row es k =
-      a-record (L.a-value g) (L.in-value g) e f refl (no-object (p .count)) refl (sym (append-nil es)) (again (suc row) es k)
+  legal-node fs (aValue c v) o n xs (in-value g) e f l b again row es k =
+      a-record (L.a-value (value-by g)) (L.in-value (value-by g)) e f refl (no-object (p .count)) refl (sym (append-nil es)) (again (suc row) es k)
 
 -- ---- all nodes
 

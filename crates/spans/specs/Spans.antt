@@ -73,18 +73,6 @@ module _ (s : List ℕ) (p : ℕ) where
 
 -- ---- the place after n strings
 
-pub texts-none : (s : List ℕ) (n p : ℕ) → n ≤ 0 → afterTexts s n p ≡ p
-unfolding afterTexts
-texts-none s zero p h = refl
-texts-none s (suc n) p h = absurd (omega arith)
-
-pub texts-more : (s : List ℕ) (n p : ℕ) → 0 < n → afterTexts s n p ≡ afterTexts s (n - 1) (afterText s p)
-unfolding afterTexts
-texts-more s zero p h = absurd (omega arith)
-texts-more s (suc n) p h =
-    let d : suc n - 1 ≡ n = omega arith in
-    rw d
-
 pub texts-within : (s : List ℕ) (n p m : ℕ) → p ≤ m → length s ≤ m → (p ≤ afterTexts s n p) × (afterTexts s n p ≤ m)
 unfolding afterTexts
 texts-within s zero p m h g = (omega arith, h)

@@ -33,19 +33,6 @@ pub fn after_text(s: &[u8], at: usize) -> usize
     span.to
 }
 
-// The place after n strings, one after the other.
-pub fn after_texts(s: &[u8], n: u32, at: usize) -> usize
-    ensures { λ r. ⌜ r ≡ afterTexts (now (s .entry)) n at ⌝ }
-{
-    let mut left = n;
-    let mut p = at;
-    while left > 0 {
-        p = after_text(s, p);
-        left -= 1;
-    }
-    p
-}
-
 // The next place, never past the end.
 fn after_byte(s: &[u8], at: usize) -> usize
     ensures { λ r. ⌜ r ≡ past (length (now (s .entry))) at ⌝ }
@@ -60,6 +47,7 @@ fn after_byte(s: &[u8], at: usize) -> usize
 fn after_number(s: &[u8], at: usize) -> usize
     ensures { λ r. ⌜ r ≡ afterNumber (now (s .entry)) at ⌝ }
 {
+    // Past the end at + 4 need not fit.
     if at < s.len() {
         if at + 4 <= s.len() {
             return at + 4;

@@ -12,7 +12,7 @@ use Rattle.format.specs.declared.Where.the-variants as W
 use Rattle.format.specs.declared.Row.{Row}
 use Rattle.format.specs.Rows.{blank, isObject, objectRow, findFrom, isLost, linked}
 use Rattle.format.specs.Records.{allowed}
-use Rattle.format.specs.Machine.{State, Next, go, ended, refuse, Outcome, accepted, refused, step, recordStep, targets, finish, onward, run, start, begin, readOf}
+use Rattle.format.specs.Machine.{State, Next, go, ended, refuse, Outcome, accepted, refused, step, recordStep, finish, onward, run, start, begin, rawOf, withLinks, readOf}
 use Rattle.fields.specs.Judged.{picked}
 use Rattle.lookups.specs.Find.{find-none}
 use Rattle.links.specs.Links.{length-linked, lost-if}
@@ -76,50 +76,52 @@ whole-stands s rows at w h c f =
 
 -- ---- the whole stream
 
--- what the rows of a stream that is taken say, with room for so many
-pub record Taken (s : List ℕ) (room : ℕ) (rows : List Row) : Type 0 where
-  pub raw : List Row
-  pub same : rows ≡ linked raw
+-- before the first step, and after the header's
+pub start-gathered : (s : List ℕ) → Gathered s start
+unfolding endOf
+start-gathered s = record { each = λ i h. absurd (omega arith); place = refl; owners = (apart refl, tt) }
+
+pub header-gathered : (s : List ℕ) (room : ℕ) → NextGathered s (recordStep s room start W.Start)
+unfolding allowed
+header-gathered s room = record-gathered s room start (start-gathered s) W.Start (λ k t. (λ e. refl, λ e. eqb-true k 0 t))
+
+-- what the rows of a stream that is taken say as they are read, with room for so many
+pub record Raw (s : List ℕ) (room : ℕ) (raw : List Row) : Type 0 where
   pub stands : Standing s raw
   pub root : objectRow (getD raw 0 blank .id) raw ≡ 0 → ⊥
   pub targets : (i : ℕ) → i < length raw → getD raw i blank .kind ≡ 9 → objectRow (getD raw i blank .id) raw ≡ 0 → ⊥
-  pub roomy : length rows ≤ room
+  pub roomy : length raw ≤ room
 
-abbrev TakenOf : List ℕ → ℕ → Outcome → Type 0
-TakenOf s room (accepted rows) = Taken s room rows
-TakenOf s room (refused r place) = Unit {0}
+abbrev RawOf : List ℕ → ℕ → Outcome → Type 0
+RawOf s room (accepted raw) = Raw s room raw
+RawOf s room (refused r place) = Unit {0}
 
 module _ (s : List ℕ) (room : ℕ) (fits : length s ≤ 16777216) where
-  finish-taken : (rows : List Row) (at : ℕ) → Whole s rows at → (length rows ≤ room) × (length rows ≤ length s) → TakenOf s room (finish s rows at)
+  finish-taken : (rows : List Row) (at : ℕ) → Whole s rows at → (length rows ≤ room) × (length rows ≤ length s) → RawOf s room (finish s rows at)
   unfolding finish
   finish-taken rows at w c =
-      picked (TakenOf s room) (ltb at (length s)) (λ t. tt)
-      (λ t. picked (TakenOf s room) (eqb (objectRow (getD rows 0 blank .id) rows) 0) (λ u. tt)
-      (λ u. picked (TakenOf s room) (eqb (findFrom (isLost rows) 0 rows) 0)
-      (λ v.
-      let l = length-linked rows in
-      let a = c .0 in
-      record {
-        raw = rows;
-        same = refl;
+      picked (RawOf s room) (ltb at (length s)) (λ t. tt)
+      (λ t. picked (RawOf s room) (eqb (objectRow (getD rows 0 blank .id) rows) 0) (λ u. tt)
+      (λ u. picked (RawOf s room) (eqb (findFrom (isLost rows) 0 rows) 0)
+      (λ v. record {
         stands = whole-stands s rows at w (ltb-false at (length s) t) (c .1) fits;
         root = eqb-false (objectRow (getD rows 0 blank .id) rows) 0 u;
         targets = λ i h k.
             let r = getD rows i blank in
             let o = objectRow (r .id) rows in
             eqb-false o 0 (lost-if rows r r refl o k refl ∙ find-none (isLost rows) 0 rows (eqb-true (findFrom (isLost rows) 0 rows) 0 v) i h);
-        roomy = omega arith;
+        roomy = c .0;
       })
       (λ v. tt)))
 
   -- after a step, where what follows says it
-  next-taken : (f : State → Outcome) → ((st : State) → Gathered s st → 0 < length (st .rows) → Fine s room st → TakenOf s room (f st))
-      → (at : ℕ) (x : Next) → NextGathered s x → NextFine s room at x → TakenOf s room (onward s f x)
+  next-taken : (f : State → Outcome) → ((st : State) → Gathered s st → 0 < length (st .rows) → Fine s room st → RawOf s room (f st))
+      → (at : ℕ) (x : Next) → NextGathered s x → NextFine s room at x → RawOf s room (onward s f x)
   next-taken f g at (go st) w v = g st (w .0) (w .1) (v .0)
   next-taken f g at (ended rows end) w v = finish-taken rows end w v
   next-taken f g at (refuse r place) w v = tt
 
-  run-taken : (k : ℕ) (st : State) → Gathered s st → 0 < length (st .rows) → Fine s room st → TakenOf s room (run k s room st)
+  run-taken : (k : ℕ) (st : State) → Gathered s st → 0 < length (st .rows) → Fine s room st → RawOf s room (run k s room st)
   unfolding run
   run-taken zero st w n f = tt
   run-taken (suc k) st w n f = next-taken (run k s room) (run-taken k) (st .at) (step s room st) (step-gathered s room st w n) (step-fine s room st f)
@@ -129,17 +131,35 @@ module _ (s : List ℕ) (room : ℕ) (fits : length s ≤ 16777216) where
   begin-onward (ended rows at) = refl
   begin-onward (refuse r place) = refl
 
-  header-taken : TakenOf s room (begin s room (recordStep s room start W.Start))
-  unfolding endOf allowed
+  header-taken : RawOf s room (begin s room (recordStep s room start W.Start))
   header-taken =
-      subst (λ (x : Outcome). TakenOf s room x) (begin-onward (recordStep s room start W.Start))
-      (next-taken (run (length s) s room) (run-taken (length s)) 0 (recordStep s room start W.Start)
-      (record-gathered s room start (record { each = λ i h. absurd (omega arith); place = refl; owners = (apart refl, tt) }) W.Start
-      (λ k t. (λ e. refl, λ e. eqb-true k 0 t)))
+      subst (λ (x : Outcome). RawOf s room x) (begin-onward (recordStep s room start W.Start))
+      (next-taken (run (length s) s room) (run-taken (length s)) 0 (recordStep s room start W.Start) (header-gathered s room)
       (record-fine s room start (record { inside = omega arith; counted = omega arith; roomy = omega arith; shallow = omega arith }) W.Start))
+
+pub raw-stands : (s : List ℕ) (room : ℕ) (raw : List Row) → rawOf s room ≡ accepted raw → Raw s room raw
+unfolding rawOf
+raw-stands s room raw e =
+    subst (λ (x : Outcome). RawOf s room x) e
+    (picked (RawOf s room) (ltb 16777216 (length s)) (λ t. tt) (λ t. header-taken s room (ltb-false 16777216 (length s) t)))
+
+-- the rows of a stream that is taken, and as they were read
+pub record Taken (s : List ℕ) (room : ℕ) (rows : List Row) : Type 0 where
+  pub raw : List Row
+  pub same : rows ≡ linked raw
+  pub reads : rawOf s room ≡ accepted raw
+  pub stands : Standing s raw
+  pub roomy : length rows ≤ room
 
 pub accepted-stands : (s : List ℕ) (room : ℕ) (rows : List Row) → readOf s room ≡ accepted rows → Taken s room rows
 unfolding readOf
-accepted-stands s room rows e =
-    subst (λ (x : Outcome). TakenOf s room x) e
-    (picked (TakenOf s room) (ltb 16777216 (length s)) (λ t. tt) (λ t. header-taken s room (ltb-false 16777216 (length s) t)))
+accepted-stands s room rows e = go (rawOf s room) refl e
+  where
+    go : (o : Outcome) → rawOf s room ≡ o → withLinks o ≡ accepted rows → Taken s room rows
+    go (accepted raw) q e =
+        let same : rows ≡ linked raw = cc in
+        let w = raw-stands s room raw q in
+        let l = ap length same ∙ length-linked raw in
+        let a = w .roomy in
+        record { raw = raw; same = same; reads = q; stands = w .stands; roomy = omega arith }
+    go (refused r place) q e = absurd (let n : _≡_ {A = ℕ} 0 1 = cc in omega arith)

@@ -1,10 +1,12 @@
 -- What good fields of array records say, field by field: kinds 7, 15, 16 and 17.
 use Prim.Native.Nat.{ℕ, zero, suc, _+_, _*_, _≤_}
 use mathlib.Core.Path.{_≡_, refl, sym, ap, subst, _∙_}
+use mathlib.Core.Bool.{Bool, true, false}
 use mathlib.Core.List.{List}
 use native.Mathlib.Omega.{arith}
 use lib.ListN.{length, getD}
-use lib.Dec.{ltb, leb}
+use lib.Dec.{ltb, leb, eqb}
+use borrow.Author.Tests.{ne-eqb}
 use Rattle.format.specs.declared.SlotType.{SlotType}
 use Rattle.format.specs.declared.SlotType.the-variants as S
 use Rattle.format.specs.declared.Number32.{Number32}
@@ -16,9 +18,10 @@ use Rattle.format.specs.declared.Head.{Head}
 use Rattle.format.specs.declared.Heading.{Heading}
 use Rattle.format.specs.declared.Heading.the-variants as H
 use Rattle.format.specs.declared.Row.{Row}
+use Rattle.format.specs.Bytes.{pick}
 use Rattle.format.specs.Numbers.{u32At, negative}
 use Rattle.format.specs.Values.{itemsAt}
-use Rattle.format.specs.Types.{primitiveOf, coded, codeAt, typeByteAt, typedAt}
+use Rattle.format.specs.Types.{primitiveOf, coded, codeAt, typeByteAt, slotOf, typedAt}
 use Rattle.format.specs.Records.{onSlots, goodId, infoKnown, slotArrayAt, withItems, primitiveArrayAt, goodRank, onLength, lengthsAt, itemsOf, itemTypeAt, rankAt, binaryArrayAt, headingAt}
 use Rattle.fields.specs.Judged.{picked}
 use Rattle.types.specs.Keeps.{code-told, type-told}
@@ -41,6 +44,7 @@ pub record Primitives (s : List ℕ) (at count end : ℕ) : Type 0 where
   pub count-at : u32At s (at + 5) ≡ N32.Value count (at + 9)
   pub code-at : codeAt s (at + 9) ≡ F.End (at + 10)
   pub items : at + 10 ≤ end
+  pub items-at : itemsAt s (coded (primitiveOf (getD s (at + 9) 0))) count (at + 10) ≡ F.End end
 
 module _ (s : List ℕ) (at : ℕ) where
   -- the length, by the place of the record
@@ -84,18 +88,34 @@ module _ (s : List ℕ) (at : ℕ) where
           count-at = e .0;
           code-at = subst (λ (q : ℕ). codeAt s q ≡ F.End (at + 10)) k (f ∙ ap F.End l);
           items = omega arith;
+          items-at =
+              subst (λ (q : ℕ). itemsAt s (coded (primitiveOf (getD s q 0))) n (at + 10) ≡ F.End end) k
+              (subst (λ (x : ℕ). itemsAt s code n x ≡ F.End end) l g);
         })))))
         (λ b. tt))
 
 -- ---- kind 7: array type, rank, lengths, the type byte and the detail of the items
 
-pub record Array (s : List ℕ) (rows : List Row) (at end : ℕ) : Type 0 where
+-- where items end whose type's detail ends at `at`: primitive items after as many values, others where they begin
+abbrev Ended : List ℕ → SlotType → ℕ → Head → Type 0
+Ended s (S.Primitive c) at h = itemsAt s c (h .count) at ≡ F.End (h .end)
+Ended s S.Text at h = h .end ≡ at
+Ended s S.Object at h = h .end ≡ at
+Ended s S.SystemClass at h = h .end ≡ at
+Ended s S.Class at h = h .end ≡ at
+Ended s S.ObjectArray at h = h .end ≡ at
+Ended s S.StringArray at h = h .end ≡ at
+Ended s (S.PrimitiveArray c) at h = h .end ≡ at
+
+pub record Array (s : List ℕ) (rows : List Row) (at count end : ℕ) : Type 0 where
   pub rank : ℕ
   pub info-end : ℕ
   pub rank-at : u32At s (at + 6) ≡ N32.Value rank (at + 10)
   pub type-at : typeByteAt s (at + 10 + 4 * rank) ≡ F.End (at + 10 + 4 * rank + 1)
   pub info-at : infoKnown s rows (getD s (at + 10 + 4 * rank) 0) (at + 10 + 4 * rank + 1) ≡ F.End info-end
   pub items : info-end ≤ end
+  pub items-at : getD s (at + 10 + 4 * rank) 0 ≡ 0 → itemsAt s (coded (primitiveOf (getD s (at + 10 + 4 * rank + 1) 0))) count info-end ≡ F.End end
+  pub no-items : (getD s (at + 10 + 4 * rank) 0 ≡ 0 → ⊥) → end ≡ info-end
 
 -- lengths that are taken end at this place
 abbrev EndAt : ℕ → Slots → Type 0
@@ -120,25 +140,55 @@ module _ (s : List ℕ) where
   of-lengths P k (L.Product n end) e q f = subst (λ (e : ℕ). Of P (k n e)) (sym q) (f n)
   of-lengths P k (L.Fault x) e q f = tt
 
+  items-ended : (slot : SlotType) (id n infos at : ℕ) → Of (Ended s slot at) (itemsOf s id n infos at slot)
+  items-ended (S.Primitive c) id n infos at = of-field (Ended s (S.Primitive c) at) _ (itemsAt s c n at) (λ end a. a)
+  items-ended S.Text id n infos at = refl
+  items-ended S.Object id n infos at = refl
+  items-ended S.SystemClass id n infos at = refl
+  items-ended S.Class id n infos at = refl
+  items-ended S.ObjectArray id n infos at = refl
+  items-ended S.StringArray id n infos at = refl
+  items-ended (S.PrimitiveArray c) id n infos at = refl
+
   -- items end where their type's detail does, or after it
-  items-after : (slot : SlotType) (id n infos at : ℕ) → at ≤ length s → Of (λ h. at ≤ h .end) (itemsOf s id n infos at slot)
-  items-after (S.Primitive c) id n infos at h =
-      of-field (λ h. at ≤ h .end) _ (itemsAt s c n at) (λ end a. let m = items-kept c n .moves s at end h a in omega arith)
-  items-after S.Text id n infos at h = omega arith
-  items-after S.Object id n infos at h = omega arith
-  items-after S.SystemClass id n infos at h = omega arith
-  items-after S.Class id n infos at h = omega arith
-  items-after S.ObjectArray id n infos at h = omega arith
-  items-after S.StringArray id n infos at h = omega arith
-  items-after (S.PrimitiveArray c) id n infos at h = omega arith
+  ended-after : (slot : SlotType) (at : ℕ) (h : Head) → at ≤ length s → Ended s slot at h → at ≤ h .end
+  ended-after (S.Primitive c) at h l e = let m = items-kept c (h .count) .moves s at (h .end) l e in omega arith
+  ended-after S.Text at h l e = omega arith
+  ended-after S.Object at h l e = omega arith
+  ended-after S.SystemClass at h l e = omega arith
+  ended-after S.Class at h l e = omega arith
+  ended-after S.ObjectArray at h l e = omega arith
+  ended-after S.StringArray at h l e = omega arith
+  ended-after (S.PrimitiveArray c) at h l e = omega arith
+
+  -- only items of type 0 are primitive
+  module _ (type code at : ℕ) (h : Head) where
+    ended-items : Ended s (slotOf type code) at h → type ≡ 0 → itemsAt s (coded (primitiveOf code)) (h .count) at ≡ F.End (h .end)
+    unfolding slotOf
+    ended-items e z = subst (λ (t : ℕ). Ended s (slotOf t code) at h) z e
+
+    ended-none : Ended s (slotOf type code) at h → (type ≡ 0 → ⊥) → h .end ≡ at
+    unfolding slotOf
+    ended-none e n = go (eqb type 1) (eqb type 2) (eqb type 3) (eqb type 4) (eqb type 5) (eqb type 6) (rw (ne-eqb type 0 n) at e)
+      where
+        go : (b c d f g i : Bool)
+            → Ended s (pick b S.Text (pick c S.Object (pick d S.SystemClass (pick f S.Class (pick g S.ObjectArray (pick i S.StringArray (S.PrimitiveArray (coded (primitiveOf code)))))))))
+            at h → h .end ≡ at
+        go true c d f g i e = e
+        go false true d f g i e = e
+        go false false true f g i e = e
+        go false false false true g i e = e
+        go false false false false true i e = e
+        go false false false false false true e = e
+        go false false false false false false e = e
 
   module _ (rows : List Row) (at : ℕ) where
     abbrev ArrayOf : Head → Type 0
-    ArrayOf h = Array s rows at (h .end)
+    ArrayOf h = Array s rows at (h .count) (h .end)
 
     -- after the lengths
     of-items : (rank id n : ℕ) → u32At s (at + 6) ≡ N32.Value rank (at + 10) → Of ArrayOf (itemTypeAt s rows id n (at + 10 + 4 * rank))
-    unfolding itemTypeAt
+    unfolding itemTypeAt typedAt
     of-items rank id n r =
         let types : ℕ = at + 10 + 4 * rank in
         of-field ArrayOf _ (typeByteAt s types) (λ infos a.
@@ -146,19 +196,23 @@ module _ (s : List ℕ) where
         let u = type-told s types infos a in
         let e : infos ≡ types + 1 = u .2 in
         let v = info-known-moves s rows (getD s types 0) infos end (omega arith) b in
-        let slot = typedAt s types infos .slot in
-        of-more (itemsOf s id n infos end slot) (λ h l. record {
+        let slot = slotOf (getD s types 0) (getD s infos 0) in
+        of-more slot end (itemsOf s id n infos end slot) (λ h l.
+        let there = ended-items (getD s types 0) (getD s infos 0) end h l in
+        record {
           rank = rank;
           info-end = end;
           rank-at = r;
           type-at = a ∙ ap F.End e;
           info-at = subst (λ (p : ℕ). infoKnown s rows (getD s types 0) p ≡ F.End end) e b;
-          items = l;
-        }) (items-after slot id n infos end (v .1))))
+          items = ended-after slot end h (v .1) l;
+          items-at = λ z. subst (λ (p : ℕ). itemsAt s (coded (primitiveOf (getD s p 0))) (h .count) end ≡ F.End (h .end)) e (there z);
+          no-items = λ z. ended-none (getD s types 0) (getD s infos 0) end h l z;
+        }) (items-ended slot id n infos end)))
       where
-        of-more : {e : ℕ} (x : Heading) → ((h : Head) → e ≤ h .end → ArrayOf h) → Of (λ (h : Head). e ≤ h .end) x → Of ArrayOf x
-        of-more (H.Fields h) f q = f h q
-        of-more (H.Bad x) f q = tt
+        of-more : (slot : SlotType) (e : ℕ) (x : Heading) → ((h : Head) → Ended s slot e h → ArrayOf h) → Of (Ended s slot e) x → Of ArrayOf x
+        of-more slot e (H.Fields h) f q = f h q
+        of-more slot e (H.Bad x) f q = tt
 
     of-rank : (id type p : ℕ) → p ≡ at + 6 → Of ArrayOf (rankAt s rows id type p)
     unfolding rankAt
@@ -186,14 +240,14 @@ module _ (s : List ℕ) where
 
 -- ---- rows
 
-texts-heading : (s : List ℕ) (rows : List Row) (k at : ℕ) → k ≡ 17 → headingAt s rows k at ≡ slotArrayAt s rows S.Text at
+pub texts-heading : (s : List ℕ) (rows : List Row) (k at : ℕ) → k ≡ 17 → headingAt s rows k at ≡ slotArrayAt s rows S.Text at
 unfolding headingAt
 texts-heading s rows k at h = rw h
 
 module _ {s : List ℕ} {before : List Row} {r : Row} (w : Recorded s before r) where
-  pub array-row : r .kind ≡ 7 → Array s before (r .offset) (r .end)
+  pub array-row : r .kind ≡ 7 → Array s before (r .offset) (r .count) (r .end)
   array-row k =
-      row-said w (λ n end. Array s before (r .offset) end) _ (array-heading s before (r .kind) (r .offset) k) (of-array s before (r .offset))
+      row-said w (Array s before (r .offset)) _ (array-heading s before (r .kind) (r .offset) k) (of-array s before (r .offset))
 
   pub primitives-row : r .kind ≡ 15 → Primitives s (r .offset) (r .count) (r .end)
   primitives-row k =

@@ -4,7 +4,7 @@ use mathlib.Core.Path.{_≡_, refl, sym, subst, _∙_}
 use mathlib.Core.Bool.{Bool, true, false}
 use mathlib.Core.List.{List}
 use native.Mathlib.Omega.{arith}
-use lib.ListN.{getD}
+use lib.ListN.{length, getD}
 use lib.Dec.{eqb}
 use borrow.Author.Tests.{eqb-false}
 use Rattle.format.specs.declared.Number32.{Number32}
@@ -17,9 +17,9 @@ use Rattle.format.specs.declared.Heading.the-variants as H
 use Rattle.format.specs.declared.Row.{Row}
 use Rattle.format.specs.Numbers.{u32At, negative}
 use Rattle.format.specs.Values.{times}
-use Rattle.format.specs.Types.{typeByteAt, nameAt}
+use Rattle.format.specs.Types.{typeByteAt, nameAt, typedAt}
 use Rattle.format.specs.Rows.{blank, classRow}
-use Rattle.format.specs.Records.{onNumber, onField, goodClassId, infosAt, afterInfos, membersAt, classAt, classByIdAt, headingAt}
+use Rattle.format.specs.Records.{onNumber, onField, goodClassId, infosAt, afterInfos, within, membersAt, classAt, classByIdAt, headingAt}
 use Rattle.fields.specs.Judged.{picked}
 use Rattle.types.specs.Keeps.{name-moves, types-end}
 use Rattle.class_info.specs.Ends.{number-moves}
@@ -43,6 +43,8 @@ pub record Class (s : List ℕ) (rows : List Row) (own : Bool) (at : ℕ) (h : H
   pub types-at : times (typeByteAt s) (h .count) (h .link) ≡ F.End infos
   pub infos-at : infosAt s rows (h .count) (h .link) infos ≡ F.End after
   pub after-at : afterInfos own s rows after ≡ F.End (h .end)
+  pub slots-are : h .slots ≡ h .count
+  pub first-is : h .first ≡ typedAt s (h .link) infos
 
 -- kind 1: the class is found among the rows before it
 pub record ClassById (s : List ℕ) (rows : List Row) (at : ℕ) (h : Head) : Type 0 where
@@ -54,6 +56,9 @@ pub record ClassById (s : List ℕ) (rows : List Row) (at : ℕ) (h : Head) : Ty
   pub finds : h .link ≡ classRow class rows
   pub some : 0 < h .link
   pub same-count : h .count ≡ getD rows (h .link - 1) blank .count
+  pub slots-are : h .slots ≡ h .count
+  pub first-is : h .first
+      ≡ typedAt s (getD rows (h .link - 1) blank .link) (within (length s) (getD rows (h .link - 1) blank .link + getD rows (h .link - 1) blank .count))
 
 -- what holds of good fields, through numbers, fields and choices
 abbrev pub Of : (Head → Type 0) → Heading → Type 0
@@ -102,6 +107,8 @@ module _ (s : List ℕ) (rows : List Row) (at : ℕ) where
           types-at = g;
           infos-at = i;
           after-at = j;
+          slots-are = refl;
+          first-is = refl;
         }))))))))
         (λ b. tt))
 
@@ -126,6 +133,8 @@ module _ (s : List ℕ) (rows : List Row) (at : ℕ) where
         finds = refl;
         some = omega (arith, n);
         same-count = refl;
+        slots-are = refl;
+        first-is = refl;
       })))
       (λ b. tt))
 

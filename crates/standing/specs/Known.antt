@@ -12,11 +12,11 @@ use Rattle.format.specs.declared.Row.{Row}
 use Rattle.format.specs.Bytes.{pick, part}
 use Rattle.format.specs.Numbers.{le}
 use Rattle.format.specs.Types.{libraryIdAt, infoAt}
-use Rattle.format.specs.Rows.{findFrom, libraryRow, linked}
+use Rattle.format.specs.Rows.{findFrom, libraryRow}
 use Rattle.format.specs.Records.{knownLibrary, ownLibraryAt, infoKnown, infosAt}
 use Rattle.fields.specs.Judged.{no-end}
 use Rattle.fields.specs.Sequence.{through}
-use Rattle.standing.specs.Linked.{library-linked}
+use Rattle.standing.specs.Linked.{relinked, library-linked}
 
 -- a library that is not in the rows was not in those before
 pub record Later (before rows : List Row) : Type 0 where
@@ -33,12 +33,12 @@ find-front p k (r ∷ xs) ys e = go (p r) (find-front p (k + 1) xs ys) e
     go false more e = more e
 
 -- the first i rows, and all rows with their links
-pub first-later : (i : ℕ) (raw : List Row) → Later (take i raw) (linked raw)
+pub first-later : (f : Row → ℕ) (i : ℕ) (raw : List Row) → Later (take i raw) (relinked f raw)
 unfolding libraryRow
-first-later i raw =
+first-later f i raw =
     record {
       unknown = λ id e.
-          let z : libraryRow id (take i raw ++ drop i raw) ≡ 0 = ap (libraryRow id) (take-append-drop i raw) ∙ (sym (library-linked raw id) ∙ e) in
+          let z : libraryRow id (take i raw ++ drop i raw) ≡ 0 = ap (libraryRow id) (take-append-drop i raw) ∙ (sym (library-linked f raw id) ∙ e) in
           find-front _ 0 (take i raw) (drop i raw) z;
     }
 

@@ -8,3 +8,5 @@ pub mod Arrays
 pub mod Linked
 pub mod Known
 pub mod Members
+pub mod Cursors
+pub mod Codes

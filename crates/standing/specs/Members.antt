@@ -2,7 +2,7 @@
 use Prim.Native.Nat.{ℕ, zero, suc, _+_, _-_, _≤_, _<_}
 use mathlib.Core.Path.{_≡_, refl, ap, _∙_}
 use mathlib.Core.Bool.{Bool, true, false, _||_}
-use mathlib.Core.List.{List, [], _∷_, _++_, map}
+use mathlib.Core.List.{List, [], _∷_, _++_}
 use native.Mathlib.Omega.{arith}
 use lib.ListN.{length, getD, take}
 use lib.Seq.{take-suc, take-length}
@@ -10,9 +10,10 @@ use lib.Dec.{eqb}
 use borrow.Author.Tests.{eqb-true}
 use Rattle.format.specs.declared.Row.{Row}
 use Rattle.format.specs.Bytes.{pick}
-use Rattle.format.specs.Rows.{blank, isClass, withLink, linkOf, linked}
+use Rattle.format.specs.Rows.{blank, isClass}
 use Rattle.fields.specs.Judged.{picked}
 use Rattle.standing.specs.Standing.{Recorded, Stood, as-record, stood-moves, Standing}
+use Rattle.standing.specs.Linked.{relinked}
 use Rattle.standing.specs.Fields.{Class, system-row, class-row, class-room}
 
 -- the members of the class in a row of kind 4 or 5
@@ -82,10 +83,7 @@ module _ {s : List ℕ} {raw : List Row} (w : Standing s raw) where
       omega arith
 
 -- links change no member
-pub members-linked : (raw : List Row) → membersIn (linked raw) ≡ membersIn raw
-unfolding linked membersIn
-members-linked raw = go raw
-  where
-    go : (rows : List Row) → membersIn (map (λ (r : Row). withLink r (linkOf raw r)) rows) ≡ membersIn rows
-    go [] = refl
-    go (r ∷ rows) = ap (λ (n : ℕ). membersOf r + n) (go rows)
+pub members-linked : (f : Row → ℕ) (rows : List Row) → membersIn (relinked f rows) ≡ membersIn rows
+unfolding membersIn
+members-linked f [] = refl
+members-linked f (r ∷ rows) = ap (λ (n : ℕ). membersOf r + n) (members-linked f rows)

@@ -50,7 +50,8 @@ module _ (s : List ℕ) (at : ℕ) where
 
   -- 8: a code, and a value after it
   abbrev pub Typed : ℕ → Type 0
-  Typed end = (codeAt s (at + 1) ≡ F.End (at + 2)) × (at + 2 < end)
+  Typed end =
+      (codeAt s (at + 1) ≡ F.End (at + 2)) × (at + 2 < end) × (valueAt s (coded (primitiveOf (getD s (at + 1) 0))) (at + 2) ≡ F.End end)
 
   of-typed : Of (λ h. Typed (h .end)) (typedPrimitiveAt s at)
   unfolding typedPrimitiveAt
@@ -62,7 +63,7 @@ module _ (s : List ℕ) (at : ℕ) where
       let m = code-told s (at + 1) p a in
       let n = value-moves s code p end b in
       let e : p ≡ at + 2 = omega arith in
-      (a ∙ ap F.End e, omega arith)))
+      (a ∙ ap F.End e, omega arith, subst (λ (p : ℕ). valueAt s code p ≡ F.End end) e b)))
 
   -- 13 and 14
   of-nulls : getD s (at + 1) 0 < 256 → Of Few (nullsAt s at)

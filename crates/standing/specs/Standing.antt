@@ -15,6 +15,7 @@ use Rattle.format.specs.declared.Where.the-variants as W
 use Rattle.format.specs.declared.Head.{Head}
 use Rattle.format.specs.declared.Heading.the-variants as H
 use Rattle.format.specs.declared.Row.{Row}
+use Rattle.format.specs.Types.{codeNumber}
 use Rattle.format.specs.Values.{valueAt}
 use Rattle.format.specs.Rows.{blank, isObject}
 use Rattle.format.specs.Records.{isKind, notTaken, inSlot, isClassKind, allowed, headingAt}
@@ -61,7 +62,7 @@ pub record Valued (s : List ℕ) (r : Row) : Type 0 where
   pub kind : r .kind ≡ 32
   pub reads : valueAt s code (r .offset) ≡ F.End (r .end)
   pub no-id : r .id ≡ 0
-  pub no-link : r .link ≡ 0
+  pub link-is : r .link ≡ codeNumber code
   pub no-count : r .count ≡ 0
 
 pub data Stood (s : List ℕ) (before : List Row) (r : Row) : Type 0 where

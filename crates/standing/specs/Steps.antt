@@ -270,10 +270,10 @@ module _ (s : List ℕ) (room : ℕ) (st : State) (w : Gathered s st) where
 
   -- after the header
   module _ (some : 0 < length (st .rows)) where
-    value-gathered : (c : PrimitiveCode) (v : Field) → valueAt s c (st .at) ≡ v → NextGathered s (onValue s room st v)
+    value-gathered : (c : PrimitiveCode) (v : Field) → valueAt s c (st .at) ≡ v → NextGathered s (onValue s room st c v)
     value-gathered c (F.End end) e =
-        slots-gathered 32 (valueHead end) (λ o l x y. record {
-          said = a-value (record { code = c; kind = refl; reads = e; no-id = refl; no-link = refl; no-count = refl });
+        slots-gathered 32 (valueHead c end) (λ o l x y. record {
+          said = a-value (record { code = c; kind = refl; reads = e; no-id = refl; link-is = refl; no-count = refl });
           known = value refl;
           header-first = λ q. absurd (omega arith);
           headed = λ q. absurd (omega arith);

@@ -70,10 +70,11 @@ pub fn take(
     }
 }
 
-// The head of a member value, which has only an end.
-fn value_head(end: usize) -> Head
-    ensures { λ h. ⌜ h ≡ valueHead end ⌝ }
+// The head of a member value that ends here; its link is the number of its code.
+fn value_head(code: PrimitiveCode, end: usize) -> Head
+    ensures { λ h. ⌜ h ≡ valueHead code end ⌝ }
 {
+    let link = slot_words::code_number(code);
     Head {
         id: 0,
         end,
@@ -84,7 +85,7 @@ fn value_head(end: usize) -> Head
             types: 0,
             infos: 0,
         },
-        link: 0,
+        link,
     }
 }
 
@@ -103,7 +104,7 @@ pub fn take_value(
     let v = values::value_at(s, code, m.at);
     match v {
         Field::End(end) => {
-            let h = value_head(end);
+            let h = value_head(code, end);
             let typed = m.top.typed;
             let t = slots::move_on(s, typed);
             taking::take_slots(table, frames, m, 32, h, 1, t)

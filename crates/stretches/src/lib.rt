@@ -1,10 +1,10 @@
-// Rows whose records keep all their bytes in the tidy copy and follow one another in the stream: their bytes are one part of it.
+// Rows whose values keep all their bytes in the tidy copy and follow one another in the stream: their bytes are one part of it.
 use format::Row;
 ghost use mathlib.Core.Path.{_≡_};
 ghost use Prim.Native.Nat.{_≤_};
 ghost use lib.ListN.{drop};
 ghost use Rattle.format.specs.Rows.{roomOf, rowsOf};
-ghost use Rattle.stretches.specs.Stretches.{isKept, isNext, stretch};
+ghost use Rattle.stretches.specs.Stretches.{isPlain, isKept, isNext, stretch};
 
 // The row after the last of them, and the place where they end.
 pub struct Stretch {
@@ -12,39 +12,56 @@ pub struct Stretch {
     pub end: u32,
 }
 
-// MemberPrimitiveTyped (2.5.1 in MS-NRBF) and a member value (MemberPrimitiveUnTyped, 2.5.2).
-fn is_kept(kind: u32) -> bool
-    ensures { λ q. ⌜ q ≡ isKept kind ⌝ }
+// Whether a MemberPrimitiveTyped (2.5.1 in MS-NRBF) is no Decimal, and its value stands behind its kind and its code.
+fn is_plain(s: &[u8], r: Row) -> bool
+    ensures { λ q. ⌜ q ≡ isPlain (now (s .entry)) r ⌝ }
 {
-    match kind {
-        8 => true,
-        32 => true,
-        _ => false,
+    let at = r.offset as usize;
+    if codes::byte_at(s, at + 1) == 5 {
+        return false;
     }
+    at + 2 <= (r.end as usize)
+}
+
+// A value that is no Decimal is kept, whether a member value (MemberPrimitiveUnTyped, 2.5.2) or one with its kind: the prefix of a Decimal
+// may change.
+fn is_kept(s: &[u8], r: Row) -> bool
+    ensures { λ q. ⌜ q ≡ isKept (now (s .entry)) r ⌝ }
+{
+    if r.kind == 32 {
+        if r.link == 5 {
+            return false;
+        }
+        return true;
+    }
+    if r.kind == 8 {
+        return is_plain(s, r);
+    }
+    false
 }
 
 // Whether row r is kept and its bytes begin at this place.
-fn is_next(place: u32, r: Row) -> bool
-    ensures { λ q. ⌜ q ≡ isNext place r ⌝ }
+fn is_next(s: &[u8], place: u32, r: Row) -> bool
+    ensures { λ q. ⌜ q ≡ isNext (now (s .entry)) place r ⌝ }
 {
     if r.offset == place {
         if place <= r.end {
-            return is_kept(r.kind);
+            return is_kept(s, r);
         }
     }
     false
 }
 
 // The stretch that begins with row `first` at this place; one of no rows where that row is not kept, or lies elsewhere.
-pub fn stretch_from(table: &[u32], n: usize, first: usize, place: u32) -> Stretch
+pub fn stretch_from(s: &[u8], table: &[u32], n: usize, first: usize, place: u32) -> Stretch
     requires { ⌜ (first ≤ n) × (n ≤ roomOf (now table)) ⌝ }
-    ensures { λ q. ⌜ q ≡ stretch first place (drop first (rowsOf n (now (table .entry)))) ⌝ }
+    ensures { λ q. ⌜ q ≡ stretch (now (s .entry)) first place (drop first (rowsOf n (now (table .entry)))) ⌝ }
 {
     let mut i = first;
     let mut end = place;
     while i < n {
         let r = table::row_at(table, n, i);
-        if !is_next(end, r) {
+        if !is_next(s, end, r) {
             return Stretch { next: i, end };
         }
         end = r.end;

@@ -1,12 +1,10 @@
--- The prefixed string at a place: one law for each answer, where it stands, that it looks at no other bytes, and that what is written
--- is read and what is read is what is written.
+-- The prefixed string at a place: one law for each answer, where it stands, and that it looks at no other bytes.
 use Prim.Native.Nat.{ℕ, _+_, _-_, _≤_, _<_}
-use mathlib.Core.Path.{_≡_, refl, sym, ap, _∙_}
+use mathlib.Core.Path.{_≡_, ap}
 use mathlib.Core.Bool.{true}
-use mathlib.Core.List.{List, _++_, append-assoc}
+use mathlib.Core.List.{List, _++_}
 use native.Mathlib.Omega.{arith}
-use lib.ListN.{length, getD, drop, length-append, take-append-drop}
-use lib.Seq.{drop-drop}
+use lib.ListN.{length, drop}
 use Rattle.format.specs.declared.Refusal.{Refusal}
 use Rattle.format.specs.declared.Refusal.the-variants as R
 use Rattle.format.specs.declared.Setting.the-variants as S
@@ -16,12 +14,9 @@ use Rattle.format.specs.declared.Field.{Field}
 use Rattle.format.specs.declared.Field.the-variants as F
 use Rattle.format.specs.declared.Text.the-variants as T
 use Rattle.format.specs.Bytes.{part}
-use Rattle.format.specs.Prefix.{prefixAt, prefixBytes}
-use Rattle.format.specs.Text.{wellFormed, textAt, textFrom, afterPrefix, stringAt, stringBytes}
-use Rattle.fields.specs.Parts.{length-part, stands-at}
-use Rattle.fields.specs.Judged.{judgedAt, judged-end}
-use Rattle.prefix.specs.Laws.{moves}
-use Rattle.prefix.specs.Both.{round-trip, converse}
+use Rattle.format.specs.Prefix.{prefixAt}
+use Rattle.format.specs.Text.{wellFormed, textAt, textFrom, afterPrefix, stringAt}
+use Rattle.fields.specs.Judged.{judgedAt}
 use Rattle.text.specs.Laws.{text-taken}
 use Rattle.strings.specs.Counted.{Counted, counted-moves, counted-only}
 
@@ -55,16 +50,16 @@ prefix-told s a e (P.Length n m) q =
 prefix-told s a e (P.Fault f) q = no-part f a e q
 
 -- at p stands a string of n bytes, its text from a to e
-abbrev pub Prefixed : List ℕ → ℕ → ℕ → ℕ → ℕ → Type 0
-Prefixed s p n a e = Counted wellFormed R.BadText s p n a e
+abbrev pub CountedText : List ℕ → ℕ → ℕ → ℕ → ℕ → Type 0
+CountedText s p n a e = Counted wellFormed R.BadText s p n a e
 
-pub string-told : (s : List ℕ) (p a e : ℕ) → stringAt s p ≡ T.Part a e → (n : ℕ) × Prefixed s p n a e
+pub string-told : (s : List ℕ) (p a e : ℕ) → stringAt s p ≡ T.Part a e → (n : ℕ) × CountedText s p n a e
 unfolding stringAt textAt judgedAt
 string-told s p a e q =
     let w = prefix-told s a e (prefixAt S.Strict s p) q in
     (w .0, record { says = w .1; ends = w .2 })
 
-counted-part : (s : List ℕ) (p n a e : ℕ) → Prefixed s p n a e → stringAt s p ≡ T.Part a e
+counted-part : (s : List ℕ) (p n a e : ℕ) → CountedText s p n a e → stringAt s p ≡ T.Part a e
 unfolding textAt judgedAt
 counted-part s p n a e c = string-part s p n a e (c .says) (c .ends)
 
@@ -90,34 +85,3 @@ pub string-only : (s t rest : List ℕ) (p q a e : ℕ) → stringAt s p ≡ T.P
 string-only s t rest p q a e h d =
     let w = string-told s p a e h in
     counted-part t q (w .0) (q + (a - p)) (q + (e - p)) (counted-only wellFormed R.BadText s t rest p q (w .0) a e (w .1) d)
-
--- ---- written and read
-
-pub string-round : (s t rest : List ℕ) (p : ℕ) → drop p s ≡ stringBytes t ++ rest → wellFormed t ≡ true → length t < 2147483648
-    → stringAt s p ≡ T.Part (p + length (prefixBytes (length t))) (p + length (stringBytes t))
-string-round s t rest p d g h =
-    let b = prefixBytes (length t) in
-    let d2 : drop p s ≡ b ++ (t ++ rest) = d ∙ append-assoc b t rest in
-    let f = round-trip (length t) s (t ++ rest) p d2 h in
-    let m = moves S.Strict s p (length t) (p + length b) f in
-    let w = stands-at s b (t ++ rest) p (length b) refl (omega arith) d2 in
-    let x = stands-at s t rest (p + length b) (length t) refl (w .room) (w .after) in
-    let k : p + length b + length t ≡ p + length (stringBytes t) = simp length-append (omega arith) in
-    let e = judged-end wellFormed R.BadText s (p + length b) (length t) (p + length b + length t)
-    (record { ends = refl; room = x .room; good = rw (x .same) g }) in
-    rw (← k) (counted-part s p (length t) (p + length b) (p + length b + length t) (record { says = f; ends = e }))
-
--- a string that is read is written in no other way
-pub string-converse : (s : List ℕ) → ((i : ℕ) → getD s i 0 < 256) → (p a e : ℕ) → stringAt s p ≡ T.Part a e
-    → drop p s ≡ stringBytes (part s a (e - a)) ++ drop e s
-unfolding textAt judgedAt
-string-converse s byte p a e q =
-    let w = string-told s p a e q in
-    let n = w .0 in
-    let t = text-taken s a n e (w .1 .ends) in
-    let k : e - a ≡ n = omega arith in
-    let l = length-part s a n (t .room) in
-    let c = converse s byte p n a (w .1 .says) in
-    let r : drop n (drop a s) ≡ drop e s = drop-drop n a s ∙ ap (λ (i : ℕ). drop i s) (sym (t .ends)) in
-    let f : part s a n ++ drop e s ≡ drop a s = rw (← r) (take-append-drop n (drop a s)) in
-    rw (k, l) (c ∙ (ap (λ (z : List ℕ). prefixBytes n ++ z) (sym f) ∙ sym (append-assoc (prefixBytes n) (part s a n) (drop e s))))

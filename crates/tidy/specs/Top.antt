@@ -1,11 +1,12 @@
 -- The tidy job from its parts: what an accepted reading says of the table, that the copy written from marked rows is the tidy copy, and the table
 -- at the end.
-use Prim.Native.Nat.{ℕ, _≤_, _<_}
-use mathlib.Core.Path.{_≡_, refl, sym, ap, ap₂, _∙_}
+use Prim.Native.Nat.{ℕ, zero, suc, _+_, _≤_, _<_}
+use mathlib.Core.Path.{_≡_, refl, sym, ap, ap₂, subst, _∙_}
 use mathlib.Core.Bool.{Bool, true, false}
 use mathlib.Core.List.{List}
 use native.Mathlib.Omega.{arith}
-use lib.ListN.{length, getD, replicate}
+use lib.ListN.{length, getD, drop, replicate}
+use lib.Seq.{getD-drop}
 use Rattle.format.specs.declared.Refusal.{Refusal}
 use Rattle.format.specs.declared.ReadAnswer.{ReadAnswer}
 use Rattle.format.specs.declared.ReadAnswer.the-variants as A
@@ -13,19 +14,19 @@ use Rattle.format.specs.declared.TidyAnswer.{TidyAnswer}
 use Rattle.format.specs.declared.TidyAnswer.the-variants as Q
 use Rattle.format.specs.declared.Row.{Row}
 use Rattle.format.specs.Bytes.{pick}
-use Rattle.format.specs.Rows.{roomOf, rowsOf}
-use Rattle.format.specs.Machine.{Outcome, accepted, refused, readOf, readAnswer, tableWords}
+use Rattle.format.specs.Rows.{blank, roomOf, rowsOf, linked, bound}
+use Rattle.format.specs.Machine.{Outcome, accepted, refused, rawOf, withLinks, readOf, tableWords}
 use Rattle.format.specs.Says.{says}
 use Rattle.format.specs.Tidy.{tidyOf, fits, answerBy, outBy, tidyAnswer, tidyOutput, tidyTable}
 use Rattle.format.specs.Promises.{TidyPromise, tidy-promised}
-use Rattle.table.specs.Rows.{rowsOf-words, length-rowsOf, room-kept}
-use Rattle.links.specs.Links.{length-linked}
-use Rattle.laws.specs.Answers.{accepted-of, refused-of}
-use Rattle.standing.specs.Accepted.{accepted-stands}
+use Rattle.table.specs.Rows.{length-rowsOf, room-kept}
+use Rattle.links.specs.Links.{length-bound}
+use Rattle.reader.specs.Ends.{outcomeOf, endBy}
+use Rattle.standing.specs.Accepted.{raw-stands}
 use Rattle.marks.specs.Marks.{marked}
 use Rattle.pieces.specs.Copy.{copyOf}
-use Rattle.meaning.specs.FromReading.{stands, members-small, library-slots}
-use Rattle.meaning.specs.Link.{copy-is-tidy}
+use Rattle.meaning.specs.FromReading.{members-small}
+use Rattle.meaning.specs.Bound.{copy-is-tidy}
 use Rattle.meaning.specs.Small.{copy-small}
 
 -- the table after a copy, by the answer
@@ -46,65 +47,85 @@ module _ (s t u : List ℕ) (q : TidyAnswer) where
 
 -- ---- an accepted reading
 
--- the stream s was read into a table that held t, which then held u and n rows
+-- the stream s was read into a table that held t, which then held u and n bound rows
 pub record Read (s t u : List ℕ) (n : ℕ) : Type 0 where
-  pub rows : List Row
-  pub reads : readOf s (roomOf t) ≡ accepted rows
-  pub rows-are : rowsOf n u ≡ rows
+  pub raw : List Row
+  pub reads : rawOf s (roomOf t) ≡ accepted raw
+  pub rows-are : rowsOf n u ≡ bound raw
   pub few : n ≤ 16777216
   pub roomy : n ≤ roomOf u
 
-pub read-of : (s t u : List ℕ) (a : ReadAnswer) (n : ℕ) → a ≡ A.Accepted n → a ≡ readAnswer (readOf s (roomOf t)) → u ≡ tableWords (length t) (readOf s (roomOf t))
-    → length u ≡ length t → Read s t u n
-unfolding tableWords
-read-of s t u a n k e w l =
-    let x = accepted-of (readOf s (roomOf t)) n (sym k ∙ e) in
-    let rows = x .0 in
-    let y = accepted-stands s (roomOf t) rows (x .1) in
-    let z : u ≡ tableWords (length t) (accepted rows) = w ∙ ap (tableWords (length t)) (x .1) in
-    let c : length rows ≡ length (y .raw) = ap length (y .same) ∙ length-linked (y .raw) in
-    let d = y .stands .counted in
-    let f = y .stands .fits in
-    let g = y .roomy in
-    let m = x .2 in
-    let r = room-kept t u l in
-    record {
-      rows = rows;
-      reads = x .1;
-      rows-are = ap (λ (m : ℕ). rowsOf m u) (sym (x .2)) ∙ (ap (rowsOf (length rows)) z ∙ rowsOf-words rows _);
-      few = omega arith;
-      roomy = omega arith;
-    }
+module _ (s t u : List ℕ) (a : ReadAnswer) (l : length u ≡ length t) (e : outcomeOf u a ≡ endBy true (rawOf s (roomOf t))) where
+  pub read-of : (n : ℕ) → a ≡ A.Accepted n → Read s t u n
+  read-of n k = go (rawOf s (roomOf t)) refl (sym (ap (outcomeOf u) k) ∙ e)
+    where
+      go : (o : Outcome) → rawOf s (roomOf t) ≡ o → accepted (rowsOf n u) ≡ endBy true o → Read s t u n
+      go (accepted raw) q e =
+          let y = raw-stands s (roomOf t) raw q in
+          let same : rowsOf n u ≡ bound raw = cc in
+          let c : n ≡ length raw = sym (length-rowsOf n u) ∙ (ap length same ∙ length-bound raw) in
+          let d = y .stands .counted in
+          let f = y .stands .fits in
+          let g = y .roomy in
+          let r = room-kept t u l in
+          record { raw = raw; reads = q; rows-are = same; few = omega arith; roomy = omega arith }
+      go (refused r place) q e = absurd (let z : _≡_ {A = ℕ} 0 1 = cc in omega arith)
+
+  -- a refused reading, and the outcome of the whole
+  pub refused-read : (r : Refusal) (p : ℕ) → a ≡ A.Refused r p → readOf s (roomOf t) ≡ refused r p
+  unfolding readOf
+  refused-read r p k = go (rawOf s (roomOf t)) (sym (ap (outcomeOf u) k) ∙ e)
+    where
+      go : (o : Outcome) → refused r p ≡ endBy true o → withLinks o ≡ refused r p
+      go (accepted raw) e = absurd (let z : _≡_ {A = ℕ} 0 1 = cc in omega arith)
+      go (refused x y) e = sym e
 
 -- ---- the copy
+
+-- a row's words are words of the table
+counts-small : (n : ℕ) (t : List ℕ) → ((i : ℕ) → getD t i 0 < 4294967296) → (j : ℕ) → getD (rowsOf n t) j blank .count < 4294967296
+unfolding rowsOf
+counts-small zero t h j = omega arith
+counts-small (suc n) t h zero = h 7
+counts-small (suc n) t h (suc j) = counts-small n (drop 8 t) (λ i. rw (getD-drop 8 t i 0) (h (8 + i))) j
 
 module _ (s t u v : List ℕ) (n : ℕ) (byte : (i : ℕ) → getD s i 0 < 256) (w : Read s t u n) (m : rowsOf n v ≡ marked s (rowsOf n u)) where
   abbrev copy : List ℕ
   copy = copyOf s (rowsOf n v)
 
-  copy-rows : copy ≡ copyOf s (marked s (w .rows))
+  copy-rows : copy ≡ copyOf s (marked s (bound (w .raw)))
   copy-rows = ap (copyOf s) (m ∙ ap (marked s) (w .rows-are))
 
-  copy-is : copy ≡ tidyOf (says s (w .rows))
-  copy-is =
-      copy-rows
-      ∙ copy-is-tidy s (w .rows) (stands s byte (roomOf t) (w .rows) (w .reads)) (library-slots s (roomOf t) (w .rows) (w .reads))
+  -- the rows of the reading
+  abbrev rows : List Row
+  rows = linked (w .raw)
 
-  pub copy-short : length copy ≤ 18446744073709551615
-  copy-short =
-      let x = accepted-stands s (roomOf t) (w .rows) (w .reads) in
-      let c : length (w .rows) ≡ n = ap length (sym (w .rows-are)) ∙ length-rowsOf n u in
+  reads : readOf s (roomOf t) ≡ accepted rows
+  unfolding readOf
+  reads = ap withLinks (w .reads)
+
+  copy-is : copy ≡ tidyOf (says s rows)
+  copy-is = copy-rows ∙ copy-is-tidy s byte (roomOf t) (w .raw) (w .reads)
+
+  -- the words of the table are words
+  pub copy-short : ((i : ℕ) → getD v i 0 < 4294967296) → length copy ≤ 18446744073709551615
+  copy-short words =
+      let x = raw-stands s (roomOf t) (w .raw) (w .reads) in
+      let c : length (bound (w .raw)) ≡ n = ap length (sym (w .rows-are)) ∙ length-rowsOf n u in
       let f = w .few in
-      rw copy-rows (copy-small s (w .rows) (x .stands .fits) (omega arith) (members-small s (roomOf t) (w .rows) (w .reads)))
+      let same : rowsOf n v ≡ marked s (bound (w .raw)) = m ∙ ap (marked s) (w .rows-are) in
+      rw copy-rows
+      (copy-small s (bound (w .raw)) (x .stands .fits) (omega arith) (members-small s (roomOf t) (w .raw) (w .reads))
+      (subst (λ (rows : List Row). (j : ℕ) → getD rows j blank .count < 4294967296) same (counts-small n v words)))
 
   module _ (d e y : List ℕ) (q : TidyAnswer) (a : q ≡ answerBy copy d) (o : e ≡ outBy copy d) (l : length v ≡ length t) (z : y ≡ restored s v q) where
     answer-is : q ≡ tidyAnswer s d (readOf s (roomOf t))
     unfolding tidyAnswer
-    answer-is = rw (w .reads) (a ∙ ap (λ (c : List ℕ). answerBy c d) copy-is)
+    answer-is = rw reads (a ∙ ap (λ (c : List ℕ). answerBy c d) copy-is)
 
     output-is : e ≡ tidyOutput s d (readOf s (roomOf t))
     unfolding tidyOutput
-    output-is = rw (w .reads) (o ∙ ap (λ (c : List ℕ). outBy c d) copy-is)
+    output-is = rw reads (o ∙ ap (λ (c : List ℕ). outBy c d) copy-is)
 
     by-fits : (b : Bool) (x : ℕ) → restored s v (pick b (Q.Written x) (Q.OutFull x)) ≡ pick b (tableWords (length v) (readOf s (roomOf v))) (replicate (length v) 0)
     by-fits true x = refl
@@ -113,13 +134,13 @@ module _ (s t u v : List ℕ) (n : ℕ) (byte : (i : ℕ) → getD s i 0 < 256) 
     table-is : y ≡ tidyTable (length t) s d (readOf s (roomOf t))
     unfolding tidyTable
     table-is =
-        let c = tidyOf (says s (w .rows)) in
-        let r : readOf s (roomOf v) ≡ accepted (w .rows) = ap (readOf s) (room-kept t v l) ∙ w .reads in
+        let c = tidyOf (says s rows) in
+        let r : readOf s (roomOf v) ≡ accepted rows = ap (readOf s) (room-kept t v l) ∙ reads in
         z
         ∙ (ap (restored s v) (a ∙ ap (λ (c : List ℕ). answerBy c d) copy-is)
         ∙ (by-fits (fits c d) (length c)
         ∙ (ap₂ (λ (o : Outcome) (k : ℕ). pick (fits c d) (tableWords k o) (replicate k 0)) r l
-        ∙ ap (tidyTable (length t) s d) (sym (w .reads)))))
+        ∙ ap (tidyTable (length t) s d) (sym reads))))
 
     -- answer, table and output together
     pub tidied : TidyPromise s t d q y e
@@ -127,17 +148,13 @@ module _ (s t u v : List ℕ) (n : ℕ) (byte : (i : ℕ) → getD s i 0 < 256) 
 
 -- ---- a refused reading
 
-module _ (s t u d : List ℕ) (a : ReadAnswer) (r : Refusal) (p : ℕ) (k : a ≡ A.Refused r p) (e : a ≡ readAnswer (readOf s (roomOf t)))
-    (w : u ≡ tableWords (length t) (readOf s (roomOf t))) where
-  outcome : readOf s (roomOf t) ≡ refused r p
-  outcome = refused-of (readOf s (roomOf t)) r p (sym k ∙ e)
-
+module _ (s t u d : List ℕ) (r : Refusal) (p : ℕ) (outcome : readOf s (roomOf t) ≡ refused r p) (w : u ≡ replicate (length t) 0) where
   refused-answer : Q.Refused r p ≡ tidyAnswer s d (readOf s (roomOf t))
   unfolding tidyAnswer
   refused-answer = rw outcome
 
   refused-table : u ≡ tidyTable (length t) s d (readOf s (roomOf t))
-  unfolding tidyTable tableWords
+  unfolding tidyTable
   refused-table = w ∙ rw outcome
 
   refused-output : d ≡ tidyOutput s d (readOf s (roomOf t))

@@ -1,5 +1,5 @@
-// The tidy copy of a parts list. The lent table is the only scratch memory: after the reading its words hold marks, and at the end the stream is
-// read again, which leaves the reading in it whatever stood there.
+// The tidy copy of a parts list. The lent table is the only scratch memory: the rows are marked as they were read, references with their links, and
+// at the end the stream is read again, which leaves the reading in the table whatever stood there.
 use format::ReadAnswer;
 use format::TidyAnswer;
 ghost use mathlib.Core.Path.{_≡_};
@@ -23,7 +23,7 @@ fn restore(s: &[u8], table: &mut [u32], q: TidyAnswer)
 pub fn tidy(s: &[u8], table: &mut [u32], out: &mut [u8]) -> TidyAnswer
     ensures { λ q. ⌜ TidyPromise (now (s .entry)) (now (table .entry)) (now (out .entry)) q (now (table .exit)) (now (out .exit)) ⌝ }
 {
-    let a = reader::read(s, table);
+    let a = reader::judge(s, table, true);
     match a {
         ReadAnswer::Accepted(n) => {
             marking::mark_all(s, table, n);
@@ -31,6 +31,9 @@ pub fn tidy(s: &[u8], table: &mut [u32], out: &mut [u8]) -> TidyAnswer
             restore(s, table, q);
             q
         }
-        ReadAnswer::Refused(r, place) => TidyAnswer::Refused(r, place),
+        ReadAnswer::Refused(r, place) => {
+            table::clear(table);
+            TidyAnswer::Refused(r, place)
+        }
     }
 }

@@ -1,5 +1,5 @@
 -- One law for each test that decides.
-use Rattle.distinct.specs.Equal.{class-same, class-part, class-kind}
+use Rattle.distinct.specs.Equal.{class-same, class-name, class-count, class-kind}
 use borrow.Author.Needs.{needs}
 use Rattle.distinct.proofs.same_class_row.Statement.{statement}
 use Rattle.distinct.proofs.same_class_row.Tie as tie
@@ -10,23 +10,11 @@ same-class-row-spec =
     (tie.spec
     (λ c. search needs)
     (λ c. search needs)
-    (λ c κs. search needs)
     (λ c. search needs)
     (λ c. search needs)
     (λ c κs. search needs)
     (λ c κs. search needs)
-    (λ c κs. search needs)
-    (λ c.
-    let i = c .before in
-    let s = i .before in
-    let i2 = s .before in
-    let i3 = i2 .before .before in
-    let i4 = i3 .before .before in
-    class-same _ _ _ _ _ _ _ (i3 .infos-place .ensures) (i2 .infos-place2 .ensures) (i4 .if1 .taken) (s .same-between .ensures) _ (i .if2 .taken) (c .same-details .ensures))
-    (λ c.
-    let s = c .before in
-    let i = s .before in
-    let i2 = i .before .before in
-    let i3 = i2 .before .before in
-    class-part _ _ _ _ _ _ _ (i2 .infos-place .ensures) (i .infos-place2 .ensures) (i3 .if1 .taken) (s .same-between .ensures) (c .if2 .left))
+    (λ c. class-same _ _ _ _ (c .before .before .before .before .before .before .before .before .if1 .taken) _ (c .before .before .before .before .before .if2 .taken) (c .before .before .same-text .ensures) _ (c .before .if3 .taken) (c .same-details .ensures))
+    (λ c. class-name _ _ _ _ (c .before .before .before .before .before .before .before .if1 .taken) _ (c .before .before .before .before .if2 .taken) (c .before .same-text .ensures) (c .if3 .left))
+    (λ c. class-count _ _ _ _ (c .before .before .before .if1 .taken) (c .if2 .left))
     (λ c. class-kind _ _ _ _ (c .if1 .left)))

@@ -11,10 +11,10 @@ use Rattle.links.proofs.link_all.Statement.{statement}
 use Rattle.links.proofs.link_all.Tie as tie
 
 abbrev Inv-loop : tie.InvT-loop
-Inv-loop table₀ n i₀ table i = Scan (isLost (rowsOf n table₀)) n table₀ i × (length table ≡ length table₀) × (rowsOf n table ≡ half i (rowsOf n table₀))
+Inv-loop table₀ n keep i₀ table i = Scan (isLost (rowsOf n table₀)) n table₀ i × (length table ≡ length table₀) × (rowsOf n table ≡ half keep i (rowsOf n table₀))
 
 abbrev μ-loop : tie.MeasureT-loop
-μ-loop table₀ n i₀ table i = n - i
+μ-loop table₀ n keep i₀ table i = n - i
 
 pub link-all-spec : {M : Type 1} → statement M
 link-all-spec =
@@ -22,7 +22,7 @@ link-all-spec =
     (tie.spec
     Inv-loop
     μ-loop
-    (λ c. (scan-start _ _ _, refl, half-none _))
+    (λ c. (scan-start _ _ _, refl, half-none _ _))
     (λ c κs. omega arith)
     (λ c κs. search needs)
     (λ c. omega arith)
@@ -32,7 +32,7 @@ link-all-spec =
     let h = c .before .before .before .before .loop-test .taken in
     let x = c .before .before .row-at .ensures in
     let k = sym (c .before .has-link .ensures) ∙ c .if1 .taken in
-    (there-found _ _ _ _ _ h (v .inv .2) x k (v .inv .0), v .inv .1, half-there _ _ _ _ _ h (v .inv .2) x k))
+    (there-found _ _ _ _ _ _ h (v .inv .2) x k (v .inv .0), v .inv .1, half-there _ _ _ _ _ _ h (v .inv .2) x k))
     (λ c κs. (omega arith, omega arith))
     (λ c κs. search needs)
     (λ c. omega arith)
@@ -43,8 +43,8 @@ link-all-spec =
     let h = c .before .before .before .before .before .before .before .before .loop-test .taken in
     let x = c .before .before .before .before .before .before .row-at .ensures in
     let f = c .before .before .link-of .ensures in
-    let r = this-row (a .n) (v .i) _ (a .table .now) _ _ h (v .inv .2) x f in
-    one-lost (a .n) (a .table .now) _ (v .i) (v .inv .2) (v .inv .0) _ _ h r (c .before .is-lost .ensures ∙ lost-told (a .n) (v .i) _ (a .table .now) _ _ h (v .inv .2) x f) (c .if2 .taken))
+    let r = this-row (a .keep) (a .n) (v .i) (a .table .now) _ _ h (v .inv .2) x in
+    one-lost (a .keep) (a .n) (a .table .now) _ (v .i) (v .inv .2) (v .inv .0) _ _ h r (c .before .is-lost .ensures ∙ lost-told (a .keep) (a .n) (v .i) (a .table .now) _ _ h (v .inv .2) x _ f) (c .if2 .taken))
     (λ c κs. omega arith)
     (λ c. omega arith)
     (λ c. omega arith)
@@ -54,10 +54,11 @@ link-all-spec =
     let h = c .before .before .before .before .before .before .before .before .before .before .before .before .loop-test .taken in
     let x = c .before .before .before .before .before .before .before .before .before .before .row-at .ensures in
     let f = c .before .before .before .before .before .before .link-of .ensures in
-    let r = this-row (a .n) (v .i) _ (a .table .now) _ _ h (v .inv .2) x f in (
-      scan-miss _ _ _ (v .i) (v .inv .0) h _ r _ (c .before .before .before .before .before .is-lost .ensures ∙ lost-told (a .n) (v .i) _ (a .table .now) _ _ h (v .inv .2) x f) (c .before .before .before .before .if2 .left),
+    let k = sym (c .before .before .before .before .before .before .before .before .before .has-link .ensures) ∙ c .before .before .before .before .before .before .before .before .if1 .left in
+    let r = this-row (a .keep) (a .n) (v .i) (a .table .now) _ _ h (v .inv .2) x in (
+      scan-miss _ _ _ (v .i) (v .inv .0) h _ r _ (c .before .before .before .before .before .is-lost .ensures ∙ lost-told (a .keep) (a .n) (v .i) (a .table .now) _ _ h (v .inv .2) x _ f) (c .before .before .before .before .if2 .left),
       c .before .before .set-link .kept .0 ∙ v .inv .1,
-      half-step (a .n) (v .i) _ (a .table .now) _ _ h (v .inv .2) x f _ (c .before .before .set-link .ensures),
+      half-step (a .keep) (a .n) (v .i) (a .table .now) _ _ h (v .inv .2) x _ f k _ (c .before .before .set-link .ensures),
     ))
     (λ c. c .before .loop .inv .1)
-    (λ c. all-linked _ _ _ _ (c .before .loop .inv .2) (c .before .loop .inv .0) (omega (arith, c .loop-test .left))))
+    (λ c. all-linked _ _ _ _ _ (c .before .loop .inv .2) (c .before .loop .inv .0) (omega (arith, c .loop-test .left))))

@@ -23,19 +23,15 @@ place-one-spec =
     (λ c κs. search needs)
     (λ c κs. search needs)
     (λ c κs. search needs)
-    (λ c κs. search needs)
-    (λ c κs. search needs)
     (λ c. search needs)
     (λ c.
     let p = c .before .before in
     let w = p .before in
-    let w2 = w .before .before in
-    let t = w2 .before in
-    let i = t .before in
+    let i = w .before .before in
     let i2 = i .before in
     let i3 = i2 .before in
     let r = i3 .before .before in
-    place-class _ _ _ _ (r .row-at .ensures) _ (i3 .if1 .left) (i2 .is-class .ensures) _ _ _ _ (i .if2 .taken) (t .types-place .ensures) (w2 .word .ensures) (w .with-slot .ensures) (p .put-named2 .ensures))
+    place-class _ _ _ _ (r .row-at .ensures) _ (i3 .if1 .left) (i2 .is-class .ensures) _ _ (i .if2 .taken) (w .with-slot .ensures) (p .put-named2 .ensures))
     (λ c. search needs)
     (λ c.
     let i = c .before in

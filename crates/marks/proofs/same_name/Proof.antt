@@ -8,6 +8,10 @@ pub same-name-spec : {M : Type 1} → statement M
 same-name-spec =
     tie.close
     (tie.spec
+    (λ c. search needs)
+    (λ c. search needs)
+    (λ c. search needs)
+    (λ c. search needs)
     (λ c κs. search needs)
-    (λ c. name-same _ _ _ _ (c .before .if1 .taken) (c .same-tail .ensures))
+    (λ c. name-same _ _ _ _ (c .before .before .before .if1 .taken) (c .same-text .ensures))
     (λ c. name-other _ _ _ (c .if1 .left)))

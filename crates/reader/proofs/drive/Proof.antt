@@ -1,23 +1,23 @@
 -- The invariant: what is left to run gives the whole (`Runs`). The measure is what is left of the stream, which each step shortens.
-use mathlib.Core.Path.{_≡_, refl, _∙_}
+use mathlib.Core.Path.{_≡_, refl, ap, _∙_}
 use Prim.Native.Nat.{_-_}
 use native.Mathlib.Omega.{arith}
 use borrow.Author.Needs.{needs}
 use lib.ListN.{length}
 use Rattle.format.specs.Rows.{roomOf}
-use Rattle.format.specs.Machine.{readOf}
+use Rattle.format.specs.Machine.{rawOf}
 use Rattle.adding.specs.Held.{stateOf, after}
 use Rattle.reader.specs.Loop.{Runs, held, same-room, held-room, moves-on, gone, ends, ends-roomy, refuses}
-use Rattle.reader.specs.Ends.{within-room}
+use Rattle.reader.specs.Ends.{endBy, within-room}
 use Rattle.reader.proofs.drive.Statement.{statement}
 use Rattle.reader.proofs.drive.Tie as tie
 
 abbrev Inv-loop : tie.InvT-loop
-Inv-loop s table₀ frames₀ m₀ table frames m =
-    (length table ≡ length table₀) × Runs s (roomOf table₀) (readOf s (roomOf table₀)) table frames m
+Inv-loop s table₀ frames₀ keep m₀ table frames m =
+    (length table ≡ length table₀) × Runs s (roomOf table₀) (rawOf s (roomOf table₀)) table frames m
 
 abbrev μ-loop : tie.MeasureT-loop
-μ-loop s table₀ frames₀ m₀ table frames m = length s - m .at
+μ-loop s table₀ frames₀ keep m₀ table frames m = length s - m .at
 
 pub drive-spec : {M : Type 1} → statement M
 drive-spec =
@@ -70,7 +70,7 @@ drive-spec =
     let g = o .last .1 .1 .0 in
     let e = same-room (v .table) (a .table .now) (a .s .now) (stateOf (v .table) (v .frames) (v .m)) (after u g (o .result)) (v .inv .0) (o .ensures .0) in
     let r = c .before .before .finish-rows in
-    (r .ensures .0 ∙ ends (v .inv .1) u g (o .result) e _ _ (c .before .before .before .before .before .q2 .given .1), within-room u (a .table .now) (r .result) (o .kept .1 .0 ∙ v .inv .0) (r .ensures .1)))
+    (r .ensures .0 ∙ ap (endBy (a .keep)) (ends (v .inv .1) u g (o .result) e _ _ (c .before .before .before .before .before .q2 .given .1)), within-room u (a .table .now) (r .result) (o .kept .1 .0 ∙ v .inv .0) (r .ensures .1)))
     (λ c. search needs)
     (λ c. c .before .before .before .before .before .one-step .kept .1 .0 ∙ c .before .before .before .before .before .before .before .before .loop .inv .0)
     (λ c.
@@ -80,4 +80,4 @@ drive-spec =
     let u = o .last .1 .0 in
     let g = o .last .1 .1 .0 in
     let e = same-room (v .table) (a .table .now) (a .s .now) (stateOf (v .table) (v .frames) (v .m)) (after u g (o .result)) (v .inv .0) (o .ensures .0) in
-    (refuses (v .inv .1) u g (o .result) e _ _ (c .before .q3 .given .1), tt)))
+    (ap (endBy (a .keep)) (refuses (v .inv .1) u g (o .result) e _ _ (c .before .q3 .given .1)), tt)))

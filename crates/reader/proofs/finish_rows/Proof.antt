@@ -2,7 +2,7 @@
 use mathlib.Core.Path.{ap, _∙_}
 use Rattle.format.specs.Rows.{rowsOf}
 use Rattle.format.specs.Machine.{accepted}
-use Rattle.reader.specs.Ends.{trailing, rootless, lost, whole}
+use Rattle.reader.specs.Ends.{endBy, trailing, rootless, lost, whole}
 use borrow.Author.Needs.{needs}
 use Rattle.reader.proofs.finish_rows.Statement.{statement}
 use Rattle.reader.proofs.finish_rows.Tie as tie
@@ -13,7 +13,7 @@ finish-rows-spec =
     (tie.spec
     (λ c.
     let a = c .before .before .before .args in
-    (trailing (a .s .now) (rowsOf (a .rows) (a .table .now)) (a .at) (c .if1 .taken), tt))
+    (ap (endBy (a .keep)) (trailing (a .s .now) (rowsOf (a .rows) (a .table .now)) (a .at) (c .if1 .taken)), tt))
     (λ c κs. search needs)
     (λ c κs. search needs)
     (λ c. search needs)
@@ -21,7 +21,7 @@ finish-rows-spec =
     let a = c .before .before .before .before .before .before .before .before .args in
     let h = c .before .before .before .row-at in
     let o = c .before .find-object in
-    (rootless (a .s .now) (rowsOf (a .rows) (a .table .now)) (a .at) (c .before .before .before .before .before .if1 .left) (h .result) (o .result) (h .ensures) (o .ensures) (c .if2 .taken), tt))
+    (ap (endBy (a .keep)) (rootless (a .s .now) (rowsOf (a .rows) (a .table .now)) (a .at) (c .before .before .before .before .before .if1 .left) (h .result) (o .result) (h .ensures) (o .ensures) (c .if2 .taken)), tt))
     (λ c κs. search needs)
     (λ c. search needs)
     (λ c κs. search needs)
@@ -34,8 +34,8 @@ finish-rows-spec =
     let l = c .before .before .before .before .before .before .link-all in
     let x = c .before .row-at2 in
     let k = c .before .before .before .if3 .taken in (
-      lost (a .s .now) (rowsOf (a .rows) (a .table .now)) (a .at) (c .before .before .before .before .before .before .before .before .before .before .before .before .before .if1 .left) (h .result) (o .result) (h .ensures) (o .ensures) (c .before .before .before .before .before .before .before .before .if2 .left)
-          (l .result) (x .result) (l .ensures .first) k (x .ensures ∙ l .ensures .there k),
+      ap (endBy (a .keep)) (lost (a .s .now) (rowsOf (a .rows) (a .table .now)) (a .at) (c .before .before .before .before .before .before .before .before .before .before .before .before .before .if1 .left) (h .result) (o .result) (h .ensures) (o .ensures) (c .before .before .before .before .before .before .before .before .if2 .left)
+          (l .result) (x .result) (l .ensures .first) k (x .ensures ∙ l .ensures .there k)),
       tt,
     ))
     (λ c. search needs)
@@ -45,7 +45,7 @@ finish-rows-spec =
     let o = c .before .before .before .before .before .before .find-object in
     let l = c .before .before .before .link-all in (
       ap accepted (l .ensures .all (c .if3 .left))
-          ∙ whole (a .s .now) (rowsOf (a .rows) (a .table .now)) (a .at) (c .before .before .before .before .before .before .before .before .before .before .if1 .left) (h .result) (o .result) (h .ensures) (o .ensures) (c .before .before .before .before .before .if2 .left)
-          (l .result) (l .ensures .first) (c .if3 .left),
+          ∙ ap (endBy (a .keep)) (whole (a .s .now) (rowsOf (a .rows) (a .table .now)) (a .at) (c .before .before .before .before .before .before .before .before .before .before .if1 .left) (h .result) (o .result) (h .ensures) (o .ensures) (c .before .before .before .before .before .if2 .left)
+          (l .result) (l .ensures .first) (c .if3 .left)),
       c .before .before .before .before .before .before .before .before .before .before .before .before .before .pre .0,
     )))

@@ -3,7 +3,7 @@ use mathlib.Core.Path.{_≡_, ap, _∙_}
 use native.Mathlib.Omega.{arith}
 use lib.ListN.{length}
 use Rattle.format.specs.Rows.{roomOf}
-use Rattle.reader.specs.Ends.{too-large, fresh-held, runs-room, answered-room, within-room, head-on, head-end, head-roomy, head-bad}
+use Rattle.reader.specs.Ends.{endBy, too-large, fresh-held, runs-room, answered-room, within-room, head-on, head-end, head-roomy, head-bad}
 use borrow.Author.Needs.{needs}
 use Rattle.reader.proofs.judge.Statement.{statement}
 use Rattle.reader.proofs.judge.Tie as tie
@@ -14,7 +14,7 @@ judge-spec =
     (tie.spec
     (λ c.
     let a = c .before .before .before .args in
-    (too-large (a .s .now) (roomOf (a .table .now)) (c .if1 .taken), tt))
+    (ap (endBy (a .keep)) (too-large (a .s .now) (roomOf (a .table .now)) (c .if1 .taken)), tt))
     (λ c κs. search needs)
     (λ c κs. search needs)
     (λ c κs.
@@ -54,7 +54,7 @@ judge-spec =
     let z = c .before .before .before .before .before .before .before .before .before .before .before .before .before .fresh in
     let l = c .before .before .before .before .before .before .before .before .before .before .before .before .before .before .before .if1 .left in
     let r = c .before .before .drive in
-    answered-room (a .s .now) (a .table .now) u (r .last .1 .0) (r .result) (o .kept .1 .0) (r .ensures))
+    answered-room (a .keep) (a .s .now) (a .table .now) u (r .last .1 .0) (r .result) (o .kept .1 .0) (r .ensures))
     (λ c. search needs)
     (λ c.
     let a = c .before .before .before .before .before .before .before .before .before .before .before .before .before .before .before .before .before .args in
@@ -65,7 +65,7 @@ judge-spec =
     let z = c .before .before .before .before .before .before .before .before .before .before .before .before .fresh in
     let l = c .before .before .before .before .before .before .before .before .before .before .before .before .before .before .if1 .left in
     let r = c .before .before .finish-rows in
-    (r .ensures .0 ∙ head-end (a .s .now) (a .table .now) u f g (z .result) l (z .ensures) (o .result) (o .ensures .0) _ _ (c .before .before .before .before .before .q2 .given .1), within-room u (a .table .now) (r .result) (o .kept .1 .0) (r .ensures .1)))
+    (r .ensures .0 ∙ ap (endBy (a .keep)) (head-end (a .s .now) (a .table .now) u f g (z .result) l (z .ensures) (o .result) (o .ensures .0) _ _ (c .before .before .before .before .before .q2 .given .1)), within-room u (a .table .now) (r .result) (o .kept .1 .0) (r .ensures .1)))
     (λ c. search needs)
     (λ c.
     let a = c .before .before .before .before .before .before .before .before .before .before .before .before .before .args in
@@ -75,4 +75,4 @@ judge-spec =
     let f = c .before .before .before .before .before .before .before .before .before .frames .result in
     let z = c .before .before .before .before .before .before .before .before .fresh in
     let l = c .before .before .before .before .before .before .before .before .before .before .if1 .left in
-    (head-bad (a .s .now) (a .table .now) u f g (z .result) l (z .ensures) (o .result) (o .ensures .0) _ _ (c .before .q3 .given .1), tt)))
+    (ap (endBy (a .keep)) (head-bad (a .s .now) (a .table .now) u f g (z .result) l (z .ensures) (o .result) (o .ensures .0) _ _ (c .before .q3 .given .1)), tt)))

@@ -1,5 +1,6 @@
--- Each kind by its number.
-use Rattle.stretches.specs.Stretches.{kept-known, kept-none}
+-- One law for each way.
+use Rattle.stretches.specs.Stretches.{kept-value, kept-decimal, kept-typed, kept-none}
+use borrow.Author.Needs.{needs}
 use Rattle.stretches.proofs.is_kept.Statement.{statement}
 use Rattle.stretches.proofs.is_kept.Tie as tie
 
@@ -7,6 +8,12 @@ pub is-kept-spec : {M : Type 1} → statement M
 is-kept-spec =
     tie.close
     (tie.spec
-    (λ c. kept-known _ 8 (c .match .keys1))
-    (λ c. kept-known _ 32 (c .match .keys2))
-    (λ c. kept-none _ (c .match .rest .0 .1) (c .match .rest .1)))
+    (λ c.
+    let a = c .before .before .before .before .before .args in kept-decimal (a .s .now) (a .r) (c .before .before .if1 .taken) (c .if2 .taken))
+    (λ c.
+    let a = c .before .before .before .before .before .args in kept-value (a .s .now) (a .r) (c .before .before .if1 .taken) (c .if2 .left))
+    (λ c κs. search needs)
+    (λ c.
+    let a = c .before .before .before .before .before .before .args in kept-typed (a .s .now) (a .r) _ (c .before .if3 .taken) (c .is-plain .ensures))
+    (λ c.
+    let a = c .before .before .before .before .before .args in kept-none (a .s .now) (a .r) (c .before .before .if1 .left) (c .if3 .left)))

@@ -1,4 +1,4 @@
--- What is kept, then the details.
+-- The name, then the members.
 use Rattle.put.specs.Put.{joined}
 use borrow.Author.Needs.{needs}
 use Rattle.writing.proofs.put_class_fields.Statement.{statement}
@@ -10,9 +10,6 @@ put-class-fields-spec =
     (tie.spec
     (λ c. search needs)
     (λ c. search needs)
-    (λ c. search needs)
-    (λ c. search needs)
-    (λ c. search needs)
     (λ c κs. search needs)
     (λ c κs. search needs)
     (λ c. search needs)
@@ -21,4 +18,4 @@ put-class-fields-spec =
     (λ c κs. search needs)
     (λ c κs. search needs)
     (λ c. search needs)
-    (λ c. joined _ _ _ _ _ _ _ _ _ (c .before .before .before .before .before .before .before .before .put-part .kept .0) (c .before .before .before .before .before .least .ensures) (c .before .before .before .before .before .before .before .before .put-part .ensures) (c .before .before .before .put-details .ensures) (c .add-up .ensures)))
+    (λ c. joined _ _ _ _ _ _ _ _ _ (c .before .before .before .before .before .before .before .before .put-text .kept .0) (c .before .before .before .before .before .least .ensures) (c .before .before .before .before .before .before .before .before .put-text .ensures) (c .before .before .before .put-counted .ensures) (c .add-up .ensures)))
