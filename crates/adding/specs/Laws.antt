@@ -6,6 +6,7 @@ use mathlib.Core.List.{List, [], _∷_, _++_}
 use native.Mathlib.Omega.{arith}
 use lib.ListN.{length}
 use borrow.Author.Tests.{lt-ltb, le-ltb, eq-eqb, ne-eqb}
+use Rattle.format.specs.Terms.{Terms}
 use Rattle.format.specs.declared.Refusal.{Refusal}
 use Rattle.format.specs.declared.Refusal.the-variants as R
 use Rattle.format.specs.declared.PrimitiveCode.{PrimitiveCode}
@@ -168,22 +169,22 @@ short-of x h e k = subst (λ (z : Heading). Short z) e k
 
 -- ---- a member value
 
-module _ (s : List ℕ) (room : ℕ) (st : State) (code : PrimitiveCode) (v : Field) (e : v ≡ valueAt s code (st .at)) where
+module _ (τ : Terms) (s : List ℕ) (room : ℕ) (st : State) (code : PrimitiveCode) (v : Field) (e : v ≡ valueAt (τ .setting) s code (st .at)) where
   pub value-end : (end : ℕ) (ty : Typed) → v ≡ F.End end → ty ≡ moved s (st .stack .cur .typed)
-      → slotsTaken room st 32 (valueHead code end) 1 ty ≡ valueStep s room st code
+      → slotsTaken room st 32 (valueHead code end) 1 ty ≡ valueStep τ s room st code
   unfolding valueStep slotsTaken
   value-end end ty q w = rw (← e, q, w)
 
   pub value-took : (end : ℕ) (ty : Typed) (h : Head) → v ≡ F.End end → h ≡ valueHead code end → ty ≡ moved s (st .stack .cur .typed)
-      → slotsTaken room st 32 h 1 ty ≡ valueStep s room st code
+      → slotsTaken room st 32 h 1 ty ≡ valueStep τ s room st code
   value-took end ty h q g w = ap (λ (x : Head). slotsTaken room st 32 x 1 ty) g ∙ value-end end ty q w
 
   pub value-short : (end : ℕ) (h : Head) → v ≡ F.End end → h ≡ valueHead code end → length s ≤ 16777216 → h .end ≤ 16777216
   value-short end h q g l =
-      let w = value-moves s code (st .at) end (sym e ∙ q) in
+      let w = value-moves (τ .setting) s code (st .at) end (sym e ∙ q) in
       let z : h .end ≡ end = ap (λ (x : Head). x .end) g in
       omega arith
 
-  pub value-bad : (f : Refusal) → v ≡ F.Fault f → refuse f (st .at) ≡ valueStep s room st code
+  pub value-bad : (f : Refusal) → v ≡ F.Fault f → refuse f (st .at) ≡ valueStep τ s room st code
   unfolding valueStep
   value-bad f q = rw (← e, q)

@@ -4,6 +4,7 @@ use mathlib.Core.Path.{_≡_, refl, ap, _∙_}
 use mathlib.Core.List.{List, [], _∷_, _++_, map}
 use native.Mathlib.Omega.{arith}
 use lib.ListN.{length, getD, drop, length-append}
+use Rattle.format.specs.Terms.{Terms}
 use Rattle.format.specs.declared.Row.{Row}
 use Rattle.format.specs.Rows.{blank, findFrom, objectRow, linkOf, linked}
 use Rattle.format.specs.Contents.{header, end, enc, encs}
@@ -26,9 +27,9 @@ header-bytes : (root h : ℕ) → length (enc (header root h)) ≡ 17
 unfolding enc
 header-bytes root h = simp (length-append, length-leBytes)
 
-module _ (m : Model) (g : Good m) (small : length (tidyOf m) ≤ 16777216) where
+module _ (τ : Terms) (m : Model) (g : Good m) (small : length (tidyOf m) ≤ 16777216) where
   -- the rows after the header's
-  rows-there : drop 1 (tableOf m) ≡ map (withOwn (whichIn m) (rawOf m) (tableOf m)) (rowsFrom (whichIn m) 17 1 [] (shownOf m))
+  rows-there : drop 1 (tableOf m) ≡ map (withOwn τ (whichIn m) (rawOf m) (tableOf m)) (rowsFrom (whichIn m) 17 1 [] (shownOf m))
   unfolding linked
   rows-there = refl
 
@@ -43,16 +44,16 @@ module _ (m : Model) (g : Good m) (small : length (tidyOf m) ≤ 16777216) where
 
   ordered : (k : ℕ) → 0 < k → k ≤ g .total → (objectRow k (rawOf m) ≡ whichIn m k) × (orderOf (tableOf m) (whichIn m k) ≡ k)
   unfolding objectRow findFrom
-  ordered k a b = orders (whichIn m) (rawOf m) (tableOf m) (written-legal m g small) (placed-all (shownOf m)) 17 rows-there none-before k a b
+  ordered k a b = orders τ (whichIn m) (rawOf m) (tableOf m) (written-legal τ m g small) (placed-all (shownOf m)) 17 rows-there none-before k a b
 
-  knows-header : Knows (tidyOf m) (tableOf m) (writtenOf m) 1 []
+  knows-header : Knows τ (tidyOf m) (tableOf m) (writtenOf m) 1 []
   unfolding findFrom linked
   knows-header = record { right = tt; fresh = λ i e. refl }
 
   nodes-after : nodesFrom (tidyOf m) (tableOf m) (drop 1 (tableOf m)) ≡ m .nodes
   nodes-after =
-      records-said (tidyOf m) (rawOf m) (tableOf m) (writtenOf m) (whichIn m) refl (g .total) (λ k a b. ordered k a b .1) (λ k a b. ordered k a b .0)
-      (written-legal m g small) (placed-all (shownOf m)) 17 (all-kept m g) tt tt knows-header bytes-there rows-there
+      records-said τ (tidyOf m) (rawOf m) (tableOf m) (writtenOf m) (whichIn m) refl (g .total) (λ k a b. ordered k a b .1) (λ k a b. ordered k a b .0)
+      (written-legal τ m g small) (placed-all (shownOf m)) 17 (all-kept τ m g) tt tt knows-header bytes-there rows-there
       ∙ round (g .total) (m .nodes) (g .nodes-fit)
 
   nodes-said : nodesFrom (tidyOf m) (tableOf m) (tableOf m) ≡ m .nodes
@@ -72,7 +73,7 @@ module _ (m : Model) (g : Good m) (small : length (tidyOf m) ≤ 16777216) where
       ∙ ap (λ (ns : List Node). record { root = m .root; nodes = ns }) nodes-said
 
 -- what is written of a good model is accepted wherever its rows fit, and says the model
-pub written-read : (m : Model) → Good m → length (tidyOf m) ≤ 16777216
-    → (rows : List Row) × ((room : ℕ) → length rows ≤ room → readOf (tidyOf m) room ≡ accepted rows) × (says (tidyOf m) rows ≡ m)
+pub written-read : (τ : Terms) (m : Model) → Good m → length (tidyOf m) ≤ 16777216
+    → (rows : List Row) × ((room : ℕ) → length rows ≤ room → readOf τ (tidyOf m) room ≡ accepted rows) × (says (tidyOf m) rows ≡ m)
     × (length rows ≡ 2 + length (squeezed noWait (packed nothing (m .nodes))))
-written-read m g small = (tableOf m, accepts (reading m g small), written-says m g small, length-table m)
+written-read τ m g small = (tableOf m, accepts τ (reading τ m g small), written-says τ m g small, length-table m)

@@ -7,6 +7,7 @@ use native.Mathlib.Omega.{arith}
 use lib.ListN.{getD, take, drop}
 use lib.Dec.{eqb}
 use borrow.Author.Tests.{eqb-true}
+use Rattle.format.specs.Terms.{Terms}
 use Rattle.format.specs.declared.SlotType.{SlotType}
 use Rattle.format.specs.declared.Row.{Row}
 use Rattle.format.specs.Bytes.{pick}
@@ -31,8 +32,8 @@ use Rattle.again.specs.Own.{Own}
 
 -- ---- what is said by names that agree where libraries are known
 
-module _ (one other : ℕ → List ℕ) (es : List Entry) (agree : (l : ℕ) → known l es ≡ true → one l ≡ other l) where
-  detail-same : (d : Detail Prefixed ℕ) → GoodDetail es d → named one d ≡ named other d
+module _ (τ : Terms) (one other : ℕ → List ℕ) (es : List Entry) (agree : (l : ℕ) → known l es ≡ true → one l ≡ other l) where
+  detail-same : (d : Detail Prefixed ℕ) → GoodDetail τ es d → named one d ≡ named other d
   detail-same (primitive c) g = refl
   detail-same text g = refl
   detail-same object g = refl
@@ -42,17 +43,17 @@ module _ (one other : ℕ → List ℕ) (es : List Entry) (agree : (l : ℕ) →
   detail-same texts g = refl
   detail-same (primitives c) g = refl
 
-  members-same : {ms : List (Member Prefixed ℕ)} → Members es ms → namedAll one ms ≡ namedAll other ms
+  members-same : {ms : List (Member Prefixed ℕ)} → Members τ es ms → namedAll one ms ≡ namedAll other ms
   members-same no-more = refl
   members-same (member {m = m} {ms = ms} n g gs) =
       ap (λ (d : Detail (List ℕ) (List ℕ)). record { name = m .name .text; type = d } ∷ namedAll one ms) (detail-same (m .type) g)
       ∙ ap (λ (x : List (Member (List ℕ) (List ℕ))). record { name = m .name .text; type = named other (m .type) } ∷ x) (members-same gs)
 
-  class-same : (n : List ℕ) {ms : List (Member Prefixed ℕ)} (x y : From) → Members es ms → x ≡ y → classOfAll one n x ms ≡ classOfAll other n y ms
+  class-same : (n : List ℕ) {ms : List (Member Prefixed ℕ)} (x y : From) → Members τ es ms → x ≡ y → classOfAll one n x ms ≡ classOfAll other n y ms
   class-same n {ms} x y gs e =
       ap (λ (f : From). classOfAll one n f ms) e ∙ ap (λ (l : List (Member (List ℕ) (List ℕ))). record { name = n; from = y; members = l }) (members-same gs)
 
-  pub said-same : {total : ℕ} {r : Rec} {ts : List SlotType} (of : ℕ → Class) (order : ℕ → ℕ) (o n : ℕ) → Takes total es r ts
+  pub said-same : {total : ℕ} {r : Rec} {ts : List SlotType} (of : ℕ → Class) (order : ℕ → ℕ) (o n : ℕ) → Takes τ total es r ts
       → saidAt one of order o n r ≡ saidAt other of order o n r
   said-same of order o n (class-by-id a b c) = refl
   said-same of order o n (system-class {n = x} a b c) = ap (λ (d : Class). node (anObject d) o n ∷ []) (class-same (x .text) theSystem theSystem (b .members) refl)
@@ -75,7 +76,7 @@ module _ (one other : ℕ → List ℕ) (es : List Entry) (agree : (l : ℕ) →
 
 -- ---- what is known
 
-module _ (s : List ℕ) (table : List Row) (v : Progress) where
+module _ (τ : Terms) (s : List ℕ) (table : List Row) (v : Progress) where
   -- the class of this number, with slots of these types, is told by this row
   abbrev pub ClassIs : ℕ → ℕ → List SlotType → Type 0
   ClassIs i row ts = (classFrom s table (getD table (row - 1) blank) ≡ classIn v i) × (slotsOf (classIn v i .members) ≡ ts)
@@ -121,20 +122,20 @@ module _ (s : List ℕ) (table : List Row) (v : Progress) where
   -- after so many rows; a library that is not known is in none of them
   pub record Knows (row : ℕ) (es : List Entry) : Type 0 where
     pub right : AllRight es
-    pub fresh : (i : ℕ) → known i es ≡ false → findFrom (ofLibrary s table i) 0 (take row table) ≡ 0
+    pub fresh : (i : ℕ) → known i es ≡ false → findFrom (ofLibrary τ s table i) 0 (take row table) ≡ 0
 
   module _ (is : List Row) (w : Row) (row : ℕ) (e : drop row table ≡ w ∷ is) (es : List Entry) (h : Knows row es) where
     knows-same : eqb (w .kind) 12 ≡ false → Knows (suc row) (es ++ [])
     knows-same n =
-        subst (Knows (suc row)) (sym (append-nil es)) (record { right = h .right; fresh = λ i q. fresh-more s table is w row e i (rw n) (h .fresh i q) })
+        subst (Knows (suc row)) (sym (append-nil es)) (record { right = h .right; fresh = λ i q. fresh-more τ s table is w row e i (rw n) (h .fresh i q) })
 
-    knows-entry : (x : Entry) → Right x → ((i : ℕ) → known i (x ∷ []) ≡ false → ofLibrary s table i w ≡ false) → Knows (suc row) (es ++ (x ∷ []))
+    knows-entry : (x : Entry) → Right x → ((i : ℕ) → known i (x ∷ []) ≡ false → ofLibrary τ s table i w ≡ false) → Knows (suc row) (es ++ (x ∷ []))
     knows-entry x q n =
         record {
           right = right-more es x (h .right) q;
           fresh = λ i f.
               let b = unknown-both i es (x ∷ []) f in
-              fresh-more s table is w row e i (n i (b .1)) (h .fresh i (b .0));
+              fresh-more τ s table is w row e i (n i (b .1)) (h .fresh i (b .0));
         }
 
     knows-another : (i : ℕ) → eqb (w .kind) 12 ≡ false → Knows (suc row) (es ++ (another i ∷ []))
@@ -151,8 +152,8 @@ module _ (s : List ℕ) (table : List Row) (v : Progress) where
     unfolding libraryName
     knows-library i k q n f =
         let z : suc row - 1 ≡ row = omega arith in
-        knows-entry (aLibrary i) (rw (library-row s table is w row e i k q (h .fresh i n), z, item-there table is w row e blank) f)
-        (λ j g. other-library s table is w row e j i k q g)
+        knows-entry (aLibrary i) (rw (library-row τ s table is w row e i k q (h .fresh i n), z, item-there table is w row e blank) f)
+        (λ j g. other-library τ s table is w row e j i k q g)
 
     -- after one record more
     module _ (q : List ℕ) (at : ℕ) where
@@ -162,17 +163,17 @@ module _ (s : List ℕ) (table : List Row) (v : Progress) where
       no-library : {r : Rec} → RowOf r at w → eqb (kindOf r) 12 ≡ false → eqb (w .kind) 12 ≡ false
       no-library f n = ap (λ (k : ℕ). eqb k 12) (f .kind-is) ∙ n
 
-      pub knows-more : {total : ℕ} {r : Rec} {ts : List SlotType} → Takes total es r ts → Own v r → drop at s ≡ enc r ++ q → RowOf r at w → w .id ≡ numberOf r
+      pub knows-more : {total : ℕ} {r : Rec} {ts : List SlotType} → Takes τ total es r ts → Own v r → drop at s ≡ enc r ++ q → RowOf r at w → w .id ≡ numberOf r
           → Knows (suc row) (es ++ madeKnown (suc row) r)
       knows-more (class-by-id {i = i} a b c) o d f n = knows-another i (no-library f refl)
       knows-more {total} (system-class {i = i} {n = x} {ms = ms} a b c) o d f n =
-          let g : GoodRec (systemClass i x ms) = own-contents {total = total} (system-class a b c) in
-          knows-class i _ _ (no-library f refl) (system-class-from s table w at q i x ms (g .0) (g .1) d f)
-          (class-same (libraryName s table) (nameIn v) es agrees (x .text) theSystem theSystem (b .members) refl ∙ o) (slots-same (libraryName s table) ms)
+          let g : GoodRec τ (systemClass i x ms) = own-contents τ {total = total} (system-class a b c) in
+          knows-class i _ _ (no-library f refl) (system-class-from τ s table w at q i x ms (g .0) (g .1) d f)
+          (class-same τ (libraryName s table) (nameIn v) es agrees (x .text) theSystem theSystem (b .members) refl ∙ o) (slots-same (libraryName s table) ms)
       knows-more {total} (library-class {i = i} {l = l} {n = x} {ms = ms} a b c e) o d f n =
-          let g : GoodRec (libraryClass i x ms l) = own-contents {total = total} (library-class a b c e) in
-          knows-class i _ _ (no-library f refl) (library-class-from s table w at q i x ms (g .0) (g .1) l (g .2) d f)
-          (class-same (libraryName s table) (nameIn v) es agrees (x .text) (theLibrary (libraryName s table l)) (theLibrary (nameIn v l)) (b .members) (ap theLibrary (agrees l (c .there))) ∙ o)
+          let g : GoodRec τ (libraryClass i x ms l) = own-contents τ {total = total} (library-class a b c e) in
+          knows-class i _ _ (no-library f refl) (library-class-from τ s table w at q i x ms (g .0) (g .1) l (g .2) d f)
+          (class-same τ (libraryName s table) (nameIn v) es agrees (x .text) (theLibrary (libraryName s table l)) (theLibrary (nameIn v l)) (b .members) (ap theLibrary (agrees l (c .there))) ∙ o)
           (slots-same (libraryName s table) ms)
       knows-more (a-string {i = i} a b) o d f n = knows-another i (no-library f refl)
       knows-more (an-array a (of-objects {i = i} b)) o d f n = knows-another i (no-library f refl)
@@ -186,5 +187,5 @@ module _ (s : List ℕ) (table : List Row) (v : Progress) where
       knows-more (some-nulls a b) o d f n = knows-same (no-library f refl)
       knows-more (many-nulls a) o d f n = knows-same (no-library f refl)
       knows-more (a-library {i = i} {x = x} a b c) o d f n =
-          knows-library i (f .kind-is) n b (library-said s table w at q i x c d (f .offset-is) ∙ sym o)
+          knows-library i (f .kind-is) n b (library-said τ s table w at q i x c d (f .offset-is) ∙ sym o)
       knows-more (a-value a) o d f n = knows-same (no-library f refl)

@@ -7,6 +7,7 @@ use native.Mathlib.Omega.{arith}
 use lib.ListN.{drop}
 use lib.Dec.{eqb}
 use borrow.Author.Tests.{eqb-true, eqb-false}
+use Rattle.format.specs.Terms.{Terms}
 use Rattle.format.specs.declared.Row.{Row}
 use Rattle.format.specs.Bytes.{pick}
 use Rattle.format.specs.Rows.{isObject, findFrom, withLink, linkOf}
@@ -46,9 +47,9 @@ number-is (objectArray i m) n o e = only i n e
 number-is (stringArray i m) n o e = only i n e
 number-is (value c v) n o e = apart o
 
-pub legal-le : {total count row : ℕ} {fs : List Place} {es : List Entry} {xs : List Shown} → Legal total count row fs es xs → count ≤ total
-legal-le (all-shown e) = omega arith
-legal-le (a-record t s o n id e g d l) = let h = legal-le l in omega arith
+pub legal-le : (τ : Terms) {total count row : ℕ} {fs : List Place} {es : List Entry} {xs : List Shown} → Legal τ total count row fs es xs → count ≤ total
+legal-le τ (all-shown e) = omega arith
+legal-le τ (a-record t s o n id e g d l) = let h = legal-le τ l in omega arith
 
 -- ---- along the records
 
@@ -56,7 +57,7 @@ abbrev pub ofNumber : ℕ → Row → Bool
 ofNumber k r = isObject (r .kind) && eqb (r .id) k
 
 -- raw: all rows before linking; table: after it
-module _ (which : ℕ → ℕ) (raw table : List Row) where
+module _ (τ : Terms) (which : ℕ → ℕ) (raw table : List Row) where
   abbrev pub withOwn : Row → Row
   withOwn r = withLink r (linkOf raw r)
 
@@ -64,7 +65,7 @@ module _ (which : ℕ → ℕ) (raw table : List Row) where
   abbrev Found : ℕ → ℕ → List Row → Type 0
   Found k row is = (findFrom (ofNumber k) row is ≡ which k) × (orderOf table (which k) ≡ k)
 
-  pub orders : {total count row : ℕ} {fs : List Place} {es : List Entry} {xs : List Shown} → Legal total count row fs es xs → Placed which count row xs → (at : ℕ)
+  pub orders : {total count row : ℕ} {fs : List Place} {es : List Entry} {xs : List Shown} → Legal τ total count row fs es xs → Placed which count row xs → (at : ℕ)
       → drop row table ≡ map withOwn (rowsFrom which at row es xs) → orderOf table row ≡ count → (k : ℕ) → count < k → k ≤ total → Found k row (rowsFrom which at row es xs)
   unfolding rowsFrom findFrom
   orders (all-shown e) p at there order k a b = absurd (omega arith)

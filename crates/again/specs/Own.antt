@@ -8,6 +8,7 @@ use native.Mathlib.Omega.{arith}
 use lib.ListN.{length, length-append}
 use lib.Dec.{leb, eqb}
 use borrow.Author.Tests.{eq-eqb, ne-eqb}
+use Rattle.format.specs.Terms.{Terms}
 use Rattle.format.specs.declared.PrimitiveCode.{PrimitiveCode}
 use Rattle.format.specs.Bytes.{pick, sameBytes}
 use Rattle.format.specs.Contents.{Prefixed, shortest, hasPrefix, bytesIn, Rec, header, classById, systemClass, libraryClass, string, array, typedPrimitive, reference, null, nulls, manyNulls, end, library, primitiveArray, objectArray, stringArray, value, enc, encs}
@@ -106,20 +107,20 @@ abbrev pub Kept : Progress → Rec → Type 0
 Kept v r = Own v r × (0 < size r)
 
 -- a Decimal has a byte or more in its prefix, any other value in its content
-content-some : {c : PrimitiveCode} {x : List ℕ} (w n : ℕ) → Content c x → PrefixIf (hasPrefix c) w n → 0 < w + length x
-content-some w n (number {c = c} {n = m} a b) p = let s = sized-exactly c m .1 a in omega arith
-content-some w n (boolean a) p = omega arith
-content-some w n (scalar c i q) p = let s = some-bytes c in let l = ap length q in omega arith
-content-some w n (exact a b) p = let s = p .some in omega arith
-content-some w n (moment a b) p = omega arith
+content-some : (τ : Terms) {c : PrimitiveCode} {x : List ℕ} (w n : ℕ) → Content c x → PrefixIf τ (hasPrefix c) w n → 0 < w + length x
+content-some τ w n (number {c = c} {n = m} a b) p = let s = sized-exactly c m .1 a in omega arith
+content-some τ w n (boolean a) p = omega arith
+content-some τ w n (scalar c i q) p = let s = some-bytes c in let l = ap length q in omega arith
+content-some τ w n (exact a b) p = let s = p .some in omega arith
+content-some τ w n (moment a b) p = omega arith
 
-value-some : {c : PrimitiveCode} {x : Prefixed} → Value c x → 0 < length (bytesIn x)
-value-some {x = x} g =
-    let s = content-some (x .width) (length (x .text)) (g .content) (g .prefix) in
+value-some : (τ : Terms) {c : PrimitiveCode} {x : Prefixed} → Value τ c x → 0 < length (bytesIn x)
+value-some τ {x = x} g =
+    let s = content-some τ (x .width) (length (x .text)) (g .content) (g .prefix) in
     let l = length-bytes x in
     omega arith
 
-module _ (v : Progress) (good : Numbered v) where
+module _ (τ : Terms) (v : Progress) (good : Numbered v) where
   kept-libraries : (names : List (List ℕ)) (ls : Libraries) → Listed ls
       → ((f : List ℕ → Bool) (m : ℕ) → numberIn f (allEntered names ls) ≡ suc m → numberIn f (v .libraries) ≡ suc m) → All (Kept v) (libraryRecords names ls)
   unfolding libraryRecords allEntered enc
@@ -173,7 +174,7 @@ module _ (v : Progress) (good : Numbered v) where
   kept-node p fs (aPrimitiveArray n c vs) h a l = ((tt, omega arith), tt)
   kept-node p fs (anObjectArray n) h a l = ((tt, omega arith), tt)
   kept-node p fs (aStringArray n) h a l = ((tt, omega arith), tt)
-  kept-node p fs (aValue c w) h (in-value g) l = ((tt, value-some (value-by g)), tt)
+  kept-node p fs (aValue c w) h (in-value g) l = ((tt, value-some τ (value-by τ g)), tt)
 
   pub kept : (total count : ℕ) (fs : List Place) (ns : List Node) (p : Progress) (w : Wait) → Fits total count fs ns → Numbered p → afterNodes p ns ≡ v
       → All (Kept v) (recsOf (squeezed w (packed p ns)))

@@ -5,6 +5,7 @@ use mathlib.Core.Bool.{true}
 use mathlib.Core.List.{List, [], _∷_, _++_}
 use native.Mathlib.Omega.{arith}
 use lib.ListN.{length, length-append}
+use Rattle.format.specs.Terms.{Terms}
 use Rattle.format.specs.declared.Row.{Row}
 use Rattle.format.specs.Rows.{linked}
 use Rattle.format.specs.Contents.{Rec, header, end, enc, encs}
@@ -58,8 +59,9 @@ module _ (m : Model) (g : Good m) where
   pub numbered : Numbered (writtenOf m)
   numbered = numbered-nodes nothing (m .nodes) numbered-none
 
+module _ (τ : Terms) (m : Model) (g : Good m) where
   pub all-kept : All (Kept (writtenOf m)) (recsOf (shownOf m))
-  all-kept = kept (writtenOf m) numbered (g .total) 0 [] (m .nodes) nothing noWait (g .nodes-fit) numbered-none refl
+  all-kept = kept τ (writtenOf m) (numbered m g) (g .total) 0 [] (m .nodes) nothing noWait (g .nodes-fit) numbered-none refl
 
   module _ (small : length (tidyOf m) ≤ 16777216) where
     shown-few : length (shownOf m) ≤ 16777216
@@ -68,8 +70,8 @@ module _ (m : Model) (g : Good m) where
         let b = ap length (tidy-bytes m) ∙ length-append (enc (header (m .root) (m .root))) (encs (recsOf (shownOf m) ++ (end ∷ []))) in
         omega arith
 
-    pub written-legal : Legal (g .total) 0 1 [] [] (shownOf m)
-    written-legal = legal-few (g .total) (m .nodes) (g .nodes-fit) (omega (arith, shown-few)) 1
+    pub written-legal : Legal τ (g .total) 0 1 [] [] (shownOf m)
+    written-legal = legal-few τ (g .total) (m .nodes) (g .nodes-fit) (omega (arith, shown-few)) 1
 
     root-small : m .root < 4294967296
     root-small =
@@ -79,31 +81,35 @@ module _ (m : Model) (g : Good m) where
         let d = shown-few in
         omega arith
 
+module _ (m : Model) (g : Good m) where
+  module _ (small : length (tidyOf m) ≤ 16777216) where
     abbrev records : List Rec
     records = recsOf (shownOf m) ++ (end ∷ [])
 
-    nested : Objects (cur 17 1 [] records (rowsFrom (whichIn m) 17 1 [] (shownOf m)))
-    nested = legal-nests (whichIn m) refl written-legal (placed-all (shownOf m)) 17
+module _ (τ : Terms) (m : Model) (g : Good m) where
+  module _ (small : length (tidyOf m) ≤ 16777216) where
+    nested : Objects τ (cur 17 1 [] (records m g small) (rowsFrom (whichIn m) 17 1 [] (shownOf m)))
+    nested = legal-nests τ (whichIn m) refl (written-legal τ m g small) (placed-all (shownOf m)) 17
 
-    rooted : among (m .root) (idsOf records) ≡ true
-    rooted = legal-ids written-legal (m .root) (g .rooted) (g .root-in)
+    rooted : among (m .root) (idsOf (records m g small)) ≡ true
+    rooted = legal-ids τ (written-legal τ m g small) (m .root) (g .rooted) (g .root-in)
 
-    targets : (i : ℕ) → among i (refsOf records) ≡ true → among i (idsOf records) ≡ true
-    targets i e = let r = legal-refs written-legal i e in legal-ids written-legal i (r .0) (r .1)
+    targets : (i : ℕ) → among i (refsOf (records m g small)) ≡ true → among i (idsOf (records m g small)) ≡ true
+    targets i e = let r = legal-refs τ (written-legal τ m g small) i e in legal-ids τ (written-legal τ m g small) i (r .0) (r .1)
 
-    pub reading : Reading (tidyOf m) (tableOf m)
+    pub reading : Reading τ (tidyOf m) (tableOf m)
     reading =
         record {
           root = m .root;
           header-id = m .root;
-          rs = records;
+          rs = records m g small;
           is = rowsFrom (whichIn m) 17 1 [] (shownOf m);
-          root-bits = root-small;
-          header-bits = root-small;
+          root-bits = root-small τ m g small;
+          header-bits = root-small τ m g small;
           bytes-are = tidy-bytes m;
           small = small;
           objects-are = nested;
           rooted = rooted;
           targets = targets;
-          links-are = linked-links (m .root) (m .root) records (rowsFrom (whichIn m) 17 1 [] (shownOf m)) nested rooted targets;
+          links-are = linked-links τ (m .root) (m .root) (records m g small) (rowsFrom (whichIn m) 17 1 [] (shownOf m)) nested rooted targets;
         }

@@ -5,6 +5,7 @@ use mathlib.Core.Bool.{Bool, true, false}
 use mathlib.Core.List.{List, [], _∷_, _++_, map}
 use native.Mathlib.Omega.{arith}
 use lib.ListN.{getD, take, drop}
+use Rattle.format.specs.Terms.{Terms}
 use Rattle.format.specs.declared.PrimitiveCode.{PrimitiveCode}
 use Rattle.format.specs.declared.SlotType.{SlotType}
 use Rattle.format.specs.declared.Row.{Row}
@@ -49,8 +50,7 @@ count-is es (objectArray i n) = refl
 count-is es (stringArray i n) = refl
 count-is es (value c v) = tt
 
-module _ (s : List ℕ) (raw table : List Row) (v : Progress) (which : ℕ → ℕ) (none : which 0 ≡ 0) (total : ℕ)
-    (order : (k : ℕ) → 0 < k → k ≤ total → orderOf table (which k) ≡ k) (finds : (k : ℕ) → 0 < k → k ≤ total → objectRow k raw ≡ which k) where
+module _ (τ : Terms) (s : List ℕ) (raw table : List Row) (v : Progress) (which : ℕ → ℕ) (none : which 0 ≡ 0) (total : ℕ) (order : (k : ℕ) → 0 < k → k ≤ total → orderOf table (which k) ≡ k) (finds : (k : ℕ) → 0 < k → k ≤ total → objectRow k raw ≡ which k) where
   -- ---- owners
 
   order-none : orderOf table (which 0) ≡ 0
@@ -96,31 +96,31 @@ module _ (s : List ℕ) (raw table : List Row) (v : Progress) (which : ℕ → �
 
   -- the code of a slot, by the order of its object and the slot's number
   abbrev pub codeAt : ℕ → ℕ → PrimitiveCode
-  codeAt o = codeIn (ownerClass s table (which o) .members)
+  codeAt o = codeIn (ownerClass τ s table (which o) .members)
 
   -- ---- one record
 
   module _ (es : List Entry) (at o n : ℕ) where
     abbrev rowAs : Rec → Row
-    rowAs r = withOwn which raw table (rowShown which es at r o n)
+    rowAs r = withOwn τ which raw table (rowShown which es at r o n)
 
     row-is : (r : Rec) → RowOf r at (rowAs r)
     row-is r = row-linked (linkOf raw (rowShown which es at r o n)) (row-of r at (numberOf r) (which o) n (linkFor es r) (countFor es r) (count-is es r))
 
     -- a kind 1 leads to its class
-    by-id-class : (i k row : ℕ) (ts : List SlotType) → AllRight s table v es → classOf k es ≡ classed row ts
+    by-id-class : (i k row : ℕ) (ts : List SlotType) → AllRight τ s table v es → classOf k es ≡ classed row ts
         → classFrom s table (getD table (rowAs (classById i k) .link - 1) blank) ≡ classIn v k
     unfolding linkOf
-    by-id-class i k row ts h c = ap (λ (d : Classed). classFrom s table (getD table (classRowOf d - 1) blank)) c ∙ class-right s table v es h k row ts c .0
+    by-id-class i k row ts h c = ap (λ (d : Classed). classFrom s table (getD table (classRowOf d - 1) blank)) c ∙ class-right τ s table v es h k row ts c .0
 
     -- the code of a member value is that of the slot where it stands
     code-is : (fs : List Place) (c : PrimitiveCode) (x : Prefixed) → o ≡ ownerOf fs → n ≡ slotOf fs → codeAt (ownerOf fs) (slotOf fs) ≡ c
         → valueCode s table (rowAs (value c x)) ≡ c
-    code-is fs c x e f g = value-code s table (rowAs (value c x)) c (ap (λ (k : ℕ). codeAt k n) e ∙ (ap (codeAt (ownerOf fs)) f ∙ g))
+    code-is fs c x e f g = value-code τ s table (rowAs (value c x)) c (ap (λ (k : ℕ). codeAt k n) e ∙ (ap (codeAt (ownerOf fs)) f ∙ g))
 
     -- a kind 1 leads to its class, a reference to its object, a member value to its code
-    link-is : {fs : List Place} {r : Rec} {ts : List SlotType} → AllRight s table v es → OpenCodes codeAt fs → Stands fs r ts
-        → o ≡ pick (isApart r) 0 (ownerOf fs) → n ≡ pick (isApart r) 0 (slotOf fs) → Takes total es r ts → LinkIs s table (classIn v) (λ (k : ℕ). k) r (rowAs r)
+    link-is : {fs : List Place} {r : Rec} {ts : List SlotType} → AllRight τ s table v es → OpenCodes codeAt fs → Stands τ fs r ts
+        → o ≡ pick (isApart r) 0 (ownerOf fs) → n ≡ pick (isApart r) 0 (slotOf fs) → Takes τ total es r ts → LinkIs s table (classIn v) (λ (k : ℕ). k) r (rowAs r)
     unfolding linkOf
     link-is h cs st e f (class-by-id {i = i} {k = k} {row = row} {ts = ts} a b c) = by-id-class i k row ts h c
     link-is h cs st e f (system-class a b c) = tt
@@ -137,34 +137,34 @@ module _ (s : List ℕ) (raw table : List Row) (v : Progress) (which : ℕ → �
     link-is h cs st e f (some-nulls a b) = tt
     link-is h cs st e f (many-nulls a) = tt
     link-is h cs st e f (a-library a b c) = tt
-    link-is {fs} h cs st e f (a-value {c = c} {v = x} a) = code-is fs c x e f (value-coded codeAt st cs)
+    link-is {fs} h cs st e f (a-value {c = c} {v = x} a) = code-is fs c x e f (value-coded τ codeAt st cs)
 
-    record-said : (q : List ℕ) (r : Rec) {ts : List SlotType} → AllRight s table v es → Takes total es r ts → LinkIs s table (classIn v) (λ (k : ℕ). k) r (rowAs r)
+    record-said : (q : List ℕ) (r : Rec) {ts : List SlotType} → AllRight τ s table v es → Takes τ total es r ts → LinkIs s table (classIn v) (λ (k : ℕ). k) r (rowAs r)
         → orderOf table (which o) ≡ o → drop at s ≡ enc r ++ q → nodesOf s table (rowAs r) ≡ saidAt (nameIn v) (classIn v) (λ (k : ℕ). k) o n r
     record-said q r h t l e d =
-        row-said s table (rowAs r) (classIn v) (λ (k : ℕ). k) q at r d (row-is r) (own-contents t) l
+        row-said τ s table (rowAs r) (classIn v) (λ (k : ℕ). k) q at r d (row-is r) (own-contents τ t) l
         ∙ (ap (λ (k : ℕ). saidAt (libraryName s table) (classIn v) (λ (k : ℕ). k) k n r) e
-        ∙ said-same (libraryName s table) (nameIn v) es (name-right s table v es h) (classIn v) (λ (k : ℕ). k) o n t)
+        ∙ said-same τ (libraryName s table) (nameIn v) es (name-right τ s table v es h) (classIn v) (λ (k : ℕ). k) o n t)
 
     -- the slots of a record have the codes of its class
     module _ (is : List Row) (row : ℕ) where
-      record-codes : (q : List ℕ) (r : Rec) {ts : List SlotType} → AllRight s table v es → Takes total es r ts → drop at s ≡ enc r ++ q
-          → drop row table ≡ rowAs r ∷ is → Codes s table (suc row) 0 ts
+      record-codes : (q : List ℕ) (r : Rec) {ts : List SlotType} → AllRight τ s table v es → Takes τ total es r ts → drop at s ≡ enc r ++ q
+          → drop row table ≡ rowAs r ∷ is → Codes τ s table (suc row) 0 ts
       record-codes q (classById i k) h (class-by-id {row = first} {ts = ts} a b c) d e =
-          class-codes s table (suc row) (classIn v k) ts (row-class s table is (rowAs (classById i k)) row e ∙ by-id-class i k first ts h c)
-          (class-right s table v es h k first ts c .1)
+          class-codes τ s table (suc row) (classIn v k) ts (row-class τ s table is (rowAs (classById i k)) row e ∙ by-id-class i k first ts h c)
+          (class-right τ s table v es h k first ts c .1)
       record-codes q (systemClass i x ms) {ts} h (system-class a b c) d e =
           let r : Rec = systemClass i x ms in
-          let g : GoodRec r = own-contents {total = total} (system-class a b c) in
-          class-codes s table (suc row) _ ts (row-class s table is (rowAs r) row e ∙ system-class-from s table (rowAs r) at q i x ms (g .0) (g .1) d (row-is r))
+          let g : GoodRec τ r = own-contents τ {total = total} (system-class a b c) in
+          class-codes τ s table (suc row) _ ts (row-class τ s table is (rowAs r) row e ∙ system-class-from τ s table (rowAs r) at q i x ms (g .0) (g .1) d (row-is r))
           (slots-same (libraryName s table) ms ∙ sym c)
       record-codes q (libraryClass i x ms l) {ts} h (library-class a b c f) d e =
           let r : Rec = libraryClass i x ms l in
-          let g : GoodRec r = own-contents {total = total} (library-class a b c f) in
-          class-codes s table (suc row) _ ts (row-class s table is (rowAs r) row e ∙ library-class-from s table (rowAs r) at q i x ms (g .0) (g .1) l (g .2) d (row-is r))
+          let g : GoodRec τ r = own-contents τ {total = total} (library-class a b c f) in
+          class-codes τ s table (suc row) _ ts (row-class τ s table is (rowAs r) row e ∙ library-class-from τ s table (rowAs r) at q i x ms (g .0) (g .1) l (g .2) d (row-is r))
           (slots-same (libraryName s table) ms ∙ sym f)
       record-codes q r h (a-string a b) d e = tt
-      record-codes q r h (an-array a b) d e = array-codes s table (suc row) b
+      record-codes q r h (an-array a b) d e = array-codes τ s table (suc row) b
       record-codes q r h (a-primitive a) d e = tt
       record-codes q r h (a-reference a b) d e = tt
       record-codes q r h a-null d e = tt
@@ -180,19 +180,19 @@ module _ (s : List ℕ) (raw table : List Row) (v : Progress) (which : ℕ → �
     unfolding encs
     first-bytes d = d
 
-    first-row : drop row table ≡ map (withOwn which raw table) (rowsFrom which at row es (x ∷ xs))
+    first-row : drop row table ≡ map (withOwn τ which raw table) (rowsFrom which at row es (x ∷ xs))
         → drop row table ≡ rowAs es at (x .owner) (x .slot) (x .rec)
-        ∷ map (withOwn which raw table) (rowsFrom which (at + size (x .rec)) (suc row) (es ++ madeKnown (suc row) (x .rec)) xs)
+        ∷ map (withOwn τ which raw table) (rowsFrom which (at + size (x .rec)) (suc row) (es ++ madeKnown (suc row) (x .rec)) xs)
     unfolding rowsFrom
     first-row e = e
 
-  end-said : (row at : ℕ) (es : List Entry) → drop row table ≡ map (withOwn which raw table) (rowsFrom which at row es []) → nodesFrom s table (drop row table) ≡ []
+  end-said : (row at : ℕ) (es : List Entry) → drop row table ≡ map (withOwn τ which raw table) (rowsFrom which at row es []) → nodesFrom s table (drop row table) ≡ []
   unfolding rowsFrom nodesFrom nodesOf
   end-said row at es e = ap (nodesFrom s table) e
 
-  pub records-said : {count row : ℕ} {fs : List Place} {es : List Entry} {xs : List Shown} → Legal total count row fs es xs → Placed which count row xs → (at : ℕ)
-      → All (Kept v) (recsOf xs) → Owns fs → OpenCodes codeAt fs → Knows s table v row es → drop at s ≡ encs (recsOf xs ++ (end ∷ []))
-      → drop row table ≡ map (withOwn which raw table) (rowsFrom which at row es xs)
+  pub records-said : {count row : ℕ} {fs : List Place} {es : List Entry} {xs : List Shown} → Legal τ total count row fs es xs → Placed which count row xs → (at : ℕ)
+      → All (Kept v) (recsOf xs) → Owns fs → OpenCodes codeAt fs → Knows τ s table v row es → drop at s ≡ encs (recsOf xs ++ (end ∷ []))
+      → drop row table ≡ map (withOwn τ which raw table) (rowsFrom which at row es xs)
       → nodesFrom s table (drop row table) ≡ saidAll (nameIn v) (classIn v) (λ (k : ℕ). k) xs
   records-said {row = row} {es = es} (all-shown e) p at k h cs w d there = end-said row at es there
   records-said {count} {row} {fs} {es} (a-record {next = next} {gs = gs} {ds = ds} {x = x} {xs = xs} {ts = ts} t st o n id e g known l) p at k h cs w d there =
@@ -200,20 +200,20 @@ module _ (s : List ℕ) (raw table : List Row) (v : Progress) (which : ℕ → �
       let a : ℕ = at + size r in
       let now : List Entry = es ++ madeKnown (suc row) r in
       let y : Row = rowAs es at (x .owner) (x .slot) r in
-      let rest : List Row = map (withOwn which raw table) (rowsFrom which a (suc row) now xs) in
+      let rest : List Row = map (withOwn τ which raw table) (rowsFrom which a (suc row) now xs) in
       let q : List ℕ = encs (recsOf xs ++ (end ∷ [])) in
       let b : drop at s ≡ enc r ++ q = first-bytes row at es x xs d in
       let c : drop row table ≡ y ∷ rest = first-row row at es x xs there in
       let u : drop (suc row) table ≡ rest = items-after table rest y row c in
-      let z = knows-more s table v rest y row c es w q at t (k .0 .0) b (row-is es at (x .owner) (x .slot) r) refl in
-      let m = legal-le l in
+      let z = knows-more τ s table v rest y row c es w q at t (k .0 .0) b (row-is es at (x .owner) (x .slot) r) refl in
+      let m = legal-le τ l in
       let f : Owns gs = subst Owns (sym g) (owns-next count fs r ts (omega arith) h) in
       let j = record-codes es at (x .owner) (x .slot) rest row q r (w .right) t b c in
       let i : OpenCodes codeAt gs =
       subst (OpenCodes codeAt) (sym g)
-      (codes-next codeAt count fs r ts (λ z. subst (λ (m : ℕ). Codes s table m 0 ts) (sym (placed-here which count row x xs p z)) j) cs) in
-      let again = records-said l (placed-next which count row x xs p next e) a (k .1) f i (subst (Knows s table v (suc row)) (sym known) z)
-      (rest-there s (enc r) q at a refl b) (u ∙ ap (λ (i : List Entry). map (withOwn which raw table) (rowsFrom which a (suc row) i xs)) (sym known)) in
+      (codes-next codeAt count fs r ts (λ z. subst (λ (m : ℕ). Codes τ s table m 0 ts) (sym (placed-here which count row x xs p z)) j) cs) in
+      let again = records-said l (placed-next which count row x xs p next e) a (k .1) f i (subst (Knows τ s table v (suc row)) (sym known) z)
+      (rest-there s (enc r) q at a refl b) (u ∙ ap (λ (i : List Entry). map (withOwn τ which raw table) (rowsFrom which a (suc row) i xs)) (sym known)) in
       nodes-more table rest y row c s
       ∙ (ap (λ (i : List Node). i ++ nodesFrom s table (drop (suc row) table))
       (record-said es at (x .owner) (x .slot) q r (w .right) t (link-is es at (x .owner) (x .slot) (w .right) cs st o n t) (owner-is fs (isApart r) (x .owner) h o) b)

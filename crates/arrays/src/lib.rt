@@ -7,6 +7,7 @@ use format::Number32;
 use format::ObjectNo;
 use format::PrimitiveCode;
 use format::Refusal;
+use format::Setting;
 use format::SlotType;
 use format::Typed;
 ghost use Prim.Native.Nat.{_≤_, _<_};
@@ -16,6 +17,7 @@ ghost use Rattle.format.specs.Types.{alike};
 ghost use Rattle.format.specs.Rows.{roomOf, rowsOf};
 ghost use Rattle.format.specs.Records.{goodId, plain, slotted, slotArrayAt, withItems, primitiveArrayAt};
 ghost use Rattle.arrays.specs.Stages.{slotLengthAt, primitiveLengthAt, codedItemsAt};
+ghost use Rattle.format.specs.Terms.{terms};
 
 // ---- ids and what is made of them
 
@@ -98,29 +100,36 @@ pub fn slot_array_at(s: &[u8], table: &[u32], n: usize, slot: SlotType, at: usiz
 // ---- kind 15
 
 // The items (MemberPrimitiveUnTyped, 2.5.2) lie in the record itself, so it has no slots.
-pub fn with_items(s: &[u8], code: PrimitiveCode, id: u32, count: u32, at: usize) -> Heading
-    ensures { λ r. ⌜ r ≡ withItems (now (s .entry)) code id count at ⌝ }
+pub fn with_items(
+    s: &[u8],
+    code: PrimitiveCode,
+    id: u32,
+    count: u32,
+    at: usize,
+    setting: Setting,
+) -> Heading
+    ensures { λ r. ⌜ r ≡ withItems (terms setting) (now (s .entry)) code id count at ⌝ }
 {
-    match items::items_at(s, code, count, at) {
+    match items::items_at(s, code, count, at, setting) {
         Field::End(end) => plain_head(id, end, count),
         Field::Fault(f) => Heading::Bad(f),
     }
 }
 
-fn coded_items_at(s: &[u8], id: u32, count: u32, at: usize) -> Heading
-    ensures { λ r. ⌜ r ≡ codedItemsAt (now (s .entry)) id count at ⌝ }
+fn coded_items_at(s: &[u8], id: u32, count: u32, at: usize, setting: Setting) -> Heading
+    ensures { λ r. ⌜ r ≡ codedItemsAt (terms setting) (now (s .entry)) id count at ⌝ }
 {
     match codes::code_at(s, at) {
         Field::End(p) => {
             let code = codes::coded_of(codes::primitive_of(codes::byte_at(s, at)));
-            with_items(s, code, id, count, p)
+            with_items(s, code, id, count, p, setting)
         }
         Field::Fault(f) => Heading::Bad(f),
     }
 }
 
-fn primitive_length_at(s: &[u8], id: u32, at: usize) -> Heading
-    ensures { λ r. ⌜ r ≡ primitiveLengthAt (now (s .entry)) id at ⌝ }
+fn primitive_length_at(s: &[u8], id: u32, at: usize, setting: Setting) -> Heading
+    ensures { λ r. ⌜ r ≡ primitiveLengthAt (terms setting) (now (s .entry)) id at ⌝ }
 {
     let Number32::Value(count, p) = num::u32_at(s, at) else {
         return Heading::Bad(Refusal::CutShort);
@@ -128,19 +137,19 @@ fn primitive_length_at(s: &[u8], id: u32, at: usize) -> Heading
     if num::is_negative(count) {
         return Heading::Bad(Refusal::BadCount);
     }
-    coded_items_at(s, id, count, p)
+    coded_items_at(s, id, count, p, setting)
 }
 
 // 15, ArraySinglePrimitive (2.4.3.3): ObjectId, length, primitive code, items.
-pub fn primitive_array_at(s: &[u8], table: &[u32], n: usize, at: usize) -> Heading
+pub fn primitive_array_at(s: &[u8], table: &[u32], n: usize, at: usize, setting: Setting) -> Heading
     requires { ⌜ (n ≤ roomOf (now table)) × (at < length (now s)) ⌝ }
-    ensures { λ r. ⌜ r ≡ primitiveArrayAt (now (s .entry)) (rowsOf n (now (table .entry))) at ⌝ }
+    ensures { λ r. ⌜ r ≡ primitiveArrayAt (terms setting) (now (s .entry)) (rowsOf n (now (table .entry))) at ⌝ }
 {
     let Number32::Value(id, p) = num::u32_at(s, at + 1) else {
         return Heading::Bad(Refusal::CutShort);
     };
     if is_free_id(table, n, ObjectNo(id)) {
-        return primitive_length_at(s, id, p);
+        return primitive_length_at(s, id, p, setting);
     }
     Heading::Bad(Refusal::BadId)
 }

@@ -22,59 +22,59 @@ pub string-is : (s : List ℕ) (r : Row) → stringOut s r ≡ headOut 6 (r .id)
 unfolding stringOut
 string-is s r = refl
 
-pub primitives-is : (s : List ℕ) (r : Row) → primitivesOut s r ≡ headOut 15 (r .id) ++ primitiveItemsOut s r
+pub primitives-is : (δ : ℕ) (s : List ℕ) (r : Row) → primitivesOut δ s r ≡ headOut 15 (r .id) ++ primitiveItemsOut δ s r
 unfolding primitivesOut
-primitives-is s r = refl
+primitives-is δ s r = refl
 
 -- code is the byte of the primitive type
-module _ (s : List ℕ) (r : Row) (code : ℕ) where
+module _ (δ : ℕ) (s : List ℕ) (r : Row) (code : ℕ) where
   pub typed-is : code ≡ getD s (r .offset + 1) 0
-      → typedOut s r ≡ between s (r .offset) (r .offset + 2) ++ valueOut s (eqb code 5) (r .offset + 2) (r .end)
+      → typedOut δ s r ≡ between s (r .offset) (r .offset + 2) ++ valueOut s (eqb code δ) (r .offset + 2) (r .end)
   unfolding typedOut
   typed-is x = rw x
 
   pub primitive-items-is : code ≡ getD s (r .offset + 9) 0
-      → primitiveItemsOut s r ≡ between s (r .offset + 5) (r .offset + 10) ++ valuesOut s (eqb code 5) (r .count) (r .offset + 10) (r .end)
+      → primitiveItemsOut δ s r ≡ between s (r .offset + 5) (r .offset + 10) ++ valuesOut s (eqb code δ) (r .count) (r .offset + 10) (r .end)
   unfolding primitiveItemsOut
   primitive-items-is x = rw x
 
-module _ (s : List ℕ) (rs : List Row) (r : Row) where
+module _ (δ : ℕ) (s : List ℕ) (rs : List Row) (r : Row) where
   -- kind is the byte of the item type at p
   module _ (p e kind : ℕ) (x : kind ≡ getD s p 0) where
-    pub items-is : (t : Bool) → t ≡ (eqb kind 0 && eqb (getD s (p + 1) 0) 5)
-        → itemsOut s rs p e r ≡ infoOut s rs kind (p + 1) e ++ valuesOut s t (r .count) e (r .end)
+    pub items-is : (t : Bool) → t ≡ (eqb kind 0 && eqb (getD s (p + 1) 0) δ)
+        → itemsOut δ s rs p e r ≡ infoOut s rs kind (p + 1) e ++ valuesOut s t (r .count) e (r .end)
     unfolding itemsOut
     items-is t y = rw (y, x)
 
-    pub array-is : p ≡ itemType s r → e ≡ afterInfo s kind (p + 1) → arrayOut s rs r ≡ needInfoOut s rs kind e ++ bodyOut s rs p e r
+    pub array-is : p ≡ itemType s r → e ≡ afterInfo s kind (p + 1) → arrayOut δ s rs r ≡ needInfoOut s rs kind e ++ bodyOut δ s rs p e r
     unfolding arrayOut
     array-is y z =
         let t : e ≡ afterInfo s (getD s p 0) (p + 1) = z ∙ ap (λ (k : ℕ). afterInfo s k (p + 1)) x in
         rw (← y, ← t, ← x)
 
-  pub body-is : (p e : ℕ) → bodyOut s rs p e r ≡ headOut 7 (r .id) ++ (between s (r .offset + 5) (p + 1) ++ itemsOut s rs p e r)
+  pub body-is : (p e : ℕ) → bodyOut δ s rs p e r ≡ headOut 7 (r .id) ++ (between s (r .offset + 5) (p + 1) ++ itemsOut δ s rs p e r)
   unfolding bodyOut
   body-is p e = refl
 
 -- ---- one clause for each kind
-module _ (s : List ℕ) (rs : List Row) (i : ℕ) (r : Row) where
-  pub record-0 : (t : Row) → r .kind ≡ 0 → t ≡ rowAt rs (r .link) → recordOut s rs i r ≡ headerOut (t .id)
-  record-0 t h x = record-as s rs i r 0 h ∙ ap (λ (q : Row). headerOut (q .id)) (sym x)
+module _ (δ : ℕ) (s : List ℕ) (rs : List Row) (i : ℕ) (r : Row) where
+  pub record-0 : (t : Row) → r .kind ≡ 0 → t ≡ rowAt rs (r .link) → recordOut δ s rs i r ≡ headerOut (t .id)
+  record-0 t h x = record-as δ s rs i r 0 h ∙ ap (λ (q : Row). headerOut (q .id)) (sym x)
 
-  pub record-1 : (c t : Row) → r .kind ≡ 1 → c ≡ rowAt rs (r .link) → t ≡ rowAt rs (c .link) → recordOut s rs i r ≡ byIdOut (r .id) (t .id)
+  pub record-1 : (c t : Row) → r .kind ≡ 1 → c ≡ rowAt rs (r .link) → t ≡ rowAt rs (c .link) → recordOut δ s rs i r ≡ byIdOut (r .id) (t .id)
   record-1 c t h x y =
-      record-as s rs i r 1 h ∙ ap (λ (q : Row). byIdOut (r .id) (q .id)) (sym (y ∙ ap (λ (q : Row). rowAt rs (q .link)) x))
+      record-as δ s rs i r 1 h ∙ ap (λ (q : Row). byIdOut (r .id) (q .id)) (sym (y ∙ ap (λ (q : Row). rowAt rs (q .link)) x))
 
-  pub record-9 : (t : Row) → r .kind ≡ 9 → t ≡ rowAt rs (r .link) → recordOut s rs i r ≡ headOut 9 (t .id)
-  record-9 t h x = record-as s rs i r 9 h ∙ ap (λ (q : Row). headOut 9 (q .id)) (sym x)
+  pub record-9 : (t : Row) → r .kind ≡ 9 → t ≡ rowAt rs (r .link) → recordOut δ s rs i r ≡ headOut 9 (t .id)
+  record-9 t h x = record-as δ s rs i r 9 h ∙ ap (λ (q : Row). headOut 9 (q .id)) (sym x)
 
   abbrev Not : ℕ → Type 0
   Not k = r .kind ≡ k → ⊥
 
   pub record-other : Not 0 → Not 1 → Not 4 → Not 5 → Not 6 → Not 7 → Not 8 → Not 9 → Not 10 → Not 12 → Not 13 → Not 14 → Not 15 → Not 16 → Not 17 → Not 32
-      → recordOut s rs i r ≡ between s (r .offset) (r .end)
+      → recordOut δ s rs i r ≡ between s (r .offset) (r .end)
   record-other a b c d e f p g h j k l m n o q =
-      record-as s rs i r (r .kind) refl
+      record-as δ s rs i r (r .kind) refl
       ∙ rw (
         ne-eqb _ _ a,
         ne-eqb _ _ b,

@@ -1,4 +1,5 @@
 // All 14 counter examples and the streams that the arguments name, each with what reading it answers. The stored output has what the rules say.
+use format::Setting;
 use libc::STDOUT_FILENO;
 
 // One stream with a table of 512 words.
@@ -6,7 +7,7 @@ fn one(name: &[u8], s: &[u8]) {
     io::write_all(STDOUT_FILENO, name);
     io::write_all(STDOUT_FILENO, b": ");
     let mut table = [0u32; 512];
-    let a = reader::read(s, &mut table);
+    let a = reader::read(s, &mut table, Setting::Strict);
     lines::answer(&table, a);
 }
 
@@ -15,7 +16,7 @@ fn small(name: &[u8], s: &[u8]) {
     io::write_all(STDOUT_FILENO, name);
     io::write_all(STDOUT_FILENO, b": ");
     let mut table = [0u32; 16];
-    let a = reader::read(s, &mut table);
+    let a = reader::read(s, &mut table, Setting::Strict);
     lines::answer(&table, a);
 }
 

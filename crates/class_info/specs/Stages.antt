@@ -7,6 +7,7 @@ use mathlib.Core.List.{List}
 use native.Mathlib.Omega.{arith}
 use lib.ListN.{length, getD}
 use borrow.Author.Tests.{eq-eqb, ne-eqb}
+use Rattle.format.specs.Terms.{Terms}
 use Rattle.format.specs.declared.Refusal.{Refusal}
 use Rattle.format.specs.declared.Refusal.the-variants as R
 use Rattle.format.specs.declared.Number32.the-variants as N32
@@ -38,11 +39,13 @@ module _ (s : List ℕ) where
       let w = u32-says s at (t .0) end (t .1) in
       (omega arith, omega arith)
 
-  pub info-before : (b at end : ℕ) → b ≡ 4 → infoAt s b at ≡ F.End end → (4 ≤ end) × (end ≤ length s)
+module _ (τ : Terms) (s : List ℕ) where
+  pub info-before : (b at end : ℕ) → b ≡ 4 → infoAt (τ .setting) s b at ≡ F.End end → (4 ≤ end) × (end ≤ length s)
   info-before b at end h q =
-      let x = through (libraryIdAt s) (nameAt s at) end (sym (info-class s at b h) ∙ q) in
-      library-before (x .0) end (x .2)
+      let x = through (libraryIdAt s) (nameAt (τ .setting) s at) end (sym (info-class (τ .setting) s at b h) ∙ q) in
+      library-before s (x .0) end (x .2)
 
+module _ (s : List ℕ) where
   -- and they are a number
   pub four-there : (end : ℕ) → 4 ≤ end → end ≤ length s → u32At s (end - 4) ≡ N32.Short → ⊥
   four-there end h g q =
@@ -67,29 +70,30 @@ module _ (s : List ℕ) (rows : List Row) where
   unfolding ownLibraryAt
   own-library-bad at f h = rw h
 
+module _ (τ : Terms) (s : List ℕ) (rows : List Row) where
   -- ---- details
 
   module _ (b at : ℕ) where
-    pub info-class-known : (end : ℕ) → infoAt s b at ≡ F.End end → b ≡ 4 → infoKnown s rows b at ≡ knownLibrary s rows end
+    pub info-class-known : (end : ℕ) → infoAt (τ .setting) s b at ≡ F.End end → b ≡ 4 → infoKnown τ s rows b at ≡ knownLibrary s rows end
     unfolding infoKnown
     info-class-known end h g = rw (h, eq-eqb b 4 g)
 
-    pub info-other-known : (end : ℕ) → infoAt s b at ≡ F.End end → (b ≡ 4 → ⊥) → infoKnown s rows b at ≡ F.End end
+    pub info-other-known : (end : ℕ) → infoAt (τ .setting) s b at ≡ F.End end → (b ≡ 4 → ⊥) → infoKnown τ s rows b at ≡ F.End end
     unfolding infoKnown
     info-other-known end h g = rw (h, ne-eqb b 4 g)
 
-    pub info-known-bad : (f : Refusal) → infoAt s b at ≡ F.Fault f → infoKnown s rows b at ≡ F.Fault f
+    pub info-known-bad : (f : Refusal) → infoAt (τ .setting) s b at ≡ F.Fault f → infoKnown τ s rows b at ≡ F.Fault f
     unfolding infoKnown
     info-known-bad f h = rw h
 
   -- for the loop: no detail is left, or one more is read
-  pub infos-none : (n types at : ℕ) → n ≤ 0 → infosAt s rows n types at ≡ F.End at
+  pub infos-none : (n types at : ℕ) → n ≤ 0 → infosAt τ s rows n types at ≡ F.End at
   unfolding infosAt
   infos-none zero types at h = refl
   infos-none (suc n) types at h = absurd (omega arith)
 
   pub infos-step : (n types at : ℕ) → 0 < n
-      → infosAt s rows n types at ≡ onEnd (infosAt s rows (n - 1) (types + 1)) (infoKnown s rows (getD s types 0) at)
+      → infosAt τ s rows n types at ≡ onEnd (infosAt τ s rows (n - 1) (types + 1)) (infoKnown τ s rows (getD s types 0) at)
   unfolding infosAt
   infos-step zero types at h = absurd (omega arith)
   infos-step (suc n) types at h =
@@ -100,29 +104,31 @@ module _ (s : List ℕ) (rows : List Row) where
 
   -- the details, then what follows them
   unfoldable pub detailsAt : Bool → ℕ → ℕ → ℕ → Field
-  detailsAt own n types infos = onEnd (afterInfos own s rows) (infosAt s rows n types infos)
+  detailsAt own n types infos = onEnd (afterInfos own s rows) (infosAt τ s rows n types infos)
 
   module _ (n types infos : ℕ) where
-    pub details-own : (own : Bool) (p : ℕ) → own ≡ true → infosAt s rows n types infos ≡ F.End p → detailsAt own n types infos ≡ ownLibraryAt s rows p
+    pub details-own : (own : Bool) (p : ℕ) → own ≡ true → infosAt τ s rows n types infos ≡ F.End p → detailsAt own n types infos ≡ ownLibraryAt s rows p
     unfolding detailsAt
     details-own own p g h = rw (h, g)
 
-    pub details-end : (own : Bool) (p : ℕ) → own ≡ false → infosAt s rows n types infos ≡ F.End p → detailsAt own n types infos ≡ F.End p
+    pub details-end : (own : Bool) (p : ℕ) → own ≡ false → infosAt τ s rows n types infos ≡ F.End p → detailsAt own n types infos ≡ F.End p
     unfolding detailsAt
     details-end own p g h = rw (h, g)
 
-    pub details-bad : (own : Bool) (f : Refusal) → infosAt s rows n types infos ≡ F.Fault f → detailsAt own n types infos ≡ F.Fault f
+    pub details-bad : (own : Bool) (f : Refusal) → infosAt τ s rows n types infos ≡ F.Fault f → detailsAt own n types infos ≡ F.Fault f
     unfolding detailsAt
     details-bad own f h = rw h
 
+module _ (s : List ℕ) (rows : List Row) where
   -- what the fields of a class say, where they are good
   abbrev pub full : ℕ → ℕ → ℕ → ℕ → ℕ → Heading
   full id n types infos end = H.Fields (record { id = id; end = end; count = n; slots = n; first = typedAt s types infos; link = types })
 
+module _ (τ : Terms) (s : List ℕ) (rows : List Row) where
   -- members whose names end at this place
   unfoldable pub typedMembersAt : Bool → ℕ → ℕ → ℕ → Heading
   typedMembersAt own id n types =
-      onField (λ infos. onField (full id n types infos) (detailsAt own n types infos)) (times (typeByteAt s) n types)
+      onField (λ infos. onField (full s rows id n types infos) (detailsAt τ s rows own n types infos)) (times (typeByteAt s) n types)
 
   module _ (own : Bool) (id n : ℕ) where
     module _ (types : ℕ) where
@@ -131,30 +137,34 @@ module _ (s : List ℕ) (rows : List Row) where
       types-bad f h = rw h
 
       module _ (infos : ℕ) (h : times (typeByteAt s) n types ≡ F.End infos) where
-        pub members-details-bad : (f : Refusal) → detailsAt own n types infos ≡ F.Fault f → typedMembersAt own id n types ≡ H.Bad f
+        pub members-details-bad : (f : Refusal) → detailsAt τ s rows own n types infos ≡ F.Fault f → typedMembersAt own id n types ≡ H.Bad f
         unfolding typedMembersAt
         members-details-bad f g = rw (h, g)
 
-        pub members-end : (end : ℕ) → detailsAt own n types infos ≡ F.End end → typedMembersAt own id n types ≡ full id n types infos end
+        pub members-end : (end : ℕ) → detailsAt τ s rows own n types infos ≡ F.End end → typedMembersAt own id n types ≡ full s rows id n types infos end
         unfolding typedMembersAt
         members-end end g = rw (h, g)
 
+module _ (s : List ℕ) (rows : List Row) where
+  module _ (own : Bool) (id n : ℕ) where
     -- two steps after the type bytes, or one that takes them together
     together : (k : ℕ → Heading) (g : ℕ → Field) (r : Field) → onField (λ p. onField k (g p)) r ≡ onField k (onEnd g r)
     together k g (F.End p) = refl
     together k g (F.Fault f) = refl
 
-    pub names-end : (at types : ℕ) → times (nameAt s) n at ≡ F.End types → membersAt s rows own id n at ≡ typedMembersAt own id n types
+module _ (τ : Terms) (s : List ℕ) (rows : List Row) where
+  module _ (own : Bool) (id n : ℕ) where
+    pub names-end : (at types : ℕ) → times (nameAt (τ .setting) s) n at ≡ F.End types → membersAt τ s rows own id n at ≡ typedMembersAt τ s rows own id n types
     unfolding membersAt typedMembersAt detailsAt
     names-end at types h = rw h (go (times (typeByteAt s) n types))
       where
         go : (r : Field)
-            → onField (λ infos. onField (λ p. onField (full id n types infos) (afterInfos own s rows p)) (infosAt s rows n types infos)) r
-            ≡ onField (λ infos. onField (full id n types infos) (onEnd (afterInfos own s rows) (infosAt s rows n types infos))) r
-        go (F.End infos) = together (full id n types infos) (afterInfos own s rows) (infosAt s rows n types infos)
+            → onField (λ infos. onField (λ p. onField (full s rows id n types infos) (afterInfos own s rows p)) (infosAt τ s rows n types infos)) r
+            ≡ onField (λ infos. onField (full s rows id n types infos) (onEnd (afterInfos own s rows) (infosAt τ s rows n types infos))) r
+        go (F.End infos) = together s rows own id n (full s rows id n types infos) (afterInfos own s rows) (infosAt τ s rows n types infos)
         go (F.Fault f) = refl
 
-    pub names-bad : (at : ℕ) (f : Refusal) → times (nameAt s) n at ≡ F.Fault f → membersAt s rows own id n at ≡ H.Bad f
+    pub names-bad : (at : ℕ) (f : Refusal) → times (nameAt (τ .setting) s) n at ≡ F.Fault f → membersAt τ s rows own id n at ≡ H.Bad f
     unfolding membersAt
     names-bad at f h = rw h
 
@@ -163,14 +173,14 @@ module _ (s : List ℕ) (rows : List Row) where
   -- a class whose ObjectId ends at this place
   unfoldable pub namedClassAt : Bool → ℕ → ℕ → Heading
   namedClassAt own id p =
-      onField (λ q. onNumber (λ n r. pick (negative n) (H.Bad R.BadCount) (membersAt s rows own id n r)) (u32At s q)) (nameAt s p)
+      onField (λ q. onNumber (λ n r. pick (negative n) (H.Bad R.BadCount) (membersAt τ s rows own id n r)) (u32At s q)) (nameAt (τ .setting) s p)
 
   module _ (own : Bool) (id p : ℕ) where
-    pub name-bad : (f : Refusal) → nameAt s p ≡ F.Fault f → namedClassAt own id p ≡ H.Bad f
+    pub name-bad : (f : Refusal) → nameAt (τ .setting) s p ≡ F.Fault f → namedClassAt own id p ≡ H.Bad f
     unfolding namedClassAt
     name-bad f h = rw h
 
-    module _ (q : ℕ) (h : nameAt s p ≡ F.End q) where
+    module _ (q : ℕ) (h : nameAt (τ .setting) s p ≡ F.End q) where
       pub count-short : u32At s q ≡ N32.Short → namedClassAt own id p ≡ H.Bad R.CutShort
       unfolding namedClassAt
       count-short g = rw (h, g)
@@ -180,10 +190,11 @@ module _ (s : List ℕ) (rows : List Row) where
         unfolding namedClassAt
         count-bad i = rw (h, g, i)
 
-        pub count-good : negative n ≡ false → namedClassAt own id p ≡ membersAt s rows own id n r
+        pub count-good : negative n ≡ false → namedClassAt own id p ≡ membersAt τ s rows own id n r
         unfolding namedClassAt
         count-good i = rw (h, g, i)
 
+module _ (s : List ℕ) (rows : List Row) where
   -- ---- kind 1
 
   -- a class by id whose ObjectId ends at this place
@@ -221,33 +232,35 @@ module _ (s : List ℕ) (rows : List Row) where
       new-free : goodClassId rows id ≡ true → newClass ≡ rest id p
       new-free g = rw (h, g)
 
+module _ (τ : Terms) (s : List ℕ) (rows : List Row) where
   module _ (own : Bool) (at : ℕ) where
-    pub class-short : u32At s (at + 1) ≡ N32.Short → classAt s rows own at ≡ H.Bad R.CutShort
+    pub class-short : u32At s (at + 1) ≡ N32.Short → classAt τ s rows own at ≡ H.Bad R.CutShort
     unfolding classAt namedClassAt
-    class-short h = new-short (namedClassAt own) at h
+    class-short h = new-short s rows (namedClassAt τ s rows own) at h
 
     module _ (id p : ℕ) (h : u32At s (at + 1) ≡ N32.Value id p) where
-      pub class-used : goodClassId rows id ≡ false → classAt s rows own at ≡ H.Bad R.BadId
+      pub class-used : goodClassId rows id ≡ false → classAt τ s rows own at ≡ H.Bad R.BadId
       unfolding classAt namedClassAt
-      class-used g = new-used (namedClassAt own) at id p h g
+      class-used g = new-used s rows (namedClassAt τ s rows own) at id p h g
 
-      pub class-free : goodClassId rows id ≡ true → classAt s rows own at ≡ namedClassAt own id p
+      pub class-free : goodClassId rows id ≡ true → classAt τ s rows own at ≡ namedClassAt τ s rows own id p
       unfolding classAt namedClassAt
-      class-free g = new-free (namedClassAt own) at id p h g
+      class-free g = new-free s rows (namedClassAt τ s rows own) at id p h g
 
+module _ (s : List ℕ) (rows : List Row) where
   module _ (at : ℕ) where
     pub by-id-short : u32At s (at + 1) ≡ N32.Short → classByIdAt s rows at ≡ H.Bad R.CutShort
     unfolding classByIdAt byMetadataAt
-    by-id-short h = new-short byMetadataAt at h
+    by-id-short h = new-short s rows (byMetadataAt s rows) at h
 
     module _ (id p : ℕ) (h : u32At s (at + 1) ≡ N32.Value id p) where
       pub by-id-used : goodClassId rows id ≡ false → classByIdAt s rows at ≡ H.Bad R.BadId
       unfolding classByIdAt byMetadataAt
-      by-id-used g = new-used byMetadataAt at id p h g
+      by-id-used g = new-used s rows (byMetadataAt s rows) at id p h g
 
-      pub by-id-free : goodClassId rows id ≡ true → classByIdAt s rows at ≡ byMetadataAt id p
+      pub by-id-free : goodClassId rows id ≡ true → classByIdAt s rows at ≡ byMetadataAt s rows id p
       unfolding classByIdAt byMetadataAt
-      by-id-free g = new-free byMetadataAt at id p h g
+      by-id-free g = new-free s rows (byMetadataAt s rows) at id p h g
 
 -- the row of a class is one of the first n
 pub class-inside : (class n : ℕ) (t : List ℕ) → classRow class (rowsOf n t) ≤ n

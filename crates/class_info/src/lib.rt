@@ -5,12 +5,14 @@ use format::Heading;
 use format::LibraryNo;
 use format::Number32;
 use format::Refusal;
+use format::Setting;
 ghost use Prim.Native.Nat.{_+_, _-_, _≤_};
 ghost use mathlib.Core.Path.{_≡_};
 ghost use lib.ListN.{length};
 ghost use Rattle.format.specs.Rows.{roomOf, rowsOf};
 ghost use Rattle.format.specs.Records.{knownLibrary, ownLibraryAt, infoKnown, infosAt, membersAt};
 ghost use Rattle.class_info.specs.Stages.{detailsAt, typedMembersAt};
+ghost use Rattle.format.specs.Terms.{terms};
 
 // The LibraryId in the four bytes before a place: its library is known.
 fn known_library(s: &[u8], table: &[u32], n: usize, end: usize) -> Field
@@ -42,11 +44,11 @@ pub fn own_library_at(s: &[u8], table: &[u32], n: usize, at: usize) -> Field
 // ---- details
 
 // The detail of a type, and for type 4 its library known.
-pub fn info_known(s: &[u8], table: &[u32], n: usize, kind: u8, at: usize) -> Field
+pub fn info_known(s: &[u8], table: &[u32], n: usize, kind: u8, at: usize, setting: Setting) -> Field
     requires { ⌜ n ≤ roomOf (now table) ⌝ }
-    ensures { λ r. ⌜ r ≡ infoKnown (now (s .entry)) (rowsOf n (now (table .entry))) kind at ⌝ }
+    ensures { λ r. ⌜ r ≡ infoKnown (terms setting) (now (s .entry)) (rowsOf n (now (table .entry))) kind at ⌝ }
 {
-    match types::info_at(s, kind, at) {
+    match types::info_at(s, kind, at, setting) {
         Field::End(end) => {
             if kind == 4 {
                 return known_library(s, table, n, end);
@@ -58,15 +60,23 @@ pub fn info_known(s: &[u8], table: &[u32], n: usize, kind: u8, at: usize) -> Fie
 }
 
 // The details of as many members as count, their type bytes from a place on: the first that is bad or missing decides.
-fn infos_at(s: &[u8], table: &[u32], n: usize, count: u32, types: usize, at: usize) -> Field
+fn infos_at(
+    s: &[u8],
+    table: &[u32],
+    n: usize,
+    count: u32,
+    types: usize,
+    at: usize,
+    setting: Setting,
+) -> Field
     requires { ⌜ (n ≤ roomOf (now table)) × (types + count ≤ length (now s)) ⌝ }
-    ensures { λ r. ⌜ r ≡ infosAt (now (s .entry)) (rowsOf n (now (table .entry))) count types at ⌝ }
+    ensures { λ r. ⌜ r ≡ infosAt (terms setting) (now (s .entry)) (rowsOf n (now (table .entry))) count types at ⌝ }
 {
     let mut left = count;
     let mut t = types;
     let mut p = at;
     while left > 0 {
-        match info_known(s, table, n, s[t], p) {
+        match info_known(s, table, n, s[t], p, setting) {
             Field::End(next) => {
                 p = next;
             }
@@ -91,11 +101,12 @@ fn details_at(
     count: u32,
     types: usize,
     infos: usize,
+    setting: Setting,
 ) -> Field
     requires { ⌜ (n ≤ roomOf (now table)) × (types + count ≤ length (now s)) ⌝ }
-    ensures { λ r. ⌜ r ≡ detailsAt (now (s .entry)) (rowsOf n (now (table .entry))) own count types infos ⌝ }
+    ensures { λ r. ⌜ r ≡ detailsAt (terms setting) (now (s .entry)) (rowsOf n (now (table .entry))) own count types infos ⌝ }
 {
-    match infos_at(s, table, n, count, types, infos) {
+    match infos_at(s, table, n, count, types, infos, setting) {
         Field::End(p) => {
             if own {
                 return own_library_at(s, table, n, p);
@@ -115,12 +126,13 @@ fn typed_members_at(
     id: u32,
     count: u32,
     types: usize,
+    setting: Setting,
 ) -> Heading
     requires { ⌜ (n ≤ roomOf (now table)) × (length (now s) ≤ 16777216) × (types ≤ length (now s)) ⌝ }
-    ensures { λ r. ⌜ r ≡ typedMembersAt (now (s .entry)) (rowsOf n (now (table .entry))) own id count types ⌝ }
+    ensures { λ r. ⌜ r ≡ typedMembersAt (terms setting) (now (s .entry)) (rowsOf n (now (table .entry))) own id count types ⌝ }
 {
     match types::type_bytes_at(s, count, types) {
-        Field::End(infos) => match details_at(s, table, n, own, count, types, infos) {
+        Field::End(infos) => match details_at(s, table, n, own, count, types, infos, setting) {
             Field::End(end) => {
                 let link = types as u32;
                 let first = slots::typed_at(s, link, infos as u32);
@@ -148,12 +160,13 @@ pub fn members_at(
     id: u32,
     count: u32,
     at: usize,
+    setting: Setting,
 ) -> Heading
     requires { ⌜ (n ≤ roomOf (now table)) × (length (now s) ≤ 16777216) × (at ≤ length (now s)) ⌝ }
-    ensures { λ r. ⌜ r ≡ membersAt (now (s .entry)) (rowsOf n (now (table .entry))) own id count at ⌝ }
+    ensures { λ r. ⌜ r ≡ membersAt (terms setting) (now (s .entry)) (rowsOf n (now (table .entry))) own id count at ⌝ }
 {
-    match types::names_at(s, count, at) {
-        Field::End(types) => typed_members_at(s, table, n, own, id, count, types),
+    match types::names_at(s, count, at, setting) {
+        Field::End(types) => typed_members_at(s, table, n, own, id, count, types, setting),
         Field::Fault(f) => Heading::Bad(f),
     }
 }

@@ -4,12 +4,14 @@ use format::Heading;
 use format::Number32;
 use format::ObjectNo;
 use format::Refusal;
+use format::Setting;
 ghost use Prim.Native.Nat.{_+_, _-_, _≤_, _<_};
 ghost use mathlib.Core.Path.{_≡_};
 ghost use lib.ListN.{length};
 ghost use Rattle.format.specs.Rows.{roomOf, rowsOf};
 ghost use Rattle.format.specs.Records.{goodClassId, classAt};
 ghost use Rattle.class_info.specs.Stages.{namedClassAt};
+ghost use Rattle.format.specs.Terms.{terms};
 
 // ---- ids
 
@@ -28,11 +30,19 @@ pub fn is_free_class_id(table: &[u32], n: usize, id: ObjectNo) -> bool
 // ---- kinds 4 and 5
 
 // A class whose ObjectId is read: name, member count, members (ClassInfo, 2.3.1.1, and MemberTypeInfo, 2.3.1.2).
-fn named_class_at(s: &[u8], table: &[u32], n: usize, own: bool, id: u32, at: usize) -> Heading
+fn named_class_at(
+    s: &[u8],
+    table: &[u32],
+    n: usize,
+    own: bool,
+    id: u32,
+    at: usize,
+    setting: Setting,
+) -> Heading
     requires { ⌜ (n ≤ roomOf (now table)) × (length (now s) ≤ 16777216) ⌝ }
-    ensures { λ r. ⌜ r ≡ namedClassAt (now (s .entry)) (rowsOf n (now (table .entry))) own id at ⌝ }
+    ensures { λ r. ⌜ r ≡ namedClassAt (terms setting) (now (s .entry)) (rowsOf n (now (table .entry))) own id at ⌝ }
 {
-    let q = match types::name_at(s, at) {
+    let q = match types::name_at(s, at, setting) {
         Field::End(next) => next,
         Field::Fault(f) => {
             return Heading::Bad(f);
@@ -44,19 +54,26 @@ fn named_class_at(s: &[u8], table: &[u32], n: usize, own: bool, id: u32, at: usi
     if num::is_negative(count) {
         return Heading::Bad(Refusal::BadCount);
     }
-    class_info::members_at(s, table, n, own, id, count, r)
+    class_info::members_at(s, table, n, own, id, count, r, setting)
 }
 
 // SystemClassWithMembersAndTypes (kind 4, 2.3.2.3), or with its own LibraryId ClassWithMembersAndTypes (kind 5, 2.3.2.1).
-pub fn class_at(s: &[u8], table: &[u32], n: usize, own: bool, at: usize) -> Heading
+pub fn class_at(
+    s: &[u8],
+    table: &[u32],
+    n: usize,
+    own: bool,
+    at: usize,
+    setting: Setting,
+) -> Heading
     requires { ⌜ (n ≤ roomOf (now table)) × (length (now s) ≤ 16777216) × (at < length (now s)) ⌝ }
-    ensures { λ r. ⌜ r ≡ classAt (now (s .entry)) (rowsOf n (now (table .entry))) own at ⌝ }
+    ensures { λ r. ⌜ r ≡ classAt (terms setting) (now (s .entry)) (rowsOf n (now (table .entry))) own at ⌝ }
 {
     let Number32::Value(id, p) = num::u32_at(s, at + 1) else {
         return Heading::Bad(Refusal::CutShort);
     };
     if is_free_class_id(table, n, ObjectNo(id)) {
-        return named_class_at(s, table, n, own, id, p);
+        return named_class_at(s, table, n, own, id, p, setting);
     }
     Heading::Bad(Refusal::BadId)
 }

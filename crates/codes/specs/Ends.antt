@@ -5,6 +5,7 @@ use mathlib.Core.Bool.{true, false}
 use mathlib.Core.List.{List}
 use lib.ListN.{length, getD}
 use borrow.Author.Tests.{lt-ltb, le-ltb, le-leb, lt-leb, ne-eqb}
+use Rattle.format.specs.declared.Setting.{Setting}
 use Rattle.format.specs.declared.Refusal.{Refusal}
 use Rattle.format.specs.declared.Refusal.the-variants as R
 use Rattle.format.specs.declared.PrimitiveCode.{PrimitiveCode}
@@ -43,14 +44,6 @@ module _ (s : List ℕ) (p : ℕ) where
     unfolding typeByteAt
     type-bad h = simp (lt-ltb, lt-leb)
 
-  pub name-end : (a e : ℕ) → stringAt s p ≡ T.Part a e → nameAt s p ≡ F.End e
-  unfolding nameAt
-  name-end a e h = rw h
-
-  pub name-bad : (f : Refusal) → stringAt s p ≡ T.Fault f → nameAt s p ≡ F.Fault f
-  unfolding nameAt
-  name-bad f h = rw h
-
   pub library-short : u32At s p ≡ N32.Short → libraryIdAt s p ≡ F.Fault R.CutShort
   unfolding libraryIdAt
   library-short h = rw h
@@ -64,24 +57,33 @@ module _ (s : List ℕ) (p : ℕ) where
     unfolding libraryIdAt
     library-bad g = rw (h, g)
 
-  -- ---- the details, by the type byte
+-- ---- names, and details by the type byte
 
-  pub info-primitive : (b : ℕ) → b ≡ 0 → infoAt s b p ≡ codeAt s p
+module _ (σ : Setting) (s : List ℕ) (p : ℕ) where
+  pub name-end : (a e : ℕ) → stringAt σ s p ≡ T.Part a e → nameAt σ s p ≡ F.End e
+  unfolding nameAt
+  name-end a e h = rw h
+
+  pub name-bad : (f : Refusal) → stringAt σ s p ≡ T.Fault f → nameAt σ s p ≡ F.Fault f
+  unfolding nameAt
+  name-bad f h = rw h
+
+  pub info-primitive : (b : ℕ) → b ≡ 0 → infoAt σ s b p ≡ codeAt s p
   unfolding infoAt
   info-primitive b h = rw h
 
-  pub info-array : (b : ℕ) → b ≡ 7 → infoAt s b p ≡ codeAt s p
+  pub info-array : (b : ℕ) → b ≡ 7 → infoAt σ s b p ≡ codeAt s p
   unfolding infoAt
   info-array b h = rw h
 
-  pub info-system : (b : ℕ) → b ≡ 3 → infoAt s b p ≡ nameAt s p
+  pub info-system : (b : ℕ) → b ≡ 3 → infoAt σ s b p ≡ nameAt σ s p
   unfolding infoAt
   info-system b h = rw h
 
-  pub info-class : (b : ℕ) → b ≡ 4 → infoAt s b p ≡ onEnd (libraryIdAt s) (nameAt s p)
+  pub info-class : (b : ℕ) → b ≡ 4 → infoAt σ s b p ≡ onEnd (libraryIdAt s) (nameAt σ s p)
   unfolding infoAt
   info-class b h = rw h
 
-  pub info-none : (b : ℕ) → (b ≡ 0 → ⊥) → (b ≡ 7 → ⊥) → (b ≡ 3 → ⊥) → (b ≡ 4 → ⊥) → infoAt s b p ≡ F.End p
+  pub info-none : (b : ℕ) → (b ≡ 0 → ⊥) → (b ≡ 7 → ⊥) → (b ≡ 3 → ⊥) → (b ≡ 4 → ⊥) → infoAt σ s b p ≡ F.End p
   unfolding infoAt
   info-none b zero seven three four = rw (ne-eqb b 0 zero, ne-eqb b 7 seven, ne-eqb b 3 three, ne-eqb b 4 four)

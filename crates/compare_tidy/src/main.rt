@@ -1,9 +1,11 @@
 // Tidies many streams, one behind another, each with its length, the size of its table in words and the size of its output in bytes before it
 // (four bytes each, the low byte first), and prints the answer to each, a hash of the words that are left and one of all bytes of the output.
-// For comparing with the independent tidier.
+// For comparing with the independent tidier. With the word `--lenient` length prefixes may be padded.
+use format::Setting;
 use format::TidyAnswer;
 use libc::STDIN_FILENO;
 use libc::STDOUT_FILENO;
+use options::ForOne;
 ghost use mathlib.Core.Path.{_≡_};
 ghost use lib.ListN.{length};
 
@@ -22,10 +24,10 @@ fn answer(a: TidyAnswer) {
 }
 
 // One stream, the words that its table has and the bytes that its output has.
-fn show(s: &[u8], table: &mut [u32], out: &mut [u8]) {
+fn show(s: &[u8], table: &mut [u32], out: &mut [u8], setting: Setting) {
     traces::litter_words(table);
     traces::litter_bytes(out);
-    let a = tidy::tidy(s, table, out);
+    let a = tidy::tidy(s, table, out, setting);
     answer(a);
     traces::print_lanes(traces::words(table));
     traces::print_lanes(traces::bytes(out));
@@ -40,7 +42,13 @@ pub struct Sizes {
 }
 
 // The stream that comes next, with the sizes of it, its table and its output. False where the input ends before.
-fn one(space: &mut [u8], table: &mut [u32], out: &mut [u8], sizes: Sizes) -> bool {
+fn one(
+    space: &mut [u8],
+    table: &mut [u32],
+    out: &mut [u8],
+    sizes: Sizes,
+    setting: Setting,
+) -> bool {
     let bytes = sizes.bytes;
     let words = sizes.words;
     let room = sizes.room;
@@ -57,12 +65,17 @@ fn one(space: &mut [u8], table: &mut [u32], out: &mut [u8], sizes: Sizes) -> boo
     if got != bytes {
         return false;
     }
-    show(&space[..bytes], &mut table[..words], &mut out[..room]);
+    show(
+        &space[..bytes],
+        &mut table[..words],
+        &mut out[..room],
+        setting,
+    );
     true
 }
 
 // The next stream. False where there is none, or it is larger than the space for it.
-fn next(space: &mut [u8], table: &mut [u32], out: &mut [u8]) -> bool {
+fn next(space: &mut [u8], table: &mut [u32], out: &mut [u8], setting: Setting) -> bool {
     let mut head = [0u8; 12];
     let n = io::read_full(STDIN_FILENO, &mut head);
     if n != 12 {
@@ -73,14 +86,14 @@ fn next(space: &mut [u8], table: &mut [u32], out: &mut [u8]) -> bool {
         words: traces::size_at(&head, 4),
         room: traces::size_at(&head, 8),
     };
-    one(space, table, out, sizes)
+    one(space, table, out, sizes, setting)
 }
 
 // All streams, of which there are at most a million.
-fn all(space: &mut [u8], table: &mut [u32], out: &mut [u8]) {
+fn all(space: &mut [u8], table: &mut [u32], out: &mut [u8], setting: Setting) {
     let mut i: u32 = 0;
     while i < 1000000 {
-        if !next(space, table, out) {
+        if !next(space, table, out, setting) {
             return;
         }
         i += 1;
@@ -101,9 +114,17 @@ fn copy_room() -> [u8; 1000000]
     [0; 1000000]
 }
 
-fn main() {
+// All streams under a setting.
+fn under(setting: Setting) {
     let mut space = stream_room();
     let mut table = [0u32; 8192];
     let mut out = copy_room();
-    all(&mut space, &mut table, &mut out);
+    all(&mut space, &mut table, &mut out, setting);
+}
+
+fn main() {
+    match options::one() {
+        ForOne::Take(setting) => under(setting),
+        ForOne::Wrong => options::usage(b"compare_tidy [--lenient]"),
+    }
 }

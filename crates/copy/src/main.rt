@@ -1,9 +1,11 @@
 // The tidy copy: at most 65,535 bytes from standard input, the copy to standard output. A refusal goes to standard error, and nothing to
-// standard output.
+// standard output. With the word `--lenient` length prefixes may be padded; the copy has the shortest.
+use format::Setting;
 use format::TidyAnswer;
 use libc::STDERR_FILENO;
 use libc::STDIN_FILENO;
 use libc::STDOUT_FILENO;
+use options::ForOne;
 ghost use mathlib.Core.Path.{_≡_};
 ghost use lib.ListN.{length};
 
@@ -46,7 +48,8 @@ fn table_room() -> [u32; 524288]
     [0; 524288]
 }
 
-fn main() {
+// The copy under a setting.
+fn copied(setting: Setting) {
     let mut space = io::large_buffer();
     let n = io::read_full(STDIN_FILENO, &mut space);
     if n == 65536 {
@@ -55,6 +58,13 @@ fn main() {
     }
     let mut table = table_room();
     let mut out = copy_room();
-    let a = tidy::tidy(&space[..n], &mut table, &mut out);
+    let a = tidy::tidy(&space[..n], &mut table, &mut out, setting);
     answer(&out, a);
+}
+
+fn main() {
+    match options::one() {
+        ForOne::Take(setting) => copied(setting),
+        ForOne::Wrong => options::usage(b"copy [--lenient]"),
+    }
 }

@@ -102,38 +102,38 @@ few-more w v r i e h k =
     omega arith
 
 -- ---- the copy
-pub row-is : (s : List ℕ) (rs : List Row) (r : Row) (i : ℕ) (w : Gathered) → rowOut s rs i w r ≡ beforeOut w r ++ recordOut s rs i r
+pub row-is : (δ : ℕ) (s : List ℕ) (rs : List Row) (r : Row) (i : ℕ) (w : Gathered) → rowOut δ s rs i w r ≡ beforeOut w r ++ recordOut δ s rs i r
 unfolding rowOut
-row-is s rs r i w = refl
+row-is δ s rs r i w = refl
 
-pub copy-start : (s : List ℕ) (rs : List Row) (d : List ℕ) → Along (copyOf s rs) (copyFrom s rs 0 noneYet (drop 0 rs)) d d 0
+pub copy-start : (δ : ℕ) (s : List ℕ) (rs : List Row) (d : List ℕ) → Along (copyOf δ s rs) (copyFrom δ s rs 0 noneYet (drop 0 rs)) d d 0
 unfolding copyOf
-copy-start s rs d = along-start (copyOf s rs) (copyFrom s rs 0 noneYet rs) d refl
+copy-start δ s rs d = along-start (copyOf δ s rs) (copyFrom δ s rs 0 noneYet rs) d refl
 
-module _ (s : List ℕ) (rs : List Row) (i : ℕ) (w : Gathered) where
+module _ (δ : ℕ) (s : List ℕ) (rs : List Row) (i : ℕ) (w : Gathered) where
   pub copy-more : (r : Row) (v : Gathered) → i < length rs → r ≡ getD rs i blank → v ≡ runAfter w r
-      → copyFrom s rs i w (drop i rs) ≡ rowOut s rs i w r ++ copyFrom s rs (i + 1) v (drop (i + 1) rs)
+      → copyFrom δ s rs i w (drop i rs) ≡ rowOut δ s rs i w r ++ copyFrom δ s rs (i + 1) v (drop (i + 1) rs)
   unfolding copyFrom
   copy-more r v h x y =
       let o : drop i rs ≡ r ∷ drop (i + 1) rs = rw (x, add-one) (drop-cons rs i blank h) in
-      ap (λ (l : List Row). copyFrom s rs i w l) o
-      ∙ ap (λ (q : Gathered). rowOut s rs i w r ++ copyFrom s rs (i + 1) q (drop (i + 1) rs)) (sym y)
+      ap (λ (l : List Row). copyFrom δ s rs i w l) o
+      ∙ ap (λ (q : Gathered). rowOut δ s rs i w r ++ copyFrom δ s rs (i + 1) q (drop (i + 1) rs)) (sym y)
 
-  pub copy-end : length rs ≤ i → copyFrom s rs i w (drop i rs) ≡ runOut (w .count)
+  pub copy-end : length rs ≤ i → copyFrom δ s rs i w (drop i rs) ≡ runOut (w .count)
   unfolding copyFrom
   copy-end h = rw (drop-of-length-le rs {i = i} h)
 
 -- a part d of the output, which is e after i rows and a bytes: a row more is written at m, as y
-module _ (s d e y : List ℕ) (rs : List Row) (n i a b m t : ℕ) (w v : Gathered) (r : Row) where
+module _ (δ : ℕ) (s d e y : List ℕ) (rs : List Row) (n i a b m t : ℕ) (w v : Gathered) (r : Row) where
   pub row-copied : length rs ≡ n → i < n → r ≡ getD rs i blank → r .count < 4294967296 → v ≡ runAfter w r → w .count ≤ 4294967296 * i
-      → Along (copyOf s rs) (copyFrom s rs i w (drop i rs)) d e a → Least a (length e) m → t ≡ capped (a + b)
-      → length y ≡ length (midOf m (length e - m) e) → Filled (rowOut s rs i w r) (midOf m (length e - m) e) y b
-      → (i + 1 ≤ n) × (v .count ≤ 4294967296 * (i + 1)) × Along (copyOf s rs) (copyFrom s rs (i + 1) v (drop (i + 1) rs)) d (putMid m (length e - m) e y) t
+      → Along (copyOf δ s rs) (copyFrom δ s rs i w (drop i rs)) d e a → Least a (length e) m → t ≡ capped (a + b)
+      → length y ≡ length (midOf m (length e - m) e) → Filled (rowOut δ s rs i w r) (midOf m (length e - m) e) y b
+      → (i + 1 ≤ n) × (v .count ≤ 4294967296 * (i + 1)) × Along (copyOf δ s rs) (copyFrom δ s rs (i + 1) v (drop (i + 1) rs)) d (putMid m (length e - m) e y) t
   row-copied l h x k g j p q z o f = (
     omega arith,
     few-more w v r i g j k,
-    along-more (copyOf s rs) (copyFrom s rs i w (drop i rs)) d e y a b m t p q z
-        (rowOut s rs i w r) (copyFrom s rs (i + 1) v (drop (i + 1) rs)) (copy-more s rs i w r v (omega arith) x g) o f,
+    along-more (copyOf δ s rs) (copyFrom δ s rs i w (drop i rs)) d e y a b m t p q z
+        (rowOut δ s rs i w r) (copyFrom δ s rs (i + 1) v (drop (i + 1) rs)) (copy-more δ s rs i w r v (omega arith) x g) o f,
   )
 
 -- ---- more of the nulls before
@@ -161,12 +161,12 @@ both : (t u : Bool) → pick t u false ≡ true → (t ≡ true) × (u ≡ true)
 both true u e = (refl, e)
 both false u e = absurd (let z : _≡_ {A = ℕ} 0 1 = ap (λ (b : Bool). pick b 1 0) e in omega arith)
 
-module _ (w : Gathered) (r : Row) (n : isNulls (r .kind) ≡ true) (o : r .owner ≡ w .owner) where
+module _ (δ : ℕ) (w : Gathered) (r : Row) (n : isNulls (r .kind) ≡ true) (o : r .owner ≡ w .owner) where
   skip-before : beforeOut w r ≡ []
   unfolding beforeOut
   skip-before = picked (λ (l : List ℕ). l ≡ []) (isPassed r) (λ a. refl) (λ a. rw (n, eq-eqb _ _ o))
 
-  skip-record : (s : List ℕ) (rs : List Row) (i : ℕ) → recordOut s rs i r ≡ []
+  skip-record : (s : List ℕ) (rs : List Row) (i : ℕ) → recordOut δ s rs i r ≡ []
   unfolding recordOut
   skip-record s rs i = by-nulls (r .kind) (λ e. rw e) (λ e. rw e) (λ e. rw e) n
 
@@ -183,22 +183,22 @@ module _ (w : Gathered) (r : Row) (n : isNulls (r .kind) ≡ true) (o : r .owner
       rw (o, c))
       (λ a. rw (n, eq-eqb _ _ o))
 
-module _ (s d e : List ℕ) (rs : List Row) (n i a kind owner count : ℕ) (w v : Gathered) where
+module _ (δ : ℕ) (s d e : List ℕ) (rs : List Row) (n i a kind owner count : ℕ) (w v : Gathered) where
   pub row-skipped : length rs ≡ n → i < n → kind ≡ getD rs i blank .kind → owner ≡ getD rs i blank .owner → count ≡ getD rs i blank .count
       → count < 4294967296 → isMore w kind owner ≡ true → v ≡ record { owner = owner; count = w .count + count } → w .count ≤ 4294967296 * i
-      → Along (copyOf s rs) (copyFrom s rs i w (drop i rs)) d e a
-      → (i + 1 ≤ n) × (v .count ≤ 4294967296 * (i + 1)) × Along (copyOf s rs) (copyFrom s rs (i + 1) v (drop (i + 1) rs)) d e a
+      → Along (copyOf δ s rs) (copyFrom δ s rs i w (drop i rs)) d e a
+      → (i + 1 ≤ n) × (v .count ≤ 4294967296 * (i + 1)) × Along (copyOf δ s rs) (copyFrom δ s rs (i + 1) v (drop (i + 1) rs)) d e a
   unfolding isMore
   row-skipped l h x y z k m g j p =
       let r = getD rs i blank in
       let q = both (isNulls kind) (eqb owner (w .owner)) m in
       let f : isNulls (r .kind) ≡ true = rw (← x) (q .0) in
       let o : r .owner ≡ w .owner = sym y ∙ eqb-true owner (w .owner) (q .1) in
-      let b : v ≡ runAfter w r = g ∙ (rw (y, z) (skip-after w r f o)) in
-      let c : beforeOut w r ++ recordOut s rs i r ≡ [] = rw (skip-before w r f o, skip-record w r f o s rs i) in
-      let t : copyFrom s rs i w (drop i rs) ≡ copyFrom s rs (i + 1) v (drop (i + 1) rs) =
-      copy-more s rs i w r v (omega arith) refl b ∙ ap (λ (u : List ℕ). u ++ copyFrom s rs (i + 1) v (drop (i + 1) rs)) (row-is s rs r i w ∙ c) in
-      (omega arith, few-more w v r i b j (rw (← z) k), subst (λ (u : List ℕ). Along (copyOf s rs) u d e a) t p)
+      let b : v ≡ runAfter w r = g ∙ (rw (y, z) (skip-after δ w r f o)) in
+      let c : beforeOut w r ++ recordOut δ s rs i r ≡ [] = rw (skip-before δ w r f o, skip-record δ w r f o s rs i) in
+      let t : copyFrom δ s rs i w (drop i rs) ≡ copyFrom δ s rs (i + 1) v (drop (i + 1) rs) =
+      copy-more δ s rs i w r v (omega arith) refl b ∙ ap (λ (u : List ℕ). u ++ copyFrom δ s rs (i + 1) v (drop (i + 1) rs)) (row-is δ s rs r i w ∙ c) in
+      (omega arith, few-more w v r i b j (rw (← z) k), subst (λ (u : List ℕ). Along (copyOf δ s rs) u d e a) t p)
 
 -- ---- all or nothing
 pub dry : (x y : List ℕ) → length y ≡ 0 → putMid 0 0 x y ≡ x

@@ -1,5 +1,5 @@
 // Writes the tidy copy from marked rows, one row after the other: null runs are gathered across rows, and the same traversal measures
-// and writes.
+// and writes. `anew` is the code whose values are written anew.
 use format::Reader;
 use format::Row;
 use format::TidyAnswer;
@@ -102,13 +102,14 @@ fn put_row(
     i: usize,
     w: Gathered,
     r: Row,
+    anew: u32,
 ) -> usize
     requires { ⌜ (n ≤ roomOf (now table)) × (n < 4294967296) × (i < 4294967296) ⌝ }
-    ensures { λ q. ⌜ Filled (rowOut (now (s .entry)) (rowsOf n (now (table .entry))) i w r) (now (out .entry)) (now (out .exit)) q ⌝ }
+    ensures { λ q. ⌜ Filled (rowOut anew (now (s .entry)) (rowsOf n (now (table .entry))) i w r) (now (out .entry)) (now (out .exit)) q ⌝ }
 {
     let a = put_before(out, w, r);
     let from = put::least(a, out.len());
-    let b = one_row::put_record(&mut out[from..], s, table, n, i, r);
+    let b = one_row::put_record(&mut out[from..], s, table, n, i, r, anew);
     put::add_up(a, b)
 }
 
@@ -123,9 +124,9 @@ fn put_stretch(out: &mut [u8], s: &[u8], nulls: usize, begin: u32, end: u32) -> 
 }
 
 // The whole copy at the front of `out`, and its length; over an empty part, the length alone.
-fn copy_all(out: &mut [u8], s: &[u8], table: &[u32], n: usize) -> usize
+fn copy_all(out: &mut [u8], s: &[u8], table: &[u32], n: usize, anew: u32) -> usize
     requires { ⌜ (n ≤ roomOf (now table)) × (n ≤ 16777216) ⌝ }
-    ensures { λ q. ⌜ Filled (copyOf (now (s .entry)) (rowsOf n (now (table .entry)))) (now (out .entry)) (now (out .exit)) q ⌝ }
+    ensures { λ q. ⌜ Filled (copyOf anew (now (s .entry)) (rowsOf n (now (table .entry)))) (now (out .entry)) (now (out .exit)) q ⌝ }
 {
     let mut at: usize = 0;
     let mut w = Gathered { owner: 0, count: 0 };
@@ -143,7 +144,7 @@ fn copy_all(out: &mut [u8], s: &[u8], table: &[u32], n: usize) -> usize
         }
         let r = table::row_at(table, n, i);
         let from = put::least(at, out.len());
-        let kept = stretches::stretch_from(s, table, n, i, r.offset);
+        let kept = stretches::stretch_from(s, table, n, i, r.offset, anew);
         if i < kept.next {
             let b = put_stretch(&mut out[from..], s, w.count, r.offset, kept.end);
             at = put::add_up(at, b);
@@ -151,7 +152,7 @@ fn copy_all(out: &mut [u8], s: &[u8], table: &[u32], n: usize) -> usize
             i = kept.next;
             continue;
         }
-        let b = put_row(&mut out[from..], s, table, n, i, w, r);
+        let b = put_row(&mut out[from..], s, table, n, i, w, r, anew);
         at = put::add_up(at, b);
         w = run_after(w, r);
         i += 1;
@@ -162,17 +163,17 @@ fn copy_all(out: &mut [u8], s: &[u8], table: &[u32], n: usize) -> usize
 }
 
 // The copy, or nothing where it does not fit; its length either way.
-pub fn copied(out: &mut [u8], s: &[u8], table: &[u32], n: usize) -> TidyAnswer
-    requires { ⌜ (n ≤ roomOf (now table)) × (n ≤ 16777216) × (length (copyOf (now s) (rowsOf n (now table))) ≤ 18446744073709551615) ⌝ }
-    ensures { λ q. ⌜ (q ≡ answerBy (copyOf (now (s .entry)) (rowsOf n (now (table .entry)))) (now (out .entry))) × (now (out .exit) ≡ outBy (copyOf (now (s .entry)) (rowsOf n (now (table .entry)))) (now (out .entry))) ⌝ }
+pub fn copied(out: &mut [u8], s: &[u8], table: &[u32], n: usize, anew: u32) -> TidyAnswer
+    requires { ⌜ (n ≤ roomOf (now table)) × (n ≤ 16777216) × (length (copyOf anew (now s) (rowsOf n (now table))) ≤ 18446744073709551615) ⌝ }
+    ensures { λ q. ⌜ (q ≡ answerBy (copyOf anew (now (s .entry)) (rowsOf n (now (table .entry)))) (now (out .entry))) × (now (out .exit) ≡ outBy (copyOf anew (now (s .entry)) (rowsOf n (now (table .entry)))) (now (out .entry))) ⌝ }
 {
-    let total = copy_all(&mut out[0..0], s, table, n);
+    let total = copy_all(&mut out[0..0], s, table, n, anew);
     if out.len() < total {
         return TidyAnswer::OutFull(total);
     }
     if Reader::LIMIT < total {
         return TidyAnswer::OutFull(total);
     }
-    copy_all(out, s, table, n);
+    copy_all(out, s, table, n, anew);
     TidyAnswer::Written(total)
 }

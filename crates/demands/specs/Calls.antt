@@ -10,6 +10,7 @@ use lib.ListN.{length, take, drop, replicate, length-append, length-drop}
 use lib.Dec.{leb}
 use lib.Seq.{take-append-seam, drop-at}
 use borrow.Author.Tests.{leb-true, le-leb}
+use Rattle.format.specs.Terms.{Terms}
 use Rattle.format.specs.declared.Refusal.{Refusal}
 use Rattle.format.specs.declared.ReadAnswer.{ReadAnswer}
 use Rattle.format.specs.declared.ReadAnswer.the-variants as A
@@ -38,18 +39,18 @@ tabled n rows = words rows ++ replicate (n - 8 * length rows) 0
 -- ---- reading
 
 -- s has a reading of n rows, which fit the table that held t and then holds u: the rows, then zeros
-pub record HasRows (s t : List ℕ) (n : ℕ) (u : List ℕ) : Type 0 where
+pub record HasRows (τ : Terms) (s t : List ℕ) (n : ℕ) (u : List ℕ) : Type 0 where
   pub rows : List Row
-  pub reads : Reading s rows
+  pub reads : Reading τ s rows
   pub count : length rows ≡ n
   pub fit : n ≤ roomOf t
   pub table-is : u ≡ tabled (length t) rows
 
-pub read-accepts : (s t : List ℕ) → Bytes s → (n : ℕ) (u : List ℕ) → ReadPromise s t (A.Accepted n) u → HasRows s t n u
+pub read-accepts : (τ : Terms) (s t : List ℕ) → Bytes s → (n : ℕ) (u : List ℕ) → ReadPromise τ s t (A.Accepted n) u → HasRows τ s t n u
 unfolding tableWords
-read-accepts s t byte n u p =
-    let x = accepted-of (readOf s (roomOf t)) n (p .answer) in
-    let w = accepted-exactly s byte (roomOf t) (x .0) .0 (x .1) in
+read-accepts τ s t byte n u p =
+    let x = accepted-of (readOf τ s (roomOf t)) n (p .answer) in
+    let w = accepted-exactly τ s byte (roomOf t) (x .0) .0 (x .1) in
     record {
       rows = x .0;
       reads = w .0;
@@ -59,27 +60,27 @@ read-accepts s t byte n u p =
     }
 
 -- a reading whose rows fit the table is accepted
-pub read-accepted : (s t : List ℕ) (rows : List Row) → Reading s rows → length rows ≤ roomOf t → (a : ReadAnswer) (u : List ℕ) → ReadPromise s t a u
+pub read-accepted : (τ : Terms) (s t : List ℕ) (rows : List Row) → Reading τ s rows → length rows ≤ roomOf t → (a : ReadAnswer) (u : List ℕ) → ReadPromise τ s t a u
     → (a ≡ A.Accepted (length rows)) × (u ≡ tabled (length t) rows)
 unfolding readAnswer tableWords
-read-accepted s t rows w l a u p =
-    let e = accepts w (roomOf t) l in
+read-accepted τ s t rows w l a u p =
+    let e = accepts τ w (roomOf t) l in
     (p .answer ∙ ap readAnswer e, p .table ∙ ap (tableWords (length t)) e)
 
 -- after a refusal the table is all zeros, and no reading fits it
-pub read-refuses : (s t : List ℕ) (r : Refusal) (place : ℕ) (u : List ℕ) → ReadPromise s t (A.Refused r place) u
-    → (u ≡ replicate (length t) 0) × ((rows : List Row) → Reading s rows → length rows ≤ roomOf t → ⊥)
+pub read-refuses : (τ : Terms) (s t : List ℕ) (r : Refusal) (place : ℕ) (u : List ℕ) → ReadPromise τ s t (A.Refused r place) u
+    → (u ≡ replicate (length t) 0) × ((rows : List Row) → Reading τ s rows → length rows ≤ roomOf t → ⊥)
 unfolding tableWords
-read-refuses s t r place u p =
-    let e = refused-of (readOf s (roomOf t)) r place (p .answer) in
-    (p .table ∙ ap (tableWords (length t)) e, λ rows w l. not-both rows r place (sym (accepts w (roomOf t) l) ∙ e))
+read-refuses τ s t r place u p =
+    let e = refused-of (readOf τ s (roomOf t)) r place (p .answer) in
+    (p .table ∙ ap (tableWords (length t)) e, λ rows w l. not-both rows r place (sym (accepts τ w (roomOf t) l) ∙ e))
 
 -- ---- tidying
 
 -- the reading of s fits the table that held t and then holds u; its tidy copy is the first n bytes of the output that held d and then holds e
-pub record Tidied (s t d : List ℕ) (n : ℕ) (u e : List ℕ) : Type 0 where
+pub record Tidied (τ : Terms) (s t d : List ℕ) (n : ℕ) (u e : List ℕ) : Type 0 where
   pub rows : List Row
-  pub reads : Reading s rows
+  pub reads : Reading τ s rows
   pub fit : length rows ≤ roomOf t
   pub table-is : u ≡ tabled (length t) rows
   pub size : length (tidyOf (says s rows)) ≡ n
@@ -117,14 +118,14 @@ wrote s d (accepted rows) n e =
     record { rows = rows; taken = refl; size = (let y = x .1 in cc); room = x .0 }
 wrote s d (refused r p) n e = absurd (let z : _≡_ {A = ℕ} 0 1 = cc in omega arith)
 
-pub tidy-writes : (s t d : List ℕ) → Bytes s → (n : ℕ) (u e : List ℕ) → TidyPromise s t d (Q.Written n) u e → Tidied s t d n u e
+pub tidy-writes : (τ : Terms) (s t d : List ℕ) → Bytes s → (n : ℕ) (u e : List ℕ) → TidyPromise τ s t d (Q.Written n) u e → Tidied τ s t d n u e
 unfolding tidyTable tidyOutput tableWords
-tidy-writes s t d byte n u e p =
-    let o = readOf s (roomOf t) in
+tidy-writes τ s t d byte n u e p =
+    let o = readOf τ s (roomOf t) in
     let x = wrote s d o n (p .answer) in
     let rows = x .rows in
     let c : List ℕ = tidyOf (says s rows) in
-    let w = accepted-exactly s byte (roomOf t) rows .0 (x .taken) in
+    let w = accepted-exactly τ s byte (roomOf t) rows .0 (x .taken) in
     let b = both-of (leb (length c) (length d)) (leb (length c) 16777216) (x .room) in
     let l : length c ≤ length d = leb-true (length c) (length d) (b .0) in
     let z : e ≡ laid c d = p .output ∙ (ap (tidyOutput s d) (x .taken) ∙ rw (x .room)) in
@@ -144,13 +145,13 @@ tidy-writes s t d byte n u e p =
     }
 
 -- a reading whose rows fit the table, and whose copy fits the output and the stream limit, is written
-pub tidy-written : (s t d : List ℕ) (rows : List Row) → Reading s rows → length rows ≤ roomOf t → length (tidyOf (says s rows)) ≤ length d
-    → length (tidyOf (says s rows)) ≤ 16777216 → (q : TidyAnswer) (u e : List ℕ) → TidyPromise s t d q u e
+pub tidy-written : (τ : Terms) (s t d : List ℕ) (rows : List Row) → Reading τ s rows → length rows ≤ roomOf t → length (tidyOf (says s rows)) ≤ length d
+    → length (tidyOf (says s rows)) ≤ 16777216 → (q : TidyAnswer) (u e : List ℕ) → TidyPromise τ s t d q u e
     → (q ≡ Q.Written (length (tidyOf (says s rows)))) × ((u ≡ tabled (length t) rows) × (e ≡ laid (tidyOf (says s rows)) d))
 unfolding tidyAnswer tidyTable tidyOutput tableWords
-tidy-written s t d rows w l within small q u e p =
+tidy-written τ s t d rows w l within small q u e p =
     let c : List ℕ = tidyOf (says s rows) in
-    let r = accepts w (roomOf t) l in
+    let r = accepts τ w (roomOf t) l in
     let i = le-leb (length c) (length d) within in
     let j = le-leb (length c) 16777216 small in (
       p .answer ∙ (ap (tidyAnswer s d) r ∙ rw (i, j)),
@@ -158,89 +159,89 @@ tidy-written s t d rows w l within small q u e p =
     )
 
 -- the copy of a list by any reading of it
-copy-of : (s t d : List ℕ) (n : ℕ) (u e : List ℕ) → Tidied s t d n u e → (rows : List Row) → Reading s rows
+copy-of : (τ : Terms) (s t d : List ℕ) (n : ℕ) (u e : List ℕ) → Tidied τ s t d n u e → (rows : List Row) → Reading τ s rows
     → (take n e ≡ tidyOf (says s rows)) × (length (tidyOf (says s rows)) ≤ 16777216)
-copy-of s t d n u e x rows w =
+copy-of τ s t d n u e x rows w =
     subst (λ (r : List Row). (take n e ≡ tidyOf (says s r)) × (length (tidyOf (says s r)) ≤ 16777216))
-    (reading-unique s (x .rows) rows (x .reads) w) (x .copy-is, x .small)
+    (reading-unique τ s (x .rows) rows (x .reads) w) (x .copy-is, x .small)
 
--- two calls that both answer Written leave equal copies exactly when the lists say the same
-pub two-tidied : (s t d : List ℕ) → Bytes s → (n : ℕ) (u e : List ℕ) → TidyPromise s t d (Q.Written n) u e
-    → (s′ t′ d′ : List ℕ) → Bytes s′ → (m : ℕ) (u′ e′ : List ℕ) → TidyPromise s′ t′ d′ (Q.Written m) u′ e′
-    → (rows others : List Row) → Reading s rows → Reading s′ others → SayTheSame s rows s′ others ↔ (take n e ≡ take m e′)
-two-tidied s t d byte n u e p s′ t′ d′ byte′ m u′ e′ p′ rows others w w′ =
-    let a = copy-of s t d n u e (tidy-writes s t d byte n u e p) rows w in
-    let b = copy-of s′ t′ d′ m u′ e′ (tidy-writes s′ t′ d′ byte′ m u′ e′ p′) others w′ in
-    let x = same-exactly s rows w (a .1) s′ others w′ (b .1) in
+-- two calls that both answer Written, each under its own terms, leave equal copies exactly when the lists say the same
+pub two-tidied : (τ : Terms) (s t d : List ℕ) → Bytes s → (n : ℕ) (u e : List ℕ) → TidyPromise τ s t d (Q.Written n) u e
+    → (τ′ : Terms) (s′ t′ d′ : List ℕ) → Bytes s′ → (m : ℕ) (u′ e′ : List ℕ) → TidyPromise τ′ s′ t′ d′ (Q.Written m) u′ e′
+    → (rows others : List Row) → Reading τ s rows → Reading τ′ s′ others → SayTheSame s rows s′ others ↔ (take n e ≡ take m e′)
+two-tidied τ s t d byte n u e p τ′ s′ t′ d′ byte′ m u′ e′ p′ rows others w w′ =
+    let a = copy-of τ s t d n u e (tidy-writes τ s t d byte n u e p) rows w in
+    let b = copy-of τ′ s′ t′ d′ m u′ e′ (tidy-writes τ′ s′ t′ d′ byte′ m u′ e′ p′) others w′ in
+    let x = same-exactly τ s rows w (a .1) τ′ s′ others w′ (b .1) in
     (λ h. a .0 ∙ (x .0 h ∙ sym (b .0)), λ h. x .1 (sym (a .0) ∙ (h ∙ b .0)))
 
--- the copy c of the list s, read with a table that held l: a is the answer, and v is then in the table
-pub record CopyShown (s c l : List ℕ) (a : ReadAnswer) (v : List ℕ) : Type 0 where
+-- the copy c of the list s, which is read under τ; read under υ with a table that held l: a is the answer, and v is then in the table
+pub record CopyShown (τ υ : Terms) (s c l : List ℕ) (a : ReadAnswer) (v : List ℕ) : Type 0 where
   pub copies : List Row
-  pub reads : Reading c copies
+  pub reads : Reading υ c copies
   pub answer-is : a ≡ A.Accepted (length copies)
   pub table-is : v ≡ tabled (length l) copies
   -- no more rows than the list has, and the same said
-  pub no-more : (list : List Row) → Reading s list → length copies ≤ length list
-  pub says-same : (list : List Row) → Reading s list → SayTheSame c copies s list
+  pub no-more : (list : List Row) → Reading τ s list → length copies ≤ length list
+  pub says-same : (list : List Row) → Reading τ s list → SayTheSame c copies s list
 
--- after a call that answers Written n, with a table as long as the one that was lent
-module _ (s t d : List ℕ) (byte : Bytes s) (n : ℕ) (u e : List ℕ) (p : TidyPromise s t d (Q.Written n) u e) (l : List ℕ) (as-long : length l ≡ length t) where
+-- after a call that answers Written n, under any terms and with a table as long as the one that was lent
+module _ (τ : Terms) (s t d : List ℕ) (byte : Bytes s) (n : ℕ) (u e : List ℕ) (p : TidyPromise τ s t d (Q.Written n) u e) (l : List ℕ) (as-long : length l ≡ length t) where
   abbrev rows : List Row
-  rows = tidy-writes s t d byte n u e p .rows
+  rows = tidy-writes τ s t d byte n u e p .rows
 
-  -- a reading of the copy whose rows fit the table
+  -- the rows of the copy's readings, which fit the table
   record CopyReads : Type 0 where
     copies : List Row
-    reads : Reading (take n e) copies
+    reads : (υ : Terms) → Reading υ (take n e) copies
     no-more : length copies ≤ length rows
     same : SayTheSame (take n e) copies s rows
     fit : length copies ≤ roomOf l
 
   again : CopyReads
   again =
-      let x = tidy-writes s t d byte n u e p in
-      let y = tidy-accepted s byte rows (x .reads) (x .small) in
+      let x = tidy-writes τ s t d byte n u e p in
+      let y = tidy-accepted τ s byte rows (x .reads) (x .small) in
       let k : length (y .copies) ≤ length rows = y .no-more in
       let f : length rows ≤ roomOf t = x .fit in
-      let z = tidy-says s rows (x .reads) (x .small) (y .copies) (y .reads) in
+      let z = tidy-says τ τ s rows (x .reads) (x .small) (y .copies) (y .reads τ) in
       record {
         copies = y .copies;
-        reads = subst (λ (c : List ℕ). Reading c (y .copies)) (sym (x .copy-is)) (y .reads);
+        reads = λ υ. subst (λ (c : List ℕ). Reading υ c (y .copies)) (sym (x .copy-is)) (y .reads υ);
         no-more = k;
         same = subst (λ (c : List ℕ). SayTheSame c (y .copies) s rows) (sym (x .copy-is)) z;
         fit = subst (λ (j : ℕ). length (y .copies) ≤ j / 8) (sym as-long) (omega arith);
       }
 
   -- reading the copy answers Accepted, with no more rows than the list has, and the copy says what the list said
-  pub tidied-read : (a : ReadAnswer) (v : List ℕ) → ReadPromise (take n e) l a v → CopyShown s (take n e) l a v
-  tidied-read a v q =
+  pub tidied-read : (υ : Terms) (a : ReadAnswer) (v : List ℕ) → ReadPromise υ (take n e) l a v → CopyShown τ υ s (take n e) l a v
+  tidied-read υ a v q =
       let x = again in
-      let r = tidy-writes s t d byte n u e p .reads in
-      let o = read-accepted (take n e) l (x .copies) (x .reads) (x .fit) a v q in
+      let r = tidy-writes τ s t d byte n u e p .reads in
+      let o = read-accepted υ (take n e) l (x .copies) (x .reads υ) (x .fit) a v q in
       record {
         copies = x .copies;
-        reads = x .reads;
+        reads = x .reads υ;
         answer-is = o .0;
         table-is = o .1;
-        no-more = λ list w. subst (λ (z : List Row). length (x .copies) ≤ length z) (reading-unique s rows list r w) (x .no-more);
-        says-same = λ list w. subst (λ (z : List Row). SayTheSame (take n e) (x .copies) s z) (reading-unique s rows list r w) (x .same);
+        no-more = λ list w. subst (λ (z : List Row). length (x .copies) ≤ length z) (reading-unique τ s rows list r w) (x .no-more);
+        says-same = λ list w. subst (λ (z : List Row). SayTheSame (take n e) (x .copies) s z) (reading-unique τ s rows list r w) (x .same);
       }
 
   -- tidying the copy writes the copy, into any output that holds it
-  pub tidied-again : (f : List ℕ) → n ≤ length f → (q : TidyAnswer) (v g : List ℕ) → TidyPromise (take n e) l f q v g
+  pub tidied-again : (υ : Terms) (f : List ℕ) → n ≤ length f → (q : TidyAnswer) (v g : List ℕ) → TidyPromise υ (take n e) l f q v g
       → (q ≡ Q.Written n) × ((g ≡ laid (take n e) f) × (take n g ≡ take n e))
-  tidied-again f room q v g z =
-      let x = tidy-writes s t d byte n u e p in
+  tidied-again υ f room q v g z =
+      let x = tidy-writes τ s t d byte n u e p in
       let y = again in
       let same : tidyOf (says (take n e) (y .copies)) ≡ take n e =
-      subst (λ (c : List ℕ). Reading c (y .copies) → tidyOf (says c (y .copies)) ≡ c) (sym (x .copy-is))
-      (tidy-again s rows (x .reads) (x .small) (y .copies)) (y .reads)
+      subst (λ (c : List ℕ). Reading υ c (y .copies) → tidyOf (says c (y .copies)) ≡ c) (sym (x .copy-is))
+      (tidy-again τ υ s rows (x .reads) (x .small) (y .copies)) (y .reads υ)
       in
       let size : length (take n e) ≡ n = ap length (x .copy-is) ∙ x .size in
       let k = ap length same ∙ size in
       let few : n ≤ 16777216 = subst (λ (j : ℕ). j ≤ 16777216) (x .size) (x .small) in
-      let o = tidy-written (take n e) l f (y .copies) (y .reads) (y .fit) (omega arith) (omega arith) q v g z in
+      let o = tidy-written υ (take n e) l f (y .copies) (y .reads υ) (y .fit) (omega arith) (omega arith) q v g z in
       let wrote : g ≡ laid (take n e) f = o .1 .1 ∙ ap (λ (c : List ℕ). laid c f) same in (
         o .0 ∙ ap Q.Written k,
         (wrote, ap (take n) wrote ∙ (ap (λ (j : ℕ). take j (laid (take n e) f)) (sym size) ∙ take-laid (take n e) f)),

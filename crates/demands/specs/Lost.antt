@@ -6,6 +6,7 @@ use mathlib.Core.Bool.{true}
 use mathlib.Core.List.{List, [], _∷_, _++_}
 use native.Mathlib.Omega.{arith}
 use lib.ListN.{length}
+use Rattle.format.specs.Terms.{Terms, strict}
 use Rattle.format.specs.declared.Row.{Row}
 use Rattle.format.specs.Numbers.{leBytes}
 use Rattle.format.specs.Rows.{linked}
@@ -33,8 +34,8 @@ laterRows type = rowOf 7 17 (emptyOf type) 8 0 0 0 0 ∷ rowOf 11 (17 + size (em
 abbrev rowsIn : ℕ → List Row
 rowsIn type = linked (rowOf 0 0 (header 8 8) 8 0 0 0 0 ∷ laterRows type)
 
-objects-in : (type : ℕ) → Ranked type 1 → Objects (cur 17 1 [] (emptyOf type ∷ end ∷ []) (laterRows type))
-objects-in type r =
+objects-in : (τ : Terms) (type : ℕ) → Ranked type 1 → Objects τ (cur 17 1 [] (emptyOf type ∷ end ∷ []) (laterRows type))
+objects-in τ type r =
     let a : _<_ 0 2147483648 = omega arith in
     let b : product (0 ∷ []) ≤ 2147483647 = omega arith in
     one-array {i = 8} (record { sign = record { above = omega arith; below = omega arith }; fresh = refl })
@@ -48,8 +49,8 @@ small-in type = refl
 no-target : (type i : ℕ) → among i (refsOf (emptyOf type ∷ end ∷ [])) ≡ true → among i (idsOf (emptyOf type ∷ end ∷ [])) ≡ true
 no-target type i h = absurd (let z : _≡_ {A = ℕ} 0 1 = cc in omega arith)
 
-reads-in : (type : ℕ) → Ranked type 1 → Reading (streamOf type) (rowsIn type)
-reads-in type r =
+reads-in : (τ : Terms) (type : ℕ) → Ranked type 1 → Reading τ (streamOf type) (rowsIn type)
+reads-in τ type r =
     let l = small-in type in
     record {
       root = 8;
@@ -60,23 +61,23 @@ reads-in type r =
       header-bits = omega arith;
       bytes-are = refl;
       small = omega arith;
-      objects-are = objects-in type r;
+      objects-are = objects-in τ type r;
       rooted = refl;
       targets = no-target type;
-      links-are = linked-links 8 8 (emptyOf type ∷ end ∷ []) (laterRows type) (objects-in type r) refl (no-target type);
+      links-are = linked-links τ 8 8 (emptyOf type ∷ end ∷ []) (laterRows type) (objects-in τ type r) refl (no-target type);
     }
 
 -- the streams do not say the same
 pub array-types-said : SayTheSame (streamOf 0) (rowsIn 0) (streamOf 1) (rowsIn 1) → ⊥
 unfolding reads-in
-array-types-said e = array-type-told (same-meant (reads-in 0 single) (reads-in 1 jagged) .0 e)
+array-types-said e = array-type-told (same-meant strict strict (reads-in strict 0 single) (reads-in strict 1 jagged) .0 e)
 
 -- so whatever gives every reading the meaning of its records does not take one for the other
-pub array-types-needed : (f : List ℕ → List Row → Model) → ((s : List ℕ) (rows : List Row) (w : Reading s rows) → f s rows ≡ meantBy w)
+pub array-types-needed : (τ : Terms) (f : List ℕ → List Row → Model) → ((s : List ℕ) (rows : List Row) (w : Reading τ s rows) → f s rows ≡ meantBy w)
     → f (streamOf 0) (rowsIn 0) ≡ f (streamOf 1) (rowsIn 1) → ⊥
 unfolding reads-in
-array-types-needed f right e =
-    array-type-told (sym (right (streamOf 0) (rowsIn 0) (reads-in 0 single)) ∙ (e ∙ right (streamOf 1) (rowsIn 1) (reads-in 1 jagged)))
+array-types-needed τ f right e =
+    array-type-told (sym (right (streamOf 0) (rowsIn 0) (reads-in τ 0 single)) ∙ (e ∙ right (streamOf 1) (rowsIn 1) (reads-in τ 1 jagged)))
 
 -- ---- and no tidy job loses it
 
@@ -84,17 +85,17 @@ lost-bytes : (bytes (streamOf 0) ≡ true) × (bytes (streamOf 1) ≡ true)
 unfolding bytes enc encs leBytes
 lost-bytes = (refl, refl)
 
-lost-lengths : (length (tidyOf (meantBy (reads-in 0 single))) ≡ 33) × (length (tidyOf (meantBy (reads-in 1 jagged))) ≡ 33)
+lost-lengths : (τ : Terms) → (length (tidyOf (meantBy (reads-in τ 0 single))) ≡ 33) × (length (tidyOf (meantBy (reads-in τ 1 jagged))) ≡ 33)
 unfolding reads-in meant walk nameBy classBy orderBy found librariesOf classesOf orderAfter spread tidyOf tidyRecords squeeze waiting written runOf pack afterWhat recordsOf numberIn entered allEntered libraryRecords encs enc leBytes
-lost-lengths = (refl, refl)
+lost-lengths τ = (refl, refl)
 
-pub array-types-kept : (job : Copier) → Demand3 job → job (streamOf 0) ≡ job (streamOf 1) → ⊥
+pub array-types-kept : (job : Copier) → Demand3 job → (τ υ : Terms) → job τ (streamOf 0) ≡ job υ (streamOf 1) → ⊥
 unfolding reads-in
-array-types-kept job demand e =
+array-types-kept job demand τ υ e =
     let a = bytes-are (streamOf 0) (lost-bytes .0) in
     let b = bytes-are (streamOf 1) (lost-bytes .1) in
-    let w = reads-in 0 single in
-    let v = reads-in 1 jagged in
-    let k : Within w = omega (arith, lost-lengths .0) in
-    let l : Within v = omega (arith, lost-lengths .1) in
-    array-type-told (demand .same (streamOf 0) a (rowsIn 0) w k (streamOf 1) b (rowsIn 1) v l .1 e)
+    let w = reads-in τ 0 single in
+    let v = reads-in υ 1 jagged in
+    let k : Within w = omega (arith, lost-lengths τ .0) in
+    let l : Within v = omega (arith, lost-lengths υ .1) in
+    array-type-told (demand .same τ (streamOf 0) a (rowsIn 0) w k υ (streamOf 1) b (rowsIn 1) v l .1 e)

@@ -9,6 +9,7 @@ use lib.ListN.{length, getD, take, drop, length-append}
 use lib.Dec.{eqb}
 use lib.Seq.{take-at, drop-at}
 use borrow.Author.Tests.{eqb-true}
+use Rattle.format.specs.Terms.{Terms}
 use Rattle.format.specs.declared.PrimitiveCode.{PrimitiveCode}
 use Rattle.format.specs.declared.SlotType.{SlotType}
 use Rattle.format.specs.declared.Row.{Row}
@@ -97,14 +98,14 @@ OwnIs (stringArray i k) n = n ≡ i
 OwnIs (value c v) n = Unit {0}
 
 -- records one after the other from a place on, each with its row
-pub data Along : ℕ → List Rec → List Row → Type 0 where
-  no-record : {at : ℕ} → Along at [] []
+pub data Along (τ : Terms) : ℕ → List Rec → List Row → Type 0 where
+  no-record : {at : ℕ} → Along τ at [] []
   one-record : {at next : ℕ} {r : Rec} {rs : List Rec} {it : Row} {is : List Row}
-      → RowOf r at it → GoodRec r → OwnIs r (it .id) → next ≡ at + size r → Along next rs is → Along at (r ∷ rs) (it ∷ is)
+      → RowOf r at it → GoodRec τ r → OwnIs r (it .id) → next ≡ at + size r → Along τ next rs is → Along τ at (r ∷ rs) (it ∷ is)
 
-along-more : {at next : ℕ} {r : Rec} {rs : List Rec} {it : Row} {is : List Row} (id own slot link count : ℕ) → it ≡ rowOf (kindOf r) at r id own slot link count
-    → CountIs r count → GoodRec r → OwnIs r id → next ≡ at + size r → Along next rs is → Along at (r ∷ rs) (it ∷ is)
-along-more {at} {r = r} id own slot link count q c g o e k =
+along-more : (τ : Terms) {at next : ℕ} {r : Rec} {rs : List Rec} {it : Row} {is : List Row} (id own slot link count : ℕ) → it ≡ rowOf (kindOf r) at r id own slot link count
+    → CountIs r count → GoodRec τ r → OwnIs r id → next ≡ at + size r → Along τ next rs is → Along τ at (r ∷ rs) (it ∷ is)
+along-more τ {at} {r = r} id own slot link count q c g o e k =
     one-record (subst (RowOf r at) (sym q) (row-of r at id own slot link count c)) g (subst (λ (x : Row). OwnIs r (x .id)) (sym q) o) e k
 
 size-null : (at : ℕ) → at + 1 ≡ at + size null
@@ -115,72 +116,72 @@ size-nulls : (at k : ℕ) → at + 2 ≡ at + size (nulls k)
 unfolding enc
 size-nulls at k = refl
 
-abbrev AlongIn : Cur → Type 0
-AlongIn (cur at row es rs is) = Along at rs is
+abbrev AlongIn : Terms → Cur → Type 0
+AlongIn τ (cur at row es rs is) = Along τ at rs is
 
-array-along : {at n kind i : ℕ} {r : Rec} {ts : List SlotType} {es : List Entry} {rs : List Rec} {it : Row} {is : List Row} → Array es r kind i n ts
-    → it ≡ rowOf kind at r i 0 0 0 n → Along (at + size r) rs is → Along at (r ∷ rs) (it ∷ is)
-array-along {n = n} {i = i} (of-objects h) q k = along-more i 0 0 0 n q refl tt refl refl k
-array-along {n = n} {i = i} (of-strings h) q k = along-more i 0 0 0 n q refl tt refl refl k
-array-along {n = n} {i = i} (of-primitives h g) q k = along-more i 0 0 0 n q refl g refl refl k
-array-along {n = n} {i = i} {es = es} (of-any {ns = ns} {d = d} g e h f z) q k =
-    along-more i 0 0 0 n q e (g, own-detail es d h, no-items d (product ns) f) refl refl k
-array-along {n = n} {i = i} (of-values {b = b} {vs = vs} g e h) q k =
-    along-more i 0 0 0 n q e (g, tt, subst (λ (m : ℕ). Values b m vs) e h) refl refl k
+array-along : (τ : Terms) {at n kind i : ℕ} {r : Rec} {ts : List SlotType} {es : List Entry} {rs : List Rec} {it : Row} {is : List Row} → Array τ es r kind i n ts
+    → it ≡ rowOf kind at r i 0 0 0 n → Along τ (at + size r) rs is → Along τ at (r ∷ rs) (it ∷ is)
+array-along τ {n = n} {i = i} (of-objects h) q k = along-more τ i 0 0 0 n q refl tt refl refl k
+array-along τ {n = n} {i = i} (of-strings h) q k = along-more τ i 0 0 0 n q refl tt refl refl k
+array-along τ {n = n} {i = i} (of-primitives h g) q k = along-more τ i 0 0 0 n q refl g refl refl k
+array-along τ {n = n} {i = i} {es = es} (of-any {ns = ns} {d = d} g e h f z) q k =
+    along-more τ i 0 0 0 n q e (g, own-detail τ es d h, no-items τ d (product ns) f) refl refl k
+array-along τ {n = n} {i = i} (of-values {b = b} {vs = vs} g e h) q k =
+    along-more τ i 0 0 0 n q e (g, tt, subst (λ (m : ℕ). Values τ b m vs) e h) refl refl k
 
 mutual
-  object-along : {room own slot : ℕ} {c c₁ : Cur} → Object room own slot c c₁ → AlongIn c₁ → AlongIn c
-  object-along (system-class a b q d) k = along-more _ _ _ _ _ q refl (b .named, own-members (b .members)) refl refl (body-along d k)
-  object-along (library-class {l = l} a b f q d) k =
-      along-more _ _ _ _ _ q refl (b .named, own-members (b .members), positive-bits l (f .sign)) refl refl (body-along d k)
-  object-along (class-by-id a b f q d) k = along-more _ _ _ _ _ q tt tt (refl, b) refl (body-along d k)
+  object-along : (τ : Terms) {room own slot : ℕ} {c c₁ : Cur} → Object τ room own slot c c₁ → AlongIn τ c₁ → AlongIn τ c
+  object-along τ (system-class a b q d) k = along-more τ _ _ _ _ _ q refl (b .named, own-members τ (b .members)) refl refl (body-along τ d k)
+  object-along τ (library-class {l = l} a b f q d) k =
+      along-more τ _ _ _ _ _ q refl (b .named, own-members τ (b .members), positive-bits l (f .sign)) refl refl (body-along τ d k)
+  object-along τ (class-by-id a b f q d) k = along-more τ _ _ _ _ _ q tt tt (refl, b) refl (body-along τ d k)
 
-  body-along : {room row : ℕ} {ts : List SlotType} {c c₁ : Cur} → Body room row ts c c₁ → AlongIn c₁ → AlongIn c
-  body-along hollow k = k
-  body-along (filled d) k = slots-along d k
+  body-along : (τ : Terms) {room row : ℕ} {ts : List SlotType} {c c₁ : Cur} → Body τ room row ts c c₁ → AlongIn τ c₁ → AlongIn τ c
+  body-along τ hollow k = k
+  body-along τ (filled d) k = slots-along τ d k
 
-  slots-along : {room own slot : ℕ} {ts : List SlotType} {c c₁ : Cur} → Slots room own slot ts c c₁ → AlongIn c₁ → AlongIn c
-  slots-along full k = k
-  slots-along (member-value a q d) k = along-more _ _ _ _ _ q tt a tt refl (slots-along d k)
-  slots-along (an-object t a d) k = object-along a (slots-along d k)
-  slots-along (a-string t a b q d) k = along-more _ _ _ _ _ q tt b (refl, a .sign) refl (slots-along d k)
-  slots-along (a-typed-primitive t a q d) k = along-more _ _ _ _ _ q tt a tt refl (slots-along d k)
-  slots-along (a-reference t a q d) k = along-more _ _ _ _ _ q tt tt refl refl (slots-along d k)
-  slots-along (a-null {at = at} t q d) k = along-more _ _ _ _ _ q refl tt tt (size-null at) (slots-along d k)
-  slots-along (a-run {at = at} {k = n} t a b e u q d) k = along-more _ _ _ _ _ q refl tt tt (size-nulls at n) (slots-along d k)
-  slots-along (a-long-run t a b e u q d) k = along-more _ _ _ _ _ q refl tt tt refl (slots-along d k)
-  slots-along (a-library t a b n q d) k = along-more _ _ _ _ _ q tt n refl refl (slots-along d k)
+  slots-along : (τ : Terms) {room own slot : ℕ} {ts : List SlotType} {c c₁ : Cur} → Slots τ room own slot ts c c₁ → AlongIn τ c₁ → AlongIn τ c
+  slots-along τ full k = k
+  slots-along τ (member-value a q d) k = along-more τ _ _ _ _ _ q tt a tt refl (slots-along τ d k)
+  slots-along τ (an-object t a d) k = object-along τ a (slots-along τ d k)
+  slots-along τ (a-string t a b q d) k = along-more τ _ _ _ _ _ q tt b (refl, a .sign) refl (slots-along τ d k)
+  slots-along τ (a-typed-primitive t a q d) k = along-more τ _ _ _ _ _ q tt a tt refl (slots-along τ d k)
+  slots-along τ (a-reference t a q d) k = along-more τ _ _ _ _ _ q tt tt refl refl (slots-along τ d k)
+  slots-along τ (a-null {at = at} t q d) k = along-more τ _ _ _ _ _ q refl tt tt (size-null at) (slots-along τ d k)
+  slots-along τ (a-run {at = at} {k = n} t a b e u q d) k = along-more τ _ _ _ _ _ q refl tt tt (size-nulls at n) (slots-along τ d k)
+  slots-along τ (a-long-run t a b e u q d) k = along-more τ _ _ _ _ _ q refl tt tt refl (slots-along τ d k)
+  slots-along τ (a-library t a b n q d) k = along-more τ _ _ _ _ _ q tt n refl refl (slots-along τ d k)
 
-objects-along : {c : Cur} → Objects c → AlongIn c
-objects-along (the-end q) = along-more _ _ _ _ _ q tt tt tt refl no-record
-objects-along (one-object a d) = object-along a (objects-along d)
-objects-along (one-string a b q d) = along-more _ _ _ _ _ q tt b (refl, a .sign) refl (objects-along d)
-objects-along (one-array a b q d f) = array-along b q (body-along d (objects-along f))
-objects-along (one-library a b n q d) = along-more _ _ _ _ _ q tt n refl refl (objects-along d)
+objects-along : (τ : Terms) {c : Cur} → Objects τ c → AlongIn τ c
+objects-along τ (the-end q) = along-more τ _ _ _ _ _ q tt tt tt refl no-record
+objects-along τ (one-object a d) = object-along τ a (objects-along τ d)
+objects-along τ (one-string a b q d) = along-more τ _ _ _ _ _ q tt b (refl, a .sign) refl (objects-along τ d)
+objects-along τ (one-array a b q d f) = array-along τ b q (body-along τ d (objects-along τ f))
+objects-along τ (one-library a b n q d) = along-more τ _ _ _ _ _ q tt n refl refl (objects-along τ d)
 
 -- linking changes nothing of this
-along-linked : (f : Row → ℕ) {at : ℕ} {rs : List Rec} {is : List Row} → Along at rs is → Along at rs (map (λ (r : Row). withLink r (f r)) is)
-along-linked f no-record = no-record
-along-linked f (one-record {it = it} w g o e k) = one-record (row-linked (f it) w) g o e (along-linked f k)
+along-linked : (τ : Terms) (f : Row → ℕ) {at : ℕ} {rs : List Rec} {is : List Row} → Along τ at rs is → Along τ at rs (map (λ (r : Row). withLink r (f r)) is)
+along-linked τ f no-record = no-record
+along-linked τ f (one-record {it = it} w g o e k) = one-record (row-linked (f it) w) g o e (along-linked τ f k)
 
 -- all records of a reading, the header first
-abbrev pub recordsIn : {s : List ℕ} {rows : List Row} → Reading s rows → List Rec
-recordsIn w = header (w .root) (w .header-id) ∷ w .rs
+abbrev pub recordsIn : (τ : Terms) {s : List ℕ} {rows : List Row} → Reading τ s rows → List Rec
+recordsIn τ w = header (w .root) (w .header-id) ∷ w .rs
 
 size-head : (root h : ℕ) → 17 ≡ 0 + size (header root h)
 unfolding enc
 size-head root h = simp (length-append, length-leBytes)
 
-pub reading-along : {s : List ℕ} {rows : List Row} (w : Reading s rows) → Along 0 (recordsIn w) rows
+pub reading-along : (τ : Terms) {s : List ℕ} {rows : List Row} (w : Reading τ s rows) → Along τ 0 (recordsIn τ w) rows
 unfolding linked
-reading-along w =
+reading-along τ w =
     let raw = rowOf 0 0 (header (w .root) (w .header-id)) (w .root) 0 0 0 0 ∷ w .is in
-    subst (Along 0 (recordsIn w)) (sym (rows-are w))
-    (along-linked (linkOf raw) (along-more (w .root) 0 0 0 0 refl tt tt (refl, w .header-bits) (size-head (w .root) (w .header-id)) (objects-along (w .objects-are))))
+    subst (Along τ 0 (recordsIn τ w)) (sym (rows-are τ w))
+    (along-linked τ (linkOf raw) (along-more τ (w .root) 0 0 0 0 refl tt tt (refl, w .header-bits) (size-head (w .root) (w .header-id)) (objects-along τ (w .objects-are))))
 
-pub reading-bytes : {s : List ℕ} {rows : List Row} (w : Reading s rows) → drop 0 s ≡ encs (recordsIn w)
+pub reading-bytes : (τ : Terms) {s : List ℕ} {rows : List Row} (w : Reading τ s rows) → drop 0 s ≡ encs (recordsIn τ w)
 unfolding encs
-reading-bytes w = w .bytes-are
+reading-bytes τ w = w .bytes-are
 
 -- ---- the record at a place
 
@@ -198,37 +199,37 @@ row-like {k} {o} {e} {i} {n} w a b c d f =
     ∙ ap (λ (x : ℕ). like k o e i x w) f)))
 
 -- the name at a place, with the width of its prefix
-name-here : (s : List ℕ) (t : Prefixed) (q : List ℕ) (p : ℕ) → Name t → drop p s ≡ bytesIn t ++ q → prefixedAt s p ≡ t
-name-here s t q p n d =
-    prefixed t (spanAt s p .from - p) (textFrom s p) (rw (span-is s t q p d (n .prefix) (n .characters .short)) (omega arith)) (text-is s t q p n d)
+name-here : (τ : Terms) (s : List ℕ) (t : Prefixed) (q : List ℕ) (p : ℕ) → Name τ t → drop p s ≡ bytesIn t ++ q → prefixedAt s p ≡ t
+name-here τ s t q p n d =
+    prefixed t (spanAt s p .from - p) (textFrom s p) (rw (span-is s t q p d (n .prefix) (n .characters .short)) (omega arith)) (text-is τ s t q p n d)
 
 -- the value of a code at a place, and several one after the other
-module _ (s q : List ℕ) (c : PrimitiveCode) (p : ℕ) (h : p ≤ length s) where
-  value-from : (v : Prefixed) → Value c v → drop p s ≡ bytesIn v ++ q → valueIn s c p ≡ v
-  value-from v g d = value-in s c v p (p + length (bytesIn v)) g (stand-of s (bytesIn v) q p h d)
+module _ (τ : Terms) (s q : List ℕ) (c : PrimitiveCode) (p : ℕ) (h : p ≤ length s) where
+  value-from : (v : Prefixed) → Value τ c v → drop p s ≡ bytesIn v ++ q → valueIn s c p ≡ v
+  value-from v g d = value-in τ s c v p (p + length (bytesIn v)) g (stand-of s (bytesIn v) q p h d)
 
-  items-from : (n : ℕ) (vs : List Prefixed) → Values c n vs → drop p s ≡ itemsBytes vs ++ q → itemsIn s c n p ≡ vs
-  items-from n vs g d = items-in s c n vs p (p + length (itemsBytes vs)) g (stand-of s (itemsBytes vs) q p h d)
+  items-from : (n : ℕ) (vs : List Prefixed) → Values τ c n vs → drop p s ≡ itemsBytes vs ++ q → itemsIn s c n p ≡ vs
+  items-from n vs g d = items-in τ s c n vs p (p + length (itemsBytes vs)) g (stand-of s (itemsBytes vs) q p h d)
 
-module _ (s q : List ℕ) (at : ℕ) where
+module _ (τ : Terms) (s q : List ℕ) (at : ℕ) where
   -- after the kind byte and a number
   after-id : (k i : ℕ) (b : List ℕ) → drop at s ≡ (k ∷ (leBytes 4 i ++ b)) ++ q → drop (at + 5) s ≡ b ++ q
   after-id k i b d =
       let l : length (leBytes 4 i) ≡ 4 = length-leBytes 4 i in
       rest-there s (k ∷ leBytes 4 i) (b ++ q) at (at + 5) (omega arith) (d ∙ ap (λ (x : List ℕ). k ∷ x) (append-assoc (leBytes 4 i) b q))
 
-  detail-here : (p : ℕ) (d : Detail Prefixed ℕ) → OwnDetail d → drop p s ≡ infoBytes d ++ q → detailIn s (typeByte d) p ≡ d
+  detail-here : (p : ℕ) (d : Detail Prefixed ℕ) → OwnDetail τ d → drop p s ≡ infoBytes d ++ q → detailIn s (typeByte d) p ≡ d
   unfolding detailIn
   detail-here p (primitive c) g d = ap primitive (code-there s q c p d)
   detail-here p text g d = refl
   detail-here p object g d = refl
-  detail-here p (system n) g d = ap system (name-here s n q p g d)
+  detail-here p (system n) g d = ap system (name-here τ s n q p g d)
   detail-here p (class n l) g d =
       let f : drop p s ≡ bytesIn n ++ (leBytes 4 l ++ q) = d ∙ append-assoc (bytesIn n) (leBytes 4 l) q in
-      let x = text-there s n (leBytes 4 l ++ q) p (g .0) f in
+      let x = text-there τ s n (leBytes 4 l ++ q) p (g .0) f in
       let m : numberFrom s (afterText s p) ≡ l =
       ap (numberFrom s) (x .1) ∙ number-there s q l (p + length (bytesIn n)) (x .2) (positive-bits l (g .1)) in
-      ap (λ (t : Prefixed). class t (numberFrom s (afterText s p))) (name-here s n (leBytes 4 l ++ q) p (g .0) f) ∙ ap (class n) m
+      ap (λ (t : Prefixed). class t (numberFrom s (afterText s p))) (name-here τ s n (leBytes 4 l ++ q) p (g .0) f) ∙ ap (class n) m
   detail-here p objects g d = refl
   detail-here p texts g d = refl
   detail-here p (primitives c) g d = ap primitives (code-there s q c p d)
@@ -237,30 +238,30 @@ length-types : (ms : List (Member Prefixed ℕ)) → length (typesBytes ms) ≡ 
 length-types [] = refl
 length-types (m ∷ ms) = ap suc (length-types ms)
 
-members-here : (s : List ℕ) (ms : List (Member Prefixed ℕ)) (x y z : List ℕ) (a b c : ℕ) → OwnMembers ms
+members-here : (τ : Terms) (s : List ℕ) (ms : List (Member Prefixed ℕ)) (x y z : List ℕ) (a b c : ℕ) → OwnMembers τ ms
     → drop a s ≡ namesBytes ms ++ x → drop b s ≡ typesBytes ms ++ y → drop c s ≡ infosBytes ms ++ z → membersIn s (length ms) a b c ≡ ms
 unfolding membersIn
-members-here s [] x y z a b c no-member d e f = refl
-members-here s (m ∷ ms) x y z a b c (own-member n g gs) d e f =
+members-here τ s [] x y z a b c no-member d e f = refl
+members-here τ s (m ∷ ms) x y z a b c (own-member n g gs) d e f =
     let k : drop a s ≡ bytesIn (m .name) ++ (namesBytes ms ++ x) = d ∙ append-assoc (bytesIn (m .name)) (namesBytes ms) x in
-    let u = text-there s (m .name) (namesBytes ms ++ x) a n k in
+    let u = text-there τ s (m .name) (namesBytes ms ++ x) a n k in
     let t = byte-there s (typesBytes ms ++ y) (typeByte (m .type)) b e in
     let v = byte-rest s (typesBytes ms ++ y) (typeByte (m .type)) b e in
     let h : drop c s ≡ infoBytes (m .type) ++ (infosBytes ms ++ z) = f ∙ append-assoc (infoBytes (m .type)) (infosBytes ms) z in
-    let w = detail-there s (infosBytes ms ++ z) c [] (m .type) g h in
-    rw (t, name-here s (m .name) (namesBytes ms ++ x) a n k, detail-here s (infosBytes ms ++ z) c c (m .type) g h, u .1, w .1)
+    let w = detail-there τ s (infosBytes ms ++ z) c [] (m .type) g h in
+    rw (t, name-here τ s (m .name) (namesBytes ms ++ x) a n k, detail-here τ s (infosBytes ms ++ z) c c (m .type) g h, u .1, w .1)
     (ap (λ (l : List (Member Prefixed ℕ)). m ∷ l)
-    (members-here s ms x y z (a + length (bytesIn (m .name))) (b + 1) (c + length (infoBytes (m .type))) gs (u .2) v (w .2)))
+    (members-here τ s ms x y z (a + length (bytesIn (m .name))) (b + 1) (c + length (infoBytes (m .type))) gs (u .2) v (w .2)))
 
 -- a class's name and members after its ObjectId
-class-here : (s : List ℕ) (k at e i : ℕ) (w : Row) (n : Prefixed) (ms : List (Member Prefixed ℕ)) (q : List ℕ) → Name n → OwnMembers ms → drop (at + 5) s ≡ classBytes n ms ++ q
+class-here : (τ : Terms) (s : List ℕ) (k at e i : ℕ) (w : Row) (n : Prefixed) (ms : List (Member Prefixed ℕ)) (q : List ℕ) → Name τ n → OwnMembers τ ms → drop (at + 5) s ≡ classBytes n ms ++ q
     → (prefixedAt s (at + 5) ≡ n) × (membersHere s (like k at e i (length ms) w) ≡ ms)
-class-here s k at e i w n ms q g gs d =
+class-here τ s k at e i w n ms q g gs d =
     let types = typesBytes ms ++ infosBytes ms in
     let names = namesBytes ms ++ types in
     let count = leBytes 4 (length ms) in
     let d0 : drop (at + 5) s ≡ bytesIn n ++ ((count ++ names) ++ q) = d ∙ append-assoc (bytesIn n) (count ++ names) q in
-    let t = text-there s n ((count ++ names) ++ q) (at + 5) g d0 in
+    let t = text-there τ s n ((count ++ names) ++ q) (at + 5) g d0 in
     let a = at + 5 + length (bytesIn n) + 4 in
     let d1 = number-rest s (names ++ q) (length ms) (at + 5 + length (bytesIn n)) (t .2 ∙ append-assoc count names q) in
     let d2 : drop a s ≡ namesBytes ms ++ (types ++ q) = d1 ∙ append-assoc (namesBytes ms) types q in
@@ -269,8 +270,8 @@ class-here s k at e i w n ms q g gs d =
     rest-there s (namesBytes ms) (types ++ q) a b refl d2 ∙ append-assoc (typesBytes ms) (infosBytes ms) q in
     let d4 : drop (b + length ms) s ≡ infosBytes ms ++ q =
     rest-there s (typesBytes ms) (infosBytes ms ++ q) b (b + length ms) (ap (λ (x : ℕ). b + x) (sym (length-types ms))) d3 in (
-      name-here s n ((count ++ names) ++ q) (at + 5) g d0,
-      rw (t .1, names-there s ms (types ++ q) a gs d2) (members-here s ms (types ++ q) (infosBytes ms ++ q) q a b (b + length ms) gs d2 d3 d4),
+      name-here τ s n ((count ++ names) ++ q) (at + 5) g d0,
+      rw (t .1, names-there τ s ms (types ++ q) a gs d2) (members-here τ s ms (types ++ q) (infosBytes ms ++ q) q a b (b + length ms) gs d2 d3 d4),
     )
 
 rank-bits : {type rank : ℕ} → Ranked type rank → rank < 4294967296
@@ -279,13 +280,13 @@ rank-bits jagged = omega arith
 rank-bits (rectangular l h) = omega arith
 
 -- the items of an array, where they are inside it
-module _ (s q : List ℕ) (p n : ℕ) (vs : List Prefixed) where
-  array-items : (d : Detail Prefixed ℕ) → ItemsOf d n vs → drop p s ≡ infoBytes d ++ (itemsBytes vs ++ q)
+module _ (τ : Terms) (s q : List ℕ) (p n : ℕ) (vs : List Prefixed) where
+  array-items : (d : Detail Prefixed ℕ) → ItemsOf τ d n vs → drop p s ≡ infoBytes d ++ (itemsBytes vs ++ q)
       → pick (eqb (typeByte d) 0) (itemsIn s (codeFrom s p) n (p + length (infoBytes d))) [] ≡ vs
   array-items (primitive c) g d =
       let x = itemsBytes vs ++ q in
       let l = place-inside s x (codeNumber c) p d in
-      rw (code-there s x c p d) (items-from s q c (p + 1) (omega arith) n vs g (byte-rest s x (codeNumber c) p d))
+      rw (code-there s x c p d) (items-from τ s q c (p + 1) (omega arith) n vs g (byte-rest s x (codeNumber c) p d))
   array-items text g d = sym g
   array-items object g d = sym g
   array-items (system x) g d = sym g
@@ -308,51 +309,51 @@ value-node s rows w k = ap (nodesOf s rows) (row-like w k refl refl refl refl)
 abbrev CodeIs : List ℕ → List Row → Rec → Row → Type 0
 CodeIs s rows r w = (c : PrimitiveCode) (v : Prefixed) → r ≡ value c v → valueCode s rows w ≡ c
 
-module _ (s : List ℕ) (rows : List Row) (w : Row) (at : ℕ) (q : List ℕ) where
+module _ (τ : Terms) (s : List ℕ) (rows : List Row) (w : Row) (at : ℕ) (q : List ℕ) where
   header-here : (root h : ℕ) → h < 4294967296 → w .id ≡ root → drop at s ≡ enc (header root h) ++ q → RowOf (header root h) at w → recFrom s rows w ≡ header root h
   unfolding enc recFrom
   header-here root h b i d r =
-      let x = after-id s q at 0 root (leBytes 4 h ++ (leBytes 4 1 ++ leBytes 4 0)) d in
+      let x = after-id τ s q at 0 root (leBytes 4 h ++ (leBytes 4 1 ++ leBytes 4 0)) d in
       let y = number-there s ((leBytes 4 1 ++ leBytes 4 0) ++ q) h (at + 5) (x ∙ append-assoc (leBytes 4 h) (leBytes 4 1 ++ leBytes 4 0) q) b in
       ap (recFrom s rows) (row-like w (r .kind-is) (r .offset-is) refl i refl) ∙ ap (header root) y
 
   class-by-id-here : (i k : ℕ) → k < 4294967296 → w .id ≡ i → drop at s ≡ enc (classById i k) ++ q → RowOf (classById i k) at w → recFrom s rows w ≡ classById i k
   unfolding enc recFrom
   class-by-id-here i k b z d r =
-      let y = number-there s q k (at + 5) (after-id s q at 1 i (leBytes 4 k) d) b in
+      let y = number-there s q k (at + 5) (after-id τ s q at 1 i (leBytes 4 k) d) b in
       ap (recFrom s rows) (row-like w (r .kind-is) (r .offset-is) refl z refl) ∙ ap (classById i) y
 
-  system-class-here : (i : ℕ) (n : Prefixed) (ms : List (Member Prefixed ℕ)) → Name n → OwnMembers ms → w .id ≡ i → drop at s ≡ enc (systemClass i n ms) ++ q
+  system-class-here : (i : ℕ) (n : Prefixed) (ms : List (Member Prefixed ℕ)) → Name τ n → OwnMembers τ ms → w .id ≡ i → drop at s ≡ enc (systemClass i n ms) ++ q
       → RowOf (systemClass i n ms) at w → recFrom s rows w ≡ systemClass i n ms
   unfolding enc recFrom
   system-class-here i n ms g gs z d r =
-      let c = class-here s 4 at (w .end) i w n ms q g gs (after-id s q at 4 i (classBytes n ms) d) in
+      let c = class-here τ s 4 at (w .end) i w n ms q g gs (after-id τ s q at 4 i (classBytes n ms) d) in
       ap (recFrom s rows) (row-like w (r .kind-is) (r .offset-is) refl z (r .count-is)) ∙ rw (c .0, c .1)
 
-  library-class-here : (i : ℕ) (n : Prefixed) (ms : List (Member Prefixed ℕ)) (l : ℕ) → Name n → OwnMembers ms → l < 4294967296 → w .id ≡ i
+  library-class-here : (i : ℕ) (n : Prefixed) (ms : List (Member Prefixed ℕ)) (l : ℕ) → Name τ n → OwnMembers τ ms → l < 4294967296 → w .id ≡ i
       → drop at s ≡ enc (libraryClass i n ms l) ++ q → RowOf (libraryClass i n ms l) at w → recFrom s rows w ≡ libraryClass i n ms l
   unfolding enc recFrom
   library-class-here i n ms l g gs h z d r =
       let b = classBytes n ms in
-      let d1 : drop (at + 5) s ≡ b ++ (leBytes 4 l ++ q) = after-id s q at 5 i (b ++ leBytes 4 l) d ∙ append-assoc b (leBytes 4 l) q in
+      let d1 : drop (at + 5) s ≡ b ++ (leBytes 4 l ++ q) = after-id τ s q at 5 i (b ++ leBytes 4 l) d ∙ append-assoc b (leBytes 4 l) q in
       let e = at + length (enc (libraryClass i n ms l)) in
       let k : length (leBytes 4 i ++ (b ++ leBytes 4 l)) ≡ 8 + length b = simp (length-append, length-leBytes) (omega arith) in
       let f : e - 4 ≡ at + 5 + length b = omega arith in
       let m = number-there s q l (e - 4) (rest-there s b (leBytes 4 l ++ q) (at + 5) (e - 4) f d1) h in
-      let c = class-here s 5 at e i w n ms (leBytes 4 l ++ q) g gs d1 in
+      let c = class-here τ s 5 at e i w n ms (leBytes 4 l ++ q) g gs d1 in
       ap (recFrom s rows) (row-like w (r .kind-is) (r .offset-is) (r .end-is) z (r .count-is)) ∙ rw (c .0, c .1, m)
 
-  string-here : (i : ℕ) (x : Prefixed) → Name x → w .id ≡ i → drop at s ≡ enc (string i x) ++ q → RowOf (string i x) at w → recFrom s rows w ≡ string i x
+  string-here : (i : ℕ) (x : Prefixed) → Name τ x → w .id ≡ i → drop at s ≡ enc (string i x) ++ q → RowOf (string i x) at w → recFrom s rows w ≡ string i x
   unfolding enc recFrom
   string-here i x g z d r =
-      ap (recFrom s rows) (row-like w (r .kind-is) (r .offset-is) refl z refl) ∙ ap (string i) (name-here s x q (at + 5) g (after-id s q at 6 i (bytesIn x) d))
+      ap (recFrom s rows) (row-like w (r .kind-is) (r .offset-is) refl z refl) ∙ ap (string i) (name-here τ s x q (at + 5) g (after-id τ s q at 6 i (bytesIn x) d))
 
-  library-here : (i : ℕ) (x : Prefixed) → Name x → w .id ≡ i → drop at s ≡ enc (library i x) ++ q → RowOf (library i x) at w → recFrom s rows w ≡ library i x
+  library-here : (i : ℕ) (x : Prefixed) → Name τ x → w .id ≡ i → drop at s ≡ enc (library i x) ++ q → RowOf (library i x) at w → recFrom s rows w ≡ library i x
   unfolding enc recFrom
   library-here i x g z d r =
-      ap (recFrom s rows) (row-like w (r .kind-is) (r .offset-is) refl z refl) ∙ ap (library i) (name-here s x q (at + 5) g (after-id s q at 12 i (bytesIn x) d))
+      ap (recFrom s rows) (row-like w (r .kind-is) (r .offset-is) refl z refl) ∙ ap (library i) (name-here τ s x q (at + 5) g (after-id τ s q at 12 i (bytesIn x) d))
 
-  typed-primitive-here : (c : PrimitiveCode) (v : Prefixed) → Value c v → drop at s ≡ enc (typedPrimitive c v) ++ q → RowOf (typedPrimitive c v) at w
+  typed-primitive-here : (c : PrimitiveCode) (v : Prefixed) → Value τ c v → drop at s ≡ enc (typedPrimitive c v) ++ q → RowOf (typedPrimitive c v) at w
       → recFrom s rows w ≡ typedPrimitive c v
   unfolding enc recFrom
   typed-primitive-here c v g d r =
@@ -361,32 +362,32 @@ module _ (s : List ℕ) (rows : List Row) (w : Row) (at : ℕ) (q : List ℕ) wh
       let b : drop (at + 2) s ≡ x ++ q = rest-there s (8 ∷ codeNumber c ∷ []) (x ++ q) at (at + 2) (omega arith) d in
       let l = place-inside s (x ++ q) (codeNumber c) (at + 1) a in
       ap (recFrom s rows) (row-like w (r .kind-is) (r .offset-is) refl refl refl)
-      ∙ rw (code-there s (x ++ q) c (at + 1) a) (ap (typedPrimitive c) (value-from s q c (at + 2) (omega arith) v g b))
+      ∙ rw (code-there s (x ++ q) c (at + 1) a) (ap (typedPrimitive c) (value-from τ s q c (at + 2) (omega arith) v g b))
 
-  primitive-array-here : (i n : ℕ) (c : PrimitiveCode) (vs : List Prefixed) → Values c n vs → w .id ≡ i → drop at s ≡ enc (primitiveArray i n c vs) ++ q
+  primitive-array-here : (i n : ℕ) (c : PrimitiveCode) (vs : List Prefixed) → Values τ c n vs → w .id ≡ i → drop at s ≡ enc (primitiveArray i n c vs) ++ q
       → RowOf (primitiveArray i n c vs) at w → recFrom s rows w ≡ primitiveArray i n c vs
   unfolding enc recFrom
   primitive-array-here i n c vs g z d r =
       let x = itemsBytes vs in
       let l : length (leBytes 4 n) ≡ 4 = length-leBytes 4 n in
       let a : drop (at + 5) s ≡ leBytes 4 n ++ (codeNumber c ∷ (x ++ q)) =
-      after-id s q at 15 i (leBytes 4 n ++ (codeNumber c ∷ x)) d ∙ append-assoc (leBytes 4 n) (codeNumber c ∷ x) q in
+      after-id τ s q at 15 i (leBytes 4 n ++ (codeNumber c ∷ x)) d ∙ append-assoc (leBytes 4 n) (codeNumber c ∷ x) q in
       let b : drop (at + 9) s ≡ codeNumber c ∷ (x ++ q) = rest-there s (leBytes 4 n) (codeNumber c ∷ (x ++ q)) (at + 5) (at + 9) (omega arith) a in
       let e : drop (at + 10) s ≡ x ++ q = rest-there s (codeNumber c ∷ []) (x ++ q) (at + 9) (at + 10) (omega arith) b in
       let h = place-inside s (x ++ q) (codeNumber c) (at + 9) b in
       ap (recFrom s rows) (row-like w (r .kind-is) (r .offset-is) refl z (r .count-is))
-      ∙ rw (code-there s (x ++ q) c (at + 9) b) (ap (primitiveArray i n c) (items-from s q c (at + 10) (omega arith) n vs g e))
+      ∙ rw (code-there s (x ++ q) c (at + 9) b) (ap (primitiveArray i n c) (items-from τ s q c (at + 10) (omega arith) n vs g e))
 
   -- of the code that its owner and slot lead to
-  value-here : (c : PrimitiveCode) (v : Prefixed) → Value c v → at ≤ length s → valueCode s rows w ≡ c → drop at s ≡ enc (value c v) ++ q → RowOf (value c v) at w
+  value-here : (c : PrimitiveCode) (v : Prefixed) → Value τ c v → at ≤ length s → valueCode s rows w ≡ c → drop at s ≡ enc (value c v) ++ q → RowOf (value c v) at w
       → recFrom s rows w ≡ value c v
   unfolding enc
   value-here c v g h e d r =
       value-row s rows w (r .kind-is)
       ∙ (ap (λ (x : PrimitiveCode). value x (valueIn s x (w .offset))) e
-      ∙ (ap (λ (x : ℕ). value c (valueIn s c x)) (r .offset-is) ∙ ap (value c) (value-from s q c at h v g d)))
+      ∙ (ap (λ (x : ℕ). value c (valueIn s c x)) (r .offset-is) ∙ ap (value c) (value-from τ s q c at h v g d)))
 
-  array-here : (i t : ℕ) (ns : List ℕ) (x : Detail Prefixed ℕ) (vs : List Prefixed) → Shape t ns → OwnDetail x → ItemsOf x (product ns) vs → w .id ≡ i
+  array-here : (i t : ℕ) (ns : List ℕ) (x : Detail Prefixed ℕ) (vs : List Prefixed) → Shape t ns → OwnDetail τ x → ItemsOf τ x (product ns) vs → w .id ≡ i
       → drop at s ≡ enc (array i t ns x vs) ++ q → RowOf (array i t ns x vs) at w → recFrom s rows w ≡ array i t ns x vs
   unfolding enc recFrom
   array-here i t ns x vs g h y z d r =
@@ -395,7 +396,7 @@ module _ (s : List ℕ) (rows : List Row) (w : Row) (at : ℕ) (q : List ℕ) wh
       let rank = leBytes 4 (length ns) in
       let l : length rank ≡ 4 = length-leBytes 4 (length ns) in
       let n = length-numbers-bytes ns in
-      let a = after-id s q at 7 i (t ∷ (rank ++ (numbersBytes ns ++ item))) d in
+      let a = after-id τ s q at 7 i (t ∷ (rank ++ (numbersBytes ns ++ item))) d in
       let b : drop (at + 6) s ≡ rank ++ ((numbersBytes ns ++ item) ++ q) =
       rest-there s (t ∷ []) ((rank ++ (numbersBytes ns ++ item)) ++ q) (at + 5) (at + 6) (omega arith) a ∙ append-assoc rank (numbersBytes ns ++ item) q in
       let c : drop (at + 10) s ≡ numbersBytes ns ++ (item ++ q) =
@@ -403,23 +404,23 @@ module _ (s : List ℕ) (rows : List Row) (w : Row) (at : ℕ) (q : List ℕ) wh
       let p = at + 10 + 4 * length ns in
       let f = rest-there s (numbersBytes ns) (item ++ q) (at + 10) p (omega arith) c in
       let u : drop (p + 1) s ≡ infoBytes x ++ (itemsBytes vs ++ q) = byte-rest s (items ++ q) (typeByte x) p f ∙ append-assoc (infoBytes x) (itemsBytes vs) q in
-      let m = detail-there s (itemsBytes vs ++ q) (p + 1) [] x h u in
+      let m = detail-there τ s (itemsBytes vs ++ q) (p + 1) [] x h u in
       ap (recFrom s rows) (row-like w (r .kind-is) (r .offset-is) refl z (r .count-is))
       ∙ rw (
         byte-there s ((rank ++ (numbersBytes ns ++ item)) ++ q) t (at + 5) a,
         number-there s ((numbersBytes ns ++ item) ++ q) (length ns) (at + 6) b (rank-bits (g .ranked)),
         numbers-there s ns (item ++ q) (at + 10) (g .lengths) c,
         byte-there s (items ++ q) (typeByte x) p f,
-        detail-here s (itemsBytes vs ++ q) at (p + 1) x h u,
+        detail-here τ s (itemsBytes vs ++ q) at (p + 1) x h u,
         m .1,
       )
-      (ap (array i t ns x) (array-items s q (p + 1) (product ns) vs x y u))
+      (ap (array i t ns x) (array-items τ s q (p + 1) (product ns) vs x y u))
 
   -- by the row alone
   row-here : (k i n : ℕ) → w .kind ≡ k → w .id ≡ i → w .count ≡ n → recFrom s rows w ≡ recFrom s rows (like k (w .offset) (w .end) i n w)
   row-here k i n a b c = ap (recFrom s rows) (row-like w a refl refl b c)
 
-  pub rec-here : (r : Rec) → drop at s ≡ enc r ++ q → RowOf r at w → GoodRec r → OwnIs r (w .id) → at ≤ length s → CodeIs s rows r w
+  pub rec-here : (r : Rec) → drop at s ≡ enc r ++ q → RowOf r at w → GoodRec τ r → OwnIs r (w .id) → at ≤ length s → CodeIs s rows r w
       → recFrom s rows w ≡ r
   unfolding recFrom
   rec-here (header root h) d r g o l e = header-here root h (o .1) (o .0) d r
@@ -503,8 +504,8 @@ module _ (name : ℕ → List ℕ) (of : ℕ → Class) (order : ℕ → ℕ) (o
 
 -- ---- all records
 
-module _ (s : List ℕ) (rows : List Row) (name : ℕ → List ℕ) (of : ℕ → Class) (order : ℕ → ℕ) where
-  along-records : {at : ℕ} {rs : List Rec} {is : List Row} → Along at rs is → at ≤ length s → drop at s ≡ encs rs → (c : ℕ) (os : List Open)
+module _ (τ : Terms) (s : List ℕ) (rows : List Row) (name : ℕ → List ℕ) (of : ℕ → Class) (order : ℕ → ℕ) where
+  along-records : {at : ℕ} {rs : List Rec} {is : List Row} → Along τ at rs is → at ≤ length s → drop at s ≡ encs rs → (c : ℕ) (os : List Open)
       → nodesFrom s rows is ≡ walk name of order c os rs → rs ≡ map (recFrom s rows) is
   unfolding encs nodesFrom walk
   along-records no-record h d c os n = refl
@@ -513,25 +514,25 @@ module _ (s : List ℕ) (rows : List Row) (name : ℕ → List ℕ) (of : ℕ �
       let u = nodesBy m (ownerIn os) (slotIn os) in
       let a = as-many name of order (ownerIn os) (slotIn os) s rows at it r w in
       let p = same-pieces (nodesOf s rows it) (nodesFrom s rows is) u (walk name of order (countBy m c) (openBy m c os) rs) (sym a) n in
-      let x = rec-here s rows it at (encs rs) r d w g o h (code-meant name of order (ownerIn os) (slotIn os) s rows at it r w (p .0)) in
+      let x = rec-here τ s rows it at (encs rs) r d w g o h (code-meant name of order (ownerIn os) (slotIn os) s rows at it r w (p .0)) in
       let t = stand-of s (enc r) (encs rs) at h d in
       let y = along-records k (omega (arith, t .room)) (rest-there s (enc r) (encs rs) at next e d) (countBy m c) (openBy m c os) (p .1) in
       ap (λ (z : Rec). z ∷ rs) (sym x) ∙ ap (λ (l : List Rec). recFrom s rows it ∷ l) y
 
 -- the records of a reading are those that its rows show
-pub records-are : {s : List ℕ} {rows : List Row} (w : Reading s rows) → recordsIn w ≡ map (recFrom s rows) rows
+pub records-are : (τ : Terms) {s : List ℕ} {rows : List Row} (w : Reading τ s rows) → recordsIn τ w ≡ map (recFrom s rows) rows
 unfolding says meant walk
-records-are {s} {rows} w =
-    along-records s rows (nameBy (w .rs)) (classBy (w .rs)) (orderBy (w .rs)) (reading-along w) (omega arith) (reading-bytes w) 0 []
-    (ap (λ (m : Model). m .nodes) (says-meant w))
+records-are τ {s} {rows} w =
+    along-records τ s rows (nameBy (w .rs)) (classBy (w .rs)) (orderBy (w .rs)) (reading-along τ w) (omega arith) (reading-bytes τ w) 0 []
+    (ap (λ (m : Model). m .nodes) (says-meant τ w))
 
 heads : {a b c d : ℕ} {rs ss : List Rec} → header a b ∷ rs ≡ header c d ∷ ss → (a ≡ c) × ((b ≡ d) × (rs ≡ ss))
 heads e = (cc, (cc, cc))
 
 -- two readings of one stream have equal roots, HeaderIds and records
-records-unique : (s : List ℕ) (rows others : List Row) (a : Reading s rows) (b : Reading s others)
+records-unique : (τ : Terms) (s : List ℕ) (rows others : List Row) (a : Reading τ s rows) (b : Reading τ s others)
     → (a .root ≡ b .root) × ((a .header-id ≡ b .header-id) × (a .rs ≡ b .rs))
-records-unique s rows others a b = heads (records-are a ∙ (ap (λ (l : List Row). map (recFrom s l) l) (reading-unique s rows others a b) ∙ sym (records-are b)))
+records-unique τ s rows others a b = heads (records-are τ a ∙ (ap (λ (l : List Row). map (recFrom s l) l) (reading-unique τ s rows others a b) ∙ sym (records-are τ b)))
 
 -- ---- the rows before linking
 
@@ -555,33 +556,33 @@ raw-more kind at r id own slot count q k = one-row (subst (λ (x : Row). unlinke
     zeroed false = refl
 
 mutual
-  object-raw : {room own slot : ℕ} {c c₁ : Cur} → Object room own slot c c₁ → RawIn c₁ → RawIn c
-  object-raw (system-class a b q d) k = raw-more 4 _ _ _ _ _ _ q (body-raw d k)
-  object-raw (library-class a b f q d) k = raw-more 5 _ _ _ _ _ _ q (body-raw d k)
-  object-raw (class-by-id a b f q d) k = one-row (subst (λ (x : Row). unlinked x ≡ x) (sym q) refl) (body-raw d k)
+  object-raw : (τ : Terms) {room own slot : ℕ} {c c₁ : Cur} → Object τ room own slot c c₁ → RawIn c₁ → RawIn c
+  object-raw τ (system-class a b q d) k = raw-more 4 _ _ _ _ _ _ q (body-raw τ d k)
+  object-raw τ (library-class a b f q d) k = raw-more 5 _ _ _ _ _ _ q (body-raw τ d k)
+  object-raw τ (class-by-id a b f q d) k = one-row (subst (λ (x : Row). unlinked x ≡ x) (sym q) refl) (body-raw τ d k)
 
-  body-raw : {room row : ℕ} {ts : List SlotType} {c c₁ : Cur} → Body room row ts c c₁ → RawIn c₁ → RawIn c
-  body-raw hollow k = k
-  body-raw (filled d) k = slots-raw d k
+  body-raw : (τ : Terms) {room row : ℕ} {ts : List SlotType} {c c₁ : Cur} → Body τ room row ts c c₁ → RawIn c₁ → RawIn c
+  body-raw τ hollow k = k
+  body-raw τ (filled d) k = slots-raw τ d k
 
-  slots-raw : {room own slot : ℕ} {ts : List SlotType} {c c₁ : Cur} → Slots room own slot ts c c₁ → RawIn c₁ → RawIn c
-  slots-raw full k = k
-  slots-raw (member-value a q d) k = raw-more 32 _ _ _ _ _ _ q (slots-raw d k)
-  slots-raw (an-object t a d) k = object-raw a (slots-raw d k)
-  slots-raw (a-string t a b q d) k = raw-more 6 _ _ _ _ _ _ q (slots-raw d k)
-  slots-raw (a-typed-primitive t a q d) k = raw-more 8 _ _ _ _ _ _ q (slots-raw d k)
-  slots-raw (a-reference t a q d) k = raw-more 9 _ _ _ _ _ _ q (slots-raw d k)
-  slots-raw (a-null t q d) k = raw-more 10 _ _ _ _ _ _ q (slots-raw d k)
-  slots-raw (a-run t a b e u q d) k = raw-more 13 _ _ _ _ _ _ q (slots-raw d k)
-  slots-raw (a-long-run t a b e u q d) k = raw-more 14 _ _ _ _ _ _ q (slots-raw d k)
-  slots-raw (a-library t a b n q d) k = raw-more 12 _ _ _ _ _ _ q (slots-raw d k)
+  slots-raw : (τ : Terms) {room own slot : ℕ} {ts : List SlotType} {c c₁ : Cur} → Slots τ room own slot ts c c₁ → RawIn c₁ → RawIn c
+  slots-raw τ full k = k
+  slots-raw τ (member-value a q d) k = raw-more 32 _ _ _ _ _ _ q (slots-raw τ d k)
+  slots-raw τ (an-object t a d) k = object-raw τ a (slots-raw τ d k)
+  slots-raw τ (a-string t a b q d) k = raw-more 6 _ _ _ _ _ _ q (slots-raw τ d k)
+  slots-raw τ (a-typed-primitive t a q d) k = raw-more 8 _ _ _ _ _ _ q (slots-raw τ d k)
+  slots-raw τ (a-reference t a q d) k = raw-more 9 _ _ _ _ _ _ q (slots-raw τ d k)
+  slots-raw τ (a-null t q d) k = raw-more 10 _ _ _ _ _ _ q (slots-raw τ d k)
+  slots-raw τ (a-run t a b e u q d) k = raw-more 13 _ _ _ _ _ _ q (slots-raw τ d k)
+  slots-raw τ (a-long-run t a b e u q d) k = raw-more 14 _ _ _ _ _ _ q (slots-raw τ d k)
+  slots-raw τ (a-library t a b n q d) k = raw-more 12 _ _ _ _ _ _ q (slots-raw τ d k)
 
-objects-raw : {c : Cur} → Objects c → RawIn c
-objects-raw (the-end q) = raw-more 11 _ _ _ _ _ _ q no-row
-objects-raw (one-object a d) = object-raw a (objects-raw d)
-objects-raw (one-string a b q d) = raw-more 6 _ _ _ _ _ _ q (objects-raw d)
-objects-raw (one-array {kind = kind} a b q d f) = raw-more kind _ _ _ _ _ _ q (body-raw d (objects-raw f))
-objects-raw (one-library a b n q d) = raw-more 12 _ _ _ _ _ _ q (objects-raw d)
+objects-raw : (τ : Terms) {c : Cur} → Objects τ c → RawIn c
+objects-raw τ (the-end q) = raw-more 11 _ _ _ _ _ _ q no-row
+objects-raw τ (one-object a d) = object-raw τ a (objects-raw τ d)
+objects-raw τ (one-string a b q d) = raw-more 6 _ _ _ _ _ _ q (objects-raw τ d)
+objects-raw τ (one-array {kind = kind} a b q d f) = raw-more kind _ _ _ _ _ _ q (body-raw τ d (objects-raw τ f))
+objects-raw τ (one-library a b n q d) = raw-more 12 _ _ _ _ _ _ q (objects-raw τ d)
 
 raw-linked : (all : List Row) {is : List Row} → Raw is → map unlinked (map (λ (r : Row). withLink r (linkOf all r)) is) ≡ is
 unfolding linkOf
@@ -599,16 +600,16 @@ raw-linked all (one-row {r = r} {rows = is} u k) =
         go false e = refl
 
 -- the rows before linking, too, are those that the rows show
-pub raw-are : {s : List ℕ} {rows : List Row} (w : Reading s rows) → w .is ≡ map unlinked (drop 1 rows)
+pub raw-are : (τ : Terms) {s : List ℕ} {rows : List Row} (w : Reading τ s rows) → w .is ≡ map unlinked (drop 1 rows)
 unfolding linked
-raw-are w =
+raw-are τ w =
     let raw = rowOf 0 0 (header (w .root) (w .header-id)) (w .root) 0 0 0 0 ∷ w .is in
-    sym (ap (λ (l : List Row). map unlinked (drop 1 l)) (rows-are w) ∙ raw-linked raw (objects-raw (w .objects-are)))
+    sym (ap (λ (l : List Row). map unlinked (drop 1 l)) (rows-are τ w) ∙ raw-linked raw (objects-raw τ (w .objects-are)))
 
 -- ---- no list has two readings
 
 -- two readings that are one: all that a reading holds, but for the facts about it
-pub record OneReading {s : List ℕ} {rows others : List Row} (a : Reading s rows) (b : Reading s others) : Type 0 where
+pub record OneReading (τ : Terms) {s : List ℕ} {rows others : List Row} (a : Reading τ s rows) (b : Reading τ s others) : Type 0 where
   pub rows-same : rows ≡ others
   pub root-same : a .root ≡ b .root
   pub header-id-same : a .header-id ≡ b .header-id
@@ -616,14 +617,14 @@ pub record OneReading {s : List ℕ} {rows others : List Row} (a : Reading s row
   -- the rows before linking
   pub unlinked-same : a .is ≡ b .is
 
-pub reading-unique-whole : (s : List ℕ) (rows others : List Row) (a : Reading s rows) (b : Reading s others) → OneReading a b
-reading-unique-whole s rows others a b =
-    let e = reading-unique s rows others a b in
-    let x = records-unique s rows others a b in
+pub reading-unique-whole : (τ : Terms) (s : List ℕ) (rows others : List Row) (a : Reading τ s rows) (b : Reading τ s others) → OneReading τ a b
+reading-unique-whole τ s rows others a b =
+    let e = reading-unique τ s rows others a b in
+    let x = records-unique τ s rows others a b in
     record {
       rows-same = e;
       root-same = x .0;
       header-id-same = x .1 .0;
       records-same = x .1 .1;
-      unlinked-same = raw-are a ∙ (ap (λ (l : List Row). map unlinked (drop 1 l)) e ∙ sym (raw-are b));
+      unlinked-same = raw-are τ a ∙ (ap (λ (l : List Row). map unlinked (drop 1 l)) e ∙ sym (raw-are τ b));
     }

@@ -2,6 +2,7 @@
 use Prim.Native.Nat.{ℕ}
 use mathlib.Core.Path.{_≡_, sym, ap₂, _∙_}
 use mathlib.Core.List.{List}
+use Rattle.format.specs.Terms.{Terms}
 use Rattle.format.specs.declared.ReadAnswer.{ReadAnswer}
 use Rattle.format.specs.declared.TidyAnswer.{TidyAnswer}
 use Rattle.format.specs.View.{rowQuestion, textView}
@@ -15,16 +16,16 @@ one : {A : Type 0} → (z : A) → Settles (λ (x : A). x ≡ z)
 one z x y a b = a ∙ sym b
 
 -- answer, every word of the table and every byte of the output, for the four public jobs
-pub promises-settle : ((s t : List ℕ) → Settles (λ (o : ReadAnswer × List ℕ). ReadPromise s t (o .0) (o .1)))
-    × (((s t : List ℕ) (row : ℕ) → Settles (QuestionPromise s t row))
-    × (((s t : List ℕ) (row : ℕ) → Settles (ViewPromise s t row))
-    × ((s t d : List ℕ) → Settles (λ (o : TidyAnswer × (List ℕ × List ℕ)). TidyPromise s t d (o .0) (o .1 .0) (o .1 .1)))))
-promises-settle = (
+pub promises-settle : (τ : Terms) → ((s t : List ℕ) → Settles (λ (o : ReadAnswer × List ℕ). ReadPromise τ s t (o .0) (o .1)))
+    × (((s t : List ℕ) (row : ℕ) → Settles (QuestionPromise (τ .setting) s t row))
+    × (((s t : List ℕ) (row : ℕ) → Settles (ViewPromise (τ .setting) s t row))
+    × ((s t d : List ℕ) → Settles (λ (o : TidyAnswer × (List ℕ × List ℕ)). TidyPromise τ s t d (o .0) (o .1 .0) (o .1 .1)))))
+promises-settle τ = (
   λ s t x y a b. pair (one _ (x .0) (y .0) (a .answer) (b .answer)) (one _ (x .1) (y .1) (a .table) (b .table)),
   (
-    λ s t row x y a b. one (rowQuestion s t row) x y (a .answer) (b .answer),
+    λ s t row x y a b. one (rowQuestion (τ .setting) s t row) x y (a .answer) (b .answer),
     (
-      λ s t row. one (textView s t row),
+      λ s t row. one (textView (τ .setting) s t row),
       λ s t d x y a b.
           pair (one _ (x .0) (y .0) (a .answer) (b .answer))
           (pair (one _ (x .1 .0) (y .1 .0) (a .table) (b .table)) (one _ (x .1 .1) (y .1 .1) (a .output) (b .output))),

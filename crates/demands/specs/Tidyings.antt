@@ -9,6 +9,7 @@ use native.Mathlib.Omega.{arith}
 use lib.ListN.{length, replicate}
 use lib.Dec.{leb}
 use borrow.Author.Tests.{leb-false, lt-leb}
+use Rattle.format.specs.Terms.{Terms}
 use Rattle.format.specs.declared.Refusal.{Refusal}
 use Rattle.format.specs.declared.ReadAnswer.{ReadAnswer}
 use Rattle.format.specs.declared.ReadAnswer.the-variants as A
@@ -40,21 +41,21 @@ refused-by s d (accepted rows) r p e = absurd (no (fits (tidyOf (says s rows)) d
 refused-by s d (refused x y) r p e = cc
 
 -- after a refusal the table is all zeros, the output is as it was, and no reading fits the table
-pub tidy-refuses : (s t d : List ℕ) (r : Refusal) (place : ℕ) (u e : List ℕ) → TidyPromise s t d (Q.Refused r place) u e
-    → (u ≡ replicate (length t) 0) × ((e ≡ d) × ((rows : List Row) → Reading s rows → length rows ≤ roomOf t → ⊥))
+pub tidy-refuses : (τ : Terms) (s t d : List ℕ) (r : Refusal) (place : ℕ) (u e : List ℕ) → TidyPromise τ s t d (Q.Refused r place) u e
+    → (u ≡ replicate (length t) 0) × ((e ≡ d) × ((rows : List Row) → Reading τ s rows → length rows ≤ roomOf t → ⊥))
 unfolding tidyTable tidyOutput
-tidy-refuses s t d r place u e p =
-    let x = refused-by s d (readOf s (roomOf t)) r place (p .answer) in (
+tidy-refuses τ s t d r place u e p =
+    let x = refused-by s d (readOf τ s (roomOf t)) r place (p .answer) in (
       p .table ∙ ap (tidyTable (length t) s d) x,
-      (p .output ∙ ap (tidyOutput s d) x, λ rows w l. not-both rows r place (sym (accepts w (roomOf t) l) ∙ x)),
+      (p .output ∙ ap (tidyOutput s d) x, λ rows w l. not-both rows r place (sym (accepts τ w (roomOf t) l) ∙ x)),
     )
 
 -- and reading would be refused so
-pub tidy-refused-as-read : (s t d : List ℕ) (r : Refusal) (place : ℕ) (u e : List ℕ) → TidyPromise s t d (Q.Refused r place) u e
-    → (a : ReadAnswer) (v : List ℕ) → ReadPromise s t a v → (a ≡ A.Refused r place) × (v ≡ u)
+pub tidy-refused-as-read : (τ : Terms) (s t d : List ℕ) (r : Refusal) (place : ℕ) (u e : List ℕ) → TidyPromise τ s t d (Q.Refused r place) u e
+    → (a : ReadAnswer) (v : List ℕ) → ReadPromise τ s t a v → (a ≡ A.Refused r place) × (v ≡ u)
 unfolding readAnswer tableWords tidyTable
-tidy-refused-as-read s t d r place u e p a v q =
-    let x = refused-by s d (readOf s (roomOf t)) r place (p .answer) in (
+tidy-refused-as-read τ s t d r place u e p a v q =
+    let x = refused-by s d (readOf τ s (roomOf t)) r place (p .answer) in (
       q .answer ∙ ap readAnswer x,
       q .table ∙ (ap (tableWords (length t)) x ∙ sym (p .table ∙ ap (tidyTable (length t) s d) x)),
     )
@@ -62,9 +63,9 @@ tidy-refused-as-read s t d r place u e p a v q =
 -- ---- no room for the copy
 
 -- s has a reading that fits the table, and its copy, of n bytes, does not fit: the table that held t is all zeros, the output that held d holds it
-pub record TooLong (s t d : List ℕ) (n : ℕ) (u e : List ℕ) : Type 0 where
+pub record TooLong (τ : Terms) (s t d : List ℕ) (n : ℕ) (u e : List ℕ) : Type 0 where
   pub rows : List Row
-  pub reads : Reading s rows
+  pub reads : Reading τ s rows
   pub fit : length rows ≤ roomOf t
   pub table-is : u ≡ replicate (length t) 0
   pub output-is : e ≡ d
@@ -93,12 +94,12 @@ over-of n m e = go (leb n m) refl e
     go true q e = inr (leb-false n 16777216 e)
     go false q e = inl (leb-false n m q)
 
-pub tidy-full : (s t d : List ℕ) → Bytes s → (n : ℕ) (u e : List ℕ) → TidyPromise s t d (Q.OutFull n) u e → TooLong s t d n u e
+pub tidy-full : (τ : Terms) (s t d : List ℕ) → Bytes s → (n : ℕ) (u e : List ℕ) → TidyPromise τ s t d (Q.OutFull n) u e → TooLong τ s t d n u e
 unfolding tidyTable tidyOutput
-tidy-full s t d byte n u e p =
-    let x = full-by s d (readOf s (roomOf t)) n (p .answer) in
+tidy-full τ s t d byte n u e p =
+    let x = full-by s d (readOf τ s (roomOf t)) n (p .answer) in
     let rows = x .rows in
-    let w = accepted-exactly s byte (roomOf t) rows .0 (x .taken) in
+    let w = accepted-exactly τ s byte (roomOf t) rows .0 (x .taken) in
     record {
       rows = rows;
       reads = w .0;
@@ -110,13 +111,13 @@ tidy-full s t d byte n u e p =
     }
 
 -- a reading that fits the table, with a copy that is too long, is announced so
-pub tidy-over : (s t d : List ℕ) (rows : List Row) → Reading s rows → length rows ≤ roomOf t
-    → (length d < length (tidyOf (says s rows))) ⊎ (16777216 < length (tidyOf (says s rows))) → (q : TidyAnswer) (u e : List ℕ) → TidyPromise s t d q u e
+pub tidy-over : (τ : Terms) (s t d : List ℕ) (rows : List Row) → Reading τ s rows → length rows ≤ roomOf t
+    → (length d < length (tidyOf (says s rows))) ⊎ (16777216 < length (tidyOf (says s rows))) → (q : TidyAnswer) (u e : List ℕ) → TidyPromise τ s t d q u e
     → (q ≡ Q.OutFull (length (tidyOf (says s rows)))) × ((u ≡ replicate (length t) 0) × (e ≡ d))
 unfolding tidyAnswer tidyTable tidyOutput
-tidy-over s t d rows w l over q u e p =
+tidy-over τ s t d rows w l over q u e p =
     let c : List ℕ = tidyOf (says s rows) in
-    let r = accepts w (roomOf t) l in
+    let r = accepts τ w (roomOf t) l in
     let i : fits c d ≡ false = too-long (length c) (length d) over in (
       p .answer ∙ (ap (tidyAnswer s d) r ∙ rw i),
       (p .table ∙ (ap (tidyTable (length t) s d) r ∙ rw i), p .output ∙ (ap (tidyOutput s d) r ∙ rw i)),
@@ -131,11 +132,11 @@ tidy-over s t d rows w l over q u e p =
     too-long n m (inr h) = rw (lt-leb n 16777216 h) (never (leb n m))
 
 -- a list with no reading that fits the table is refused
-pub tidy-none : (s t d : List ℕ) → Bytes s → ((rows : List Row) → Reading s rows → length rows ≤ roomOf t → ⊥) → (q : TidyAnswer) (u e : List ℕ)
-    → TidyPromise s t d q u e → (r : Refusal) × (place : ℕ) × (q ≡ Q.Refused r place)
+pub tidy-none : (τ : Terms) (s t d : List ℕ) → Bytes s → ((rows : List Row) → Reading τ s rows → length rows ≤ roomOf t → ⊥) → (q : TidyAnswer) (u e : List ℕ)
+    → TidyPromise τ s t d q u e → (r : Refusal) × (place : ℕ) × (q ≡ Q.Refused r place)
 unfolding tidyAnswer
-tidy-none s t d byte none q u e p = go (readOf s (roomOf t)) refl
+tidy-none τ s t d byte none q u e p = go (readOf τ s (roomOf t)) refl
   where
-    go : (o : Outcome) → readOf s (roomOf t) ≡ o → (r : Refusal) × (place : ℕ) × (q ≡ Q.Refused r place)
-    go (accepted rows) x = let w = accepted-exactly s byte (roomOf t) rows .0 x in absurd (none rows (w .0) (w .1))
+    go : (o : Outcome) → readOf τ s (roomOf t) ≡ o → (r : Refusal) × (place : ℕ) × (q ≡ Q.Refused r place)
+    go (accepted rows) x = let w = accepted-exactly τ s byte (roomOf t) rows .0 x in absurd (none rows (w .0) (w .1))
     go (refused r place) x = (r, place, p .answer ∙ ap (tidyAnswer s d) x)

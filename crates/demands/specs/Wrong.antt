@@ -8,6 +8,7 @@ use native.Mathlib.Omega.{arith}
 use lib.ListN.{length, getD, take, drop, replicate, length-replicate}
 use lib.Dec.{leb, eqb}
 use lib.Seq.{take-append-seam}
+use Rattle.format.specs.Terms.{Terms, strict, lenient}
 use Rattle.format.specs.declared.Refusal.{Refusal}
 use Rattle.format.specs.declared.ReadAnswer.{ReadAnswer}
 use Rattle.format.specs.declared.ReadAnswer.the-variants as A
@@ -27,12 +28,12 @@ use Rattle.format.specs.Machine.{Outcome, accepted, refused, close, filled, ope
 use Rattle.format.specs.Says.{objectsIn, orderOf, whatFrom, spread, nodesOf, nodesFrom, Model, says, SayTheSame}
 use Rattle.format.specs.Tidy.{recordsOf, afterWhat, pack, runOf, written, waiting, squeeze, tidyRecords, tidyOf}
 use Rattle.format.specs.Examples.{hexOnto}
-use Rattle.format.specs.CounterExamples.{headerOf, stringOf, case2, sevens, stringRows, case7}
+use Rattle.format.specs.CounterExamples.{headerOf, stringOf, case2, case6, sevens, stringRows, prefixedRows, case7}
 use Rattle.num.specs.Le.{Bytes}
 use Rattle.readings.specs.Accept.{accepts}
 use Rattle.demands.specs.Readings.{accepted-exactly, reading-unique, reading-short}
 use Rattle.demands.specs.Calls.{tabled}
-use Rattle.demands.specs.Examples.{bytes, bytes-are, run7, reads-2, reads-sevens, reads-7, none-empty, same-sevens, not-same-7}
+use Rattle.demands.specs.Examples.{bytes, bytes-are, run7, reads-2, reads-sevens, reads-6, reads-7, none-empty, none-6, same-sevens, same-6, tidy-6, not-same-7}
 use Rattle.demands.specs.Records.{recFrom, recordsIn, records-are}
 use Rattle.demands.specs.Texts.{shown-rows, shownIn}
 use Rattle.demands.specs.Exactly.{same-meant, meant-small}
@@ -64,9 +65,9 @@ twoRows id =
 abbrev two : ℕ → List Row
 two id = rowsOf 4 (twoRows id)
 
-all-bytes : ((bytes case2 ≡ true) × ((bytes sevens ≡ true) × (bytes run7 ≡ true))) × ((bytes (twoStrings 2) ≡ true) × (bytes (twoStrings 3) ≡ true))
+all-bytes : ((bytes case2 ≡ true) × ((bytes sevens ≡ true) × ((bytes run7 ≡ true) × (bytes case6 ≡ true)))) × ((bytes (twoStrings 2) ≡ true) × (bytes (twoStrings 3) ≡ true))
 unfolding bytes leBytes hexOnto
-all-bytes = ((refl, (refl, refl)), (refl, refl))
+all-bytes = ((refl, (refl, (refl, refl))), (refl, refl))
 
 bytes-2 : Bytes case2
 bytes-2 = bytes-are case2 (all-bytes .0 .0)
@@ -75,7 +76,10 @@ bytes-sevens : Bytes sevens
 bytes-sevens = bytes-are sevens (all-bytes .0 .1 .0)
 
 bytes-7 : Bytes run7
-bytes-7 = bytes-are run7 (all-bytes .0 .1 .1)
+bytes-7 = bytes-are run7 (all-bytes .0 .1 .1 .0)
+
+bytes-6 : Bytes case6
+bytes-6 = bytes-are case6 (all-bytes .0 .1 .1 .1)
 
 bytes-two : Bytes (twoStrings 2)
 bytes-two = bytes-are (twoStrings 2) (all-bytes .1 .0)
@@ -83,19 +87,23 @@ bytes-two = bytes-are (twoStrings 2) (all-bytes .1 .0)
 bytes-three : Bytes (twoStrings 3)
 bytes-three = bytes-are (twoStrings 3) (all-bytes .1 .1)
 
+length-2 : length case2 ≡ 28
+unfolding leBytes hexOnto
+length-2 = refl
+
 counts : (length rows2 ≡ 3) × (length rows7 ≡ 4)
 unfolding rowsOf
 counts = (refl, refl)
 
-two-taken : (readOf (twoStrings 2) 38 ≡ accepted (two 2)) × (readOf (twoStrings 3) 38 ≡ accepted (two 3))
+two-taken : (τ : Terms) → (readOf τ (twoStrings 2) 38 ≡ accepted (two 2)) × (readOf τ (twoStrings 3) 38 ≡ accepted (two 3))
 unfolding rowsOf readOf rawOf run finish step recordStep act ending nullRun object add opened filled close headingAt stringRecordAt headerAt kindAt kindOf allowed linked linkOf objectRow findFrom passedOf passed moved nameAt stringAt textAt wellFormed after stepOf leadOf hiOf loOf needOf groupsOf prefixIn leBytes u32At le hexOnto
-two-taken = (refl, refl)
+two-taken τ = (refl, refl)
 
-pub reads-two : Reading (twoStrings 2) (two 2)
-reads-two = accepted-exactly (twoStrings 2) bytes-two 38 (two 2) .0 (two-taken .0) .0
+pub reads-two : (τ : Terms) → Reading τ (twoStrings 2) (two 2)
+reads-two τ = accepted-exactly τ (twoStrings 2) bytes-two 38 (two 2) .0 (two-taken τ .0) .0
 
-pub reads-three : Reading (twoStrings 3) (two 3)
-reads-three = accepted-exactly (twoStrings 3) bytes-three 38 (two 3) .0 (two-taken .1) .0
+pub reads-three : (τ : Terms) → Reading τ (twoStrings 3) (two 3)
+reads-three τ = accepted-exactly τ (twoStrings 3) bytes-three 38 (two 3) .0 (two-taken τ .1) .0
 
 -- they say the same
 pub same-two : SayTheSame (twoStrings 2) (two 2) (twoStrings 3) (two 3)
@@ -108,35 +116,38 @@ lengths : ((length (tidyOf (says case2 rows2)) ≡ 28) × ((length (tidyOf (says
 unfolding rowsOf tidyOf tidyRecords squeeze waiting written runOf pack afterWhat recordsOf encs enc says nodesFrom nodesOf spread whatFrom orderOf objectsIn spanAt prefixOf groupsIn groupsOf prefixIn leBytes le hexOnto
 lengths = ((refl, (refl, refl)), (refl, refl))
 
-small-2 : Within reads-2
-small-2 = meant-small reads-2 (omega (arith, lengths .0 .0))
+small-2 : (τ : Terms) → Within (reads-2 τ)
+small-2 τ = meant-small τ (reads-2 τ) (omega (arith, lengths .0 .0))
 
-small-sevens : Within reads-sevens
-small-sevens = meant-small reads-sevens (omega (arith, lengths .0 .1 .0))
+small-sevens : (τ : Terms) → Within (reads-sevens τ)
+small-sevens τ = meant-small τ (reads-sevens τ) (omega (arith, lengths .0 .1 .0))
 
-small-7 : Within reads-7
-small-7 = meant-small reads-7 (omega (arith, lengths .0 .1 .1))
+small-7 : (τ : Terms) → Within (reads-7 τ)
+small-7 τ = meant-small τ (reads-7 τ) (omega (arith, lengths .0 .1 .1))
 
-small-two : Within reads-two
-small-two = meant-small reads-two (omega (arith, lengths .1 .0))
+small-6 : Within reads-6
+small-6 = meant-small lenient reads-6 (omega (arith, ap length tidy-6 ∙ length-2))
 
-small-three : Within reads-three
-small-three = meant-small reads-three (omega (arith, lengths .1 .1))
+small-two : (τ : Terms) → Within (reads-two τ)
+small-two τ = meant-small τ (reads-two τ) (omega (arith, lengths .1 .0))
+
+small-three : (τ : Terms) → Within (reads-three τ)
+small-three τ = meant-small τ (reads-three τ) (omega (arith, lengths .1 .1))
 
 -- ---- readers
 
 -- a reader that accepts nothing
-pub refuses-all : (job : Reader) → ((s : List ℕ) (room : ℕ) (rows : List Row) → job s room ≡ accepted rows → ⊥) → Demand2 job → ⊥
-refuses-all job none demand = none case2 3 rows2 (demand case2 bytes-2 3 rows2 .1 (reads-2, omega (arith, counts .0)))
+pub refuses-all : (τ : Terms) (job : Reader) → ((s : List ℕ) (room : ℕ) (rows : List Row) → job s room ≡ accepted rows → ⊥) → Demand2 τ job → ⊥
+refuses-all τ job none demand = none case2 3 rows2 (demand case2 bytes-2 3 rows2 .1 (reads-2 τ, omega (arith, counts .0)))
 
-pub all-refused : (refusal : List ℕ → ℕ → Refusal) (place : List ℕ → ℕ → ℕ) → Demand2 (λ s room. refused (refusal s room) (place s room)) → ⊥
-all-refused refusal place = refuses-all _ (λ s room rows e. let z : _≡_ {A = ℕ} 0 1 = cc in omega arith)
+pub all-refused : (τ : Terms) (refusal : List ℕ → ℕ → Refusal) (place : List ℕ → ℕ → ℕ) → Demand2 τ (λ s room. refused (refusal s room) (place s room)) → ⊥
+all-refused τ refusal place = refuses-all τ _ (λ s room rows e. let z : _≡_ {A = ℕ} 0 1 = cc in omega arith)
 
 -- a reader with one row set for all lists that it accepts
-pub one-row-set : (job : Reader) (fixed : List Row) → ((s : List ℕ) (room : ℕ) (rows : List Row) → job s room ≡ accepted rows → rows ≡ fixed) → Demand2 job → ⊥
-one-row-set job fixed one demand =
-    let a = one case2 4 rows2 (demand case2 bytes-2 4 rows2 .1 (reads-2, omega (arith, counts .0))) in
-    let b = one run7 4 rows7 (demand run7 bytes-7 4 rows7 .1 (reads-7, omega (arith, counts .1))) in
+pub one-row-set : (τ : Terms) (job : Reader) (fixed : List Row) → ((s : List ℕ) (room : ℕ) (rows : List Row) → job s room ≡ accepted rows → rows ≡ fixed) → Demand2 τ job → ⊥
+one-row-set τ job fixed one demand =
+    let a = one case2 4 rows2 (demand case2 bytes-2 4 rows2 .1 (reads-2 τ, omega (arith, counts .0))) in
+    let b = one run7 4 rows7 (demand run7 bytes-7 4 rows7 .1 (reads-7 τ, omega (arith, counts .1))) in
     let e : length rows2 ≡ length rows7 = ap length (a ∙ sym b) in
     let c = counts .0 in
     let d = counts .1 in
@@ -145,70 +156,90 @@ one-row-set job fixed one demand =
 same-rows : {a b : List Row} → accepted a ≡ accepted b → b ≡ a
 same-rows e = cc
 
-pub fixed-rows : (fixed : List Row) → Demand2 (λ s room. accepted fixed) → ⊥
-fixed-rows fixed = one-row-set _ fixed (λ s room rows e. same-rows e)
+pub fixed-rows : (τ : Terms) (fixed : List Row) → Demand2 τ (λ s room. accepted fixed) → ⊥
+fixed-rows τ fixed = one-row-set τ _ fixed (λ s room rows e. same-rows e)
 
 -- the same of jobs with a table: nothing accepted
-pub table-refuses-all : (job : Filler) → ((s t : List ℕ) (n : ℕ) → job s t .0 ≡ A.Accepted n → ⊥) → Demand2Table job → ⊥
-table-refuses-all job none demand =
+pub table-refuses-all : (τ : Terms) (job : Filler) → ((s t : List ℕ) (n : ℕ) → job s t .0 ≡ A.Accepted n → ⊥) → Demand2Table τ job → ⊥
+table-refuses-all τ job none demand =
     let t : List ℕ = replicate 32 0 in
-    none case2 t (length rows2) (demand .taken case2 t bytes-2 rows2 reads-2 (omega (arith, counts .0)) .0)
+    none case2 t (length rows2) (demand .taken case2 t bytes-2 rows2 (reads-2 τ) (omega (arith, counts .0)) .0)
 
 -- and one row set in the table of every list that is accepted
-pub table-one-row-set : (job : Filler) (fixed : List Row) → ((s t : List ℕ) (n : ℕ) → job s t .0 ≡ A.Accepted n → job s t .1 ≡ tabled (length t) fixed)
-    → Demand2Table job → ⊥
-table-one-row-set job fixed one demand =
+pub table-one-row-set : (τ : Terms) (job : Filler) (fixed : List Row) → ((s t : List ℕ) (n : ℕ) → job s t .0 ≡ A.Accepted n → job s t .1 ≡ tabled (length t) fixed)
+    → Demand2Table τ job → ⊥
+table-one-row-set τ job fixed one demand =
     let t : List ℕ = replicate 32 0 in
     let f = counts .0 in
     let g = counts .1 in
-    let x = demand .taken case2 t bytes-2 rows2 reads-2 (omega arith) in
-    let y = demand .taken run7 t bytes-7 rows7 reads-7 (omega arith) in
+    let x = demand .taken case2 t bytes-2 rows2 (reads-2 τ) (omega arith) in
+    let y = demand .taken run7 t bytes-7 rows7 (reads-7 τ) (omega arith) in
     let a = one case2 t (length rows2) (x .0) in
     let b = one run7 t (length rows7) (y .0) in
-    let c = shown-rows reads-2 t (omega arith) in
-    let d = shown-rows reads-7 t (omega arith) in
+    let c = shown-rows τ (reads-2 τ) t (omega arith) in
+    let d = shown-rows τ (reads-7 τ) t (omega arith) in
     let e : length rows2 ≡ length rows7 = sym c ∙ (ap shownIn (sym (x .1) ∙ (a ∙ (sym b ∙ y .1))) ∙ d) in
     omega arith
 
-pub table-fixed-rows : (fixed : List Row) → Demand2Table (λ s t. (A.Accepted (length fixed), tabled (length t) fixed)) → ⊥
-table-fixed-rows fixed = table-one-row-set _ fixed (λ s t n e. refl)
+pub table-fixed-rows : (τ : Terms) (fixed : List Row) → Demand2Table τ (λ s t. (A.Accepted (length fixed), tabled (length t) fixed)) → ⊥
+table-fixed-rows τ fixed = table-one-row-set τ _ fixed (λ s t n e. refl)
+
+-- one reader for both settings: whatever it says of counter example 6 is wrong under one of them
+pub both-settings : (job : Reader) → Demand2 strict job → Demand2 lenient job → ⊥
+both-settings job one other =
+    let rows : List Row = rowsOf 3 (prefixedRows 28) in
+    let e = other case6 bytes-6 (length rows) rows .1 (reads-6, omega arith) in
+    none-6 rows (one case6 bytes-6 (length rows) rows .0 e .0)
 
 -- ---- tidy jobs
 
 -- one copy for all lists that have readings
-pub one-copy : (job : Copier) (copy : List ℕ) → ((s : List ℕ) (rows : List Row) → Reading s rows → job s ≡ copy) → Demand3 job → ⊥
-one-copy job copy one demand =
-    let e = one case2 rows2 reads-2 ∙ sym (one run7 rows7 reads-7) in
-    not-same-7 (same-meant reads-2 reads-7 .1 (demand .same case2 bytes-2 rows2 reads-2 small-2 run7 bytes-7 rows7 reads-7 small-7 .1 e))
+pub one-copy : (τ : Terms) (job : Copier) (copy : List ℕ) → ((s : List ℕ) (rows : List Row) → Reading τ s rows → job τ s ≡ copy) → Demand3 job → ⊥
+one-copy τ job copy one demand =
+    let e = one case2 rows2 (reads-2 τ) ∙ sym (one run7 rows7 (reads-7 τ)) in
+    not-same-7 (same-meant τ τ (reads-2 τ) (reads-7 τ) .1 (demand .same τ case2 bytes-2 rows2 (reads-2 τ) (small-2 τ) τ run7 bytes-7 rows7 (reads-7 τ) (small-7 τ) .1 e))
 
-pub fixed-copy : (copy : List ℕ) → Demand3 (λ s. copy) → ⊥
-fixed-copy copy = one-copy (λ s. copy) copy (λ s rows w. refl)
+pub fixed-copy : (copy : List ℕ) → Demand3 (λ τ s. copy) → ⊥
+fixed-copy copy = one-copy strict (λ τ s. copy) copy (λ s rows w. refl)
 
 -- no bytes
-pub no-copy : Demand3 (λ s. []) → ⊥
+pub no-copy : Demand3 (λ τ s. []) → ⊥
 no-copy = fixed-copy []
 
 -- the list itself: nothing renumbered
-pub list-itself : Demand3 (λ s. s) → ⊥
+pub list-itself : Demand3 (λ τ s. s) → ⊥
 unfolding leBytes hexOnto
 list-itself demand =
-    let means = same-meant reads-2 reads-sevens .0 same-sevens in
-    let e : case2 ≡ sevens = demand .same case2 bytes-2 rows2 reads-2 small-2 sevens bytes-sevens rows27 reads-sevens small-sevens .0 means in
+    let τ : Terms = strict in
+    let means = same-meant τ τ (reads-2 τ) (reads-sevens τ) .0 same-sevens in
+    let e : case2 ≡ sevens = demand .same τ case2 bytes-2 rows2 (reads-2 τ) (small-2 τ) τ sevens bytes-sevens rows27 (reads-sevens τ) (small-sevens τ) .0 means in
     let z : _≡_ {A = ℕ} 1 7 = ap (λ (l : List ℕ). getD l 1 0) e in
     omega arith
 
+-- a padded prefix kept: the copy of 6 is 6, which has no reading in strict
+pub padding-kept : (job : Copier) → job lenient case6 ≡ case6 → Demand3 job → ⊥
+padding-kept job keeps demand =
+    let x = demand .taken lenient case6 bytes-6 (rowsOf 3 (prefixedRows 28)) reads-6 small-6 in
+    none-6 (x .copies) (subst (λ (c : List ℕ). Reading strict c (x .copies)) keeps (x .reads strict))
+
+-- the padding told apart: 2 and 6 mean the same, so no copy of 6 differs from that of 2, whatever the settings
+pub padding-told : (job : Copier) → (τ : Terms) → (job τ case2 ≡ job lenient case6 → ⊥) → Demand3 job → ⊥
+padding-told job τ differ demand =
+    let e = same-meant τ lenient (reads-2 τ) reads-6 .0 same-6 in
+    differ (demand .same τ case2 bytes-2 rows2 (reads-2 τ) (small-2 τ) lenient case6 bytes-6 (rowsOf 3 (prefixedRows 28)) reads-6 small-6 .0 e)
+
 -- no list begins with the byte 255
-no-255 : (k n : ℕ) (rows : List Row) → Reading (take k (replicate n 255)) rows → ⊥
+no-255 : (τ : Terms) (k n : ℕ) (rows : List Row) → Reading τ (take k (replicate n 255)) rows → ⊥
 unfolding enc
-no-255 zero n rows w = none-empty rows w
-no-255 (suc k) zero rows w = none-empty rows w
-no-255 (suc k) (suc n) rows w = let z : _≡_ {A = ℕ} 255 0 = ap (λ (l : List ℕ). getD l 0 0) (w .bytes-are) in omega arith
+no-255 τ zero n rows w = none-empty τ rows w
+no-255 τ (suc k) zero rows w = none-empty τ rows w
+no-255 τ (suc k) (suc n) rows w = let z : _≡_ {A = ℕ} 255 0 = ap (λ (l : List ℕ). getD l 0 0) (w .bytes-are) in omega arith
 
 -- what is left of an output of these bytes has no reading, whatever was answered
-none-left : (q : TidyAnswer) (n : ℕ) (rows : List Row) → Reading (writtenIn q (replicate n 255)) rows → ⊥
-none-left (Q.Written k) n rows w = no-255 k n rows w
-none-left (Q.Refused r place) n rows w = none-empty rows w
-none-left (Q.OutFull k) n rows w = none-empty rows w
+none-left : (τ : Terms) (q : TidyAnswer) (n : ℕ) (rows : List Row) → Reading τ (writtenIn q (replicate n 255)) rows → ⊥
+none-left τ (Q.Written k) n rows w = no-255 τ k n rows w
+none-left τ (Q.Refused r place) n rows w = none-empty τ rows w
+none-left τ (Q.OutFull k) n rows w = none-empty τ rows w
 
 -- a table with a row for each byte
 abbrev rowEach : List ℕ → List ℕ
@@ -217,29 +248,29 @@ rowEach s = replicate (8 * length s) 0
 row-each : (s : List ℕ) → length s ≤ roomOf (rowEach s)
 row-each s = let z = length-replicate {A = ℕ} (8 * length s) 0 in omega arith
 
--- a job that leaves the output as it was, whatever it answers
-pub writes-nothing : (job : Tidier) → ((s t d : List ℕ) → job s t d .1 .1 ≡ d) → Demand3Job job → ⊥
-writes-nothing job leaves demand = go 16777216 (omega arith)
+-- a job that leaves the output as it was, whatever it answers, under some terms
+pub writes-nothing : (τ : Terms) (job : Tidier) → ((s t d : List ℕ) → job τ s t d .1 .1 ≡ d) → Demand3Job job → ⊥
+writes-nothing τ job leaves demand = go 16777216 (omega arith)
   where
     go : (n : ℕ) → 16777216 ≤ n → ⊥
     go n h =
         let d : List ℕ = replicate n 255 in
         let l : length d ≡ n = length-replicate {A = ℕ} n 255 in
-        let x = demand rowEach row-each d (omega arith) .taken case2 bytes-2 rows2 reads-2 small-2 in
-        let q = job case2 (rowEach case2) d .0 in
-        none-left q n (x .copies) (subst (λ (e : List ℕ). Reading (writtenIn q e) (x .copies)) (leaves case2 (rowEach case2) d) (x .reads))
+        let x = demand rowEach row-each d (omega arith) .taken τ case2 bytes-2 rows2 (reads-2 τ) (small-2 τ) in
+        let q = job τ case2 (rowEach case2) d .0 in
+        none-left τ q n (x .copies) (subst (λ (e : List ℕ). Reading τ (writtenIn q e) (x .copies)) (leaves case2 (rowEach case2) d) (x .reads τ))
 
 -- in full, with any answer and any table
 abbrev pub nothingWritten : (List ℕ → List ℕ → List ℕ → TidyAnswer) → (List ℕ → List ℕ → List ℕ → List ℕ) → Tidier
-nothingWritten answer table s t d = (answer s t d, (table s t d, d))
+nothingWritten answer table τ s t d = (answer s t d, (table s t d, d))
 
 pub nothing-written : (answer : List ℕ → List ℕ → List ℕ → TidyAnswer) (table : List ℕ → List ℕ → List ℕ → List ℕ)
     → Demand3Job (nothingWritten answer table) → ⊥
-nothing-written answer table = writes-nothing (nothingWritten answer table) (λ s t d. refl)
+nothing-written answer table = writes-nothing strict (nothingWritten answer table) (λ s t d. refl)
 
 -- one copy at the front of every output
 abbrev pub oneWritten : List ℕ → (List ℕ → List ℕ → List ℕ → List ℕ) → Tidier
-oneWritten copy table s t d = (Q.Written (length copy), (table s t d, laid copy d))
+oneWritten copy table τ s t d = (Q.Written (length copy), (table s t d, laid copy d))
 
 pub one-written : (copy : List ℕ) (table : List ℕ → List ℕ → List ℕ → List ℕ) → Demand3Job (oneWritten copy table) → ⊥
 unfolding laid
@@ -249,43 +280,43 @@ one-written copy table demand = go 16777216 (omega arith)
     go n h =
         let d : List ℕ = replicate n 0 in
         let l : length d ≡ n = length-replicate {A = ℕ} n 0 in
-        one-copy _ copy (λ s rows w. take-append-seam copy (drop (length copy) d)) (demand rowEach row-each d (omega arith))
+        one-copy strict _ copy (λ s rows w. take-append-seam copy (drop (length copy) d)) (demand rowEach row-each d (omega arith))
 
 -- ---- tidy jobs that renumber only the first object
 
 -- the objects of the copy after the first have the numbers that they have in the list
-abbrev pub KeepsLater : Copier → Type 0
-KeepsLater job = (s : List ℕ) (rows : List Row) (w : Reading s rows) (copies : List Row) (c : Reading (job s) copies)
-    → drop 1 (idsOf (recordsIn c)) ≡ drop 1 (idsOf (recordsIn w))
+abbrev pub KeepsLater : Terms → Copier → Type 0
+KeepsLater τ job = (s : List ℕ) (rows : List Row) (w : Reading τ s rows) (copies : List Row) (c : Reading τ (job τ s) copies)
+    → drop 1 (idsOf (recordsIn τ c)) ≡ drop 1 (idsOf (recordsIn τ w))
 
 later-ids : (drop 1 (idsOf (map (recFrom (twoStrings 2) (two 2)) (two 2))) ≡ 2 ∷ []) × (drop 1 (idsOf (map (recFrom (twoStrings 3) (two 3)) (two 3))) ≡ 3 ∷ [])
 unfolding rowsOf recFrom
 later-ids = (refl, refl)
 
 -- a job that meets demand 3 has one copy of both
-one-for-two : (job : Copier) → Demand3 job → job (twoStrings 2) ≡ job (twoStrings 3)
-one-for-two job demand =
-    demand .same (twoStrings 2) bytes-two (two 2) reads-two small-two (twoStrings 3) bytes-three (two 3) reads-three small-three .0
-    (same-meant reads-two reads-three .0 same-two)
+one-for-two : (τ : Terms) (job : Copier) → Demand3 job → job τ (twoStrings 2) ≡ job τ (twoStrings 3)
+one-for-two τ job demand =
+    demand .same τ (twoStrings 2) bytes-two (two 2) (reads-two τ) (small-two τ) τ (twoStrings 3) bytes-three (two 3) (reads-three τ) (small-three τ) .0
+    (same-meant τ τ (reads-two τ) (reads-three τ) .0 same-two)
 
-pub first-object-only : (job : Copier) → KeepsLater job → Demand3 job → ⊥
-first-object-only job keeps demand =
-    let x = demand .taken (twoStrings 2) bytes-two (two 2) reads-two small-two in
+pub first-object-only : (τ : Terms) (job : Copier) → KeepsLater τ job → Demand3 job → ⊥
+first-object-only τ job keeps demand =
+    let x = demand .taken τ (twoStrings 2) bytes-two (two 2) (reads-two τ) (small-two τ) in
     let copies = x .copies in
     let later : List Rec → List ℕ = λ l. drop 1 (idsOf l) in
-    let a : drop 1 (idsOf (recordsIn (x .reads))) ≡ 2 ∷ [] =
-    keeps (twoStrings 2) (two 2) reads-two copies (x .reads) ∙ (ap later (records-are reads-two) ∙ later-ids .0) in
-    let f : (c : Reading (job (twoStrings 3)) copies) → drop 1 (idsOf (recordsIn c)) ≡ 3 ∷ [] =
-    λ c. keeps (twoStrings 3) (two 3) reads-three copies c ∙ (ap later (records-are reads-three) ∙ later-ids .1) in
-    let g : (c : Reading (job (twoStrings 2)) copies) → drop 1 (idsOf (recordsIn c)) ≡ 3 ∷ [] =
-    subst (λ (l : List ℕ). (c : Reading l copies) → drop 1 (idsOf (recordsIn c)) ≡ 3 ∷ []) (sym (one-for-two job demand)) f in
-    let z : _≡_ {A = ℕ} 2 3 = ap (λ (l : List ℕ). getD l 0 0) (sym a ∙ g (x .reads)) in
+    let a : drop 1 (idsOf (recordsIn τ (x .reads τ))) ≡ 2 ∷ [] =
+    keeps (twoStrings 2) (two 2) (reads-two τ) copies (x .reads τ) ∙ (ap later (records-are τ (reads-two τ)) ∙ later-ids .0) in
+    let f : (c : Reading τ (job τ (twoStrings 3)) copies) → drop 1 (idsOf (recordsIn τ c)) ≡ 3 ∷ [] =
+    λ c. keeps (twoStrings 3) (two 3) (reads-three τ) copies c ∙ (ap later (records-are τ (reads-three τ)) ∙ later-ids .1) in
+    let g : (c : Reading τ (job τ (twoStrings 2)) copies) → drop 1 (idsOf (recordsIn τ c)) ≡ 3 ∷ [] =
+    subst (λ (l : List ℕ). (c : Reading τ l copies) → drop 1 (idsOf (recordsIn τ c)) ≡ 3 ∷ []) (sym (one-for-two τ job demand)) f in
+    let z : _≡_ {A = ℕ} 2 3 = ap (λ (l : List ℕ). getD l 0 0) (sym a ∙ g (x .reads τ)) in
     omega arith
 
 -- a job that copies the list is one of them
-pub itself-keeps : KeepsLater (λ s. s)
-itself-keeps s rows w copies c =
-    let e = records-are c ∙ (ap (λ (l : List Row). map (recFrom s l) l) (reading-unique s copies rows c w) ∙ sym (records-are w)) in
+pub itself-keeps : (τ : Terms) → KeepsLater τ (λ υ s. s)
+itself-keeps τ s rows w copies c =
+    let e = records-are τ c ∙ (ap (λ (l : List Row). map (recFrom s l) l) (reading-unique τ s copies rows c w) ∙ sym (records-are τ w)) in
     ap (λ (l : List Rec). drop 1 (idsOf l)) e
 
 -- two programs of that kind in full. Every number of an object by this function: ObjectIds, IdRefs, MetadataIds and the root, which HeaderId repeats
@@ -317,7 +348,7 @@ firstFrom s (accepted rows) = firstBy (map (recFrom s rows) rows)
 firstFrom s (refused r place) = []
 
 unfoldable pub firstOnly : Copier
-firstOnly s = firstFrom s (readOf s (length s))
+firstOnly τ s = firstFrom s (readOf τ s (length s))
 
 -- the copy of 01, with packed nulls, shared classes and needed libraries, but every object after the first has its number in the list
 abbrev pub tidyBy : List ℕ → Model → List ℕ
@@ -328,7 +359,7 @@ tidyFrom s (accepted rows) = tidyBy (idsOf (map (recFrom s rows) rows)) (says s 
 tidyFrom s (refused r place) = []
 
 unfoldable pub tidyFirstOnly : Copier
-tidyFirstOnly s = tidyFrom s (readOf s (length s))
+tidyFirstOnly τ s = tidyFrom s (readOf τ s (length s))
 
 unchanged : ((firstBy (map (recFrom (twoStrings 2) (two 2)) (two 2)) ≡ twoStrings 2) × (firstBy (map (recFrom (twoStrings 3) (two 3)) (two 3)) ≡ twoStrings 3))
     × ((tidyBy (idsOf (map (recFrom (twoStrings 2) (two 2)) (two 2))) (says (twoStrings 2) (two 2)) ≡ twoStrings 2)
@@ -337,27 +368,27 @@ unfolding rowsOf recFrom tidyRecords squeeze waiting written runOf pack afterWha
 unchanged = ((refl, refl), (refl, refl))
 
 -- a job that leaves the two lists as they are
-pub keeps-both : (job : Copier) → job (twoStrings 2) ≡ twoStrings 2 → job (twoStrings 3) ≡ twoStrings 3 → Demand3 job → ⊥
+pub keeps-both : (τ : Terms) (job : Copier) → job τ (twoStrings 2) ≡ twoStrings 2 → job τ (twoStrings 3) ≡ twoStrings 3 → Demand3 job → ⊥
 unfolding leBytes hexOnto
-keeps-both job a b demand =
-    let z : _≡_ {A = ℕ} 2 3 = ap (λ (l : List ℕ). getD l 28 0) (sym a ∙ (one-for-two job demand ∙ b)) in
+keeps-both τ job a b demand =
+    let z : _≡_ {A = ℕ} 2 3 = ap (λ (l : List ℕ). getD l 28 0) (sym a ∙ (one-for-two τ job demand ∙ b)) in
     omega arith
 
-read-two : readOf (twoStrings 2) (length (twoStrings 2)) ≡ accepted (two 2)
-read-two = accepts reads-two (length (twoStrings 2)) (reading-short (twoStrings 2) (two 2) reads-two)
+read-two : (τ : Terms) → readOf τ (twoStrings 2) (length (twoStrings 2)) ≡ accepted (two 2)
+read-two τ = accepts τ (reads-two τ) (length (twoStrings 2)) (reading-short τ (twoStrings 2) (two 2) (reads-two τ))
 
-read-three : readOf (twoStrings 3) (length (twoStrings 3)) ≡ accepted (two 3)
-read-three = accepts reads-three (length (twoStrings 3)) (reading-short (twoStrings 3) (two 3) reads-three)
+read-three : (τ : Terms) → readOf τ (twoStrings 3) (length (twoStrings 3)) ≡ accepted (two 3)
+read-three τ = accepts τ (reads-three τ) (length (twoStrings 3)) (reading-short τ (twoStrings 3) (two 3) (reads-three τ))
 
 pub first-only : Demand3 firstOnly → ⊥
 unfolding firstOnly
 first-only =
-    keeps-both firstOnly (ap (firstFrom (twoStrings 2)) read-two ∙ unchanged .0 .0) (ap (firstFrom (twoStrings 3)) read-three ∙ unchanged .0 .1)
+    keeps-both strict firstOnly (ap (firstFrom (twoStrings 2)) (read-two strict) ∙ unchanged .0 .0) (ap (firstFrom (twoStrings 3)) (read-three strict) ∙ unchanged .0 .1)
 
 pub tidy-first-only : Demand3 tidyFirstOnly → ⊥
 unfolding tidyFirstOnly
 tidy-first-only =
-    keeps-both tidyFirstOnly (ap (tidyFrom (twoStrings 2)) read-two ∙ unchanged .1 .0) (ap (tidyFrom (twoStrings 3)) read-three ∙ unchanged .1 .1)
+    keeps-both strict tidyFirstOnly (ap (tidyFrom (twoStrings 2)) (read-two strict) ∙ unchanged .1 .0) (ap (tidyFrom (twoStrings 3)) (read-three strict) ∙ unchanged .1 .1)
 
 -- ---- an invented row count
 
@@ -366,40 +397,40 @@ abbrev countBy : ℕ → ℕ → Outcome → ReadAnswer × List ℕ
 countBy k n (accepted rows) = (A.Accepted k, tableWords n (accepted rows))
 countBy k n (refused r place) = (A.Refused r place, tableWords n (refused r place))
 
-unfoldable pub invented : (List ℕ → List ℕ → ℕ) → Filler
-invented count s t = countBy (count s t) (length t) (readOf s (roomOf t))
+unfoldable pub invented : Terms → (List ℕ → List ℕ → ℕ) → Filler
+invented τ count s t = countBy (count s t) (length t) (readOf τ s (roomOf t))
 
 -- a job that shows the reading and keeps the table rule answers the number of rows
-pub count-settled : (job : Filler) → TableRule job → (s t : List ℕ) → Bytes s → (n : ℕ) → job s t .0 ≡ A.Accepted n → (rows : List Row) → Reading s rows
+pub count-settled : (τ : Terms) (job : Filler) → TableRule job → (s t : List ℕ) → Bytes s → (n : ℕ) → job s t .0 ≡ A.Accepted n → (rows : List Row) → Reading τ s rows
     → length rows ≤ roomOf t → job s t .1 ≡ tabled (length t) rows → n ≡ length rows
-count-settled job rule s t byte n e rows w fit q = sym (rule s t byte n e) ∙ (ap shownIn q ∙ shown-rows w t fit)
+count-settled τ job rule s t byte n e rows w fit q = sym (rule s t byte n e) ∙ (ap shownIn q ∙ shown-rows τ w t fit)
 
 -- so an invented count keeps the rule only where it is that number
-pub invented-count : (count : List ℕ → List ℕ → ℕ) → TableRule (invented count) → (s t : List ℕ) → Bytes s → (rows : List Row) → Reading s rows
+pub invented-count : (τ : Terms) (count : List ℕ → List ℕ → ℕ) → TableRule (invented τ count) → (s t : List ℕ) → Bytes s → (rows : List Row) → Reading τ s rows
     → length rows ≤ roomOf t → count s t ≡ length rows
 unfolding invented tableWords
-invented-count count rule s t byte rows w fit =
-    let e : invented count s t ≡ (A.Accepted (count s t), tabled (length t) rows) = ap (countBy (count s t) (length t)) (accepts w (roomOf t) fit) in
-    count-settled (invented count) rule s t byte (count s t) (ap (λ (x : ReadAnswer × List ℕ). x .0) e) rows w fit (ap (λ (x : ReadAnswer × List ℕ). x .1) e)
+invented-count τ count rule s t byte rows w fit =
+    let e : invented τ count s t ≡ (A.Accepted (count s t), tabled (length t) rows) = ap (countBy (count s t) (length t)) (accepts τ w (roomOf t) fit) in
+    count-settled τ (invented τ count) rule s t byte (count s t) (ap (λ (x : ReadAnswer × List ℕ). x .0) e) rows w fit (ap (λ (x : ReadAnswer × List ℕ). x .1) e)
 
 -- one count for all lists
-pub fixed-count : (k : ℕ) → TableRule (invented (λ s t. k)) → ⊥
-fixed-count k rule =
+pub fixed-count : (τ : Terms) (k : ℕ) → TableRule (invented τ (λ s t. k)) → ⊥
+fixed-count τ k rule =
     let t : List ℕ = replicate 32 0 in
-    let a = invented-count (λ s t. k) rule case2 t bytes-2 rows2 reads-2 (omega (arith, counts .0)) in
-    let b = invented-count (λ s t. k) rule run7 t bytes-7 rows7 reads-7 (omega (arith, counts .1)) in
+    let a = invented-count τ (λ s t. k) rule case2 t bytes-2 rows2 (reads-2 τ) (omega (arith, counts .0)) in
+    let b = invented-count τ (λ s t. k) rule run7 t bytes-7 rows7 (reads-7 τ) (omega (arith, counts .1)) in
     let c = counts .0 in
     let d = counts .1 in
     omega arith
 
 -- a count that goes wrong for lists of three rows, as one that is always one too large
-pub wrong-count : (wrong : ℕ → ℕ) → (wrong 3 ≡ 3 → ⊥) → TableRule (invented (λ s t. wrong (shownIn (tableWords (length t) (readOf s (roomOf t)))))) → ⊥
+pub wrong-count : (τ : Terms) (wrong : ℕ → ℕ) → (wrong 3 ≡ 3 → ⊥) → TableRule (invented τ (λ s t. wrong (shownIn (tableWords (length t) (readOf τ s (roomOf t)))))) → ⊥
 unfolding tableWords
-wrong-count wrong differs rule =
+wrong-count τ wrong differs rule =
     let t : List ℕ = replicate 32 0 in
     let c = counts .0 in
     let fit : length rows2 ≤ roomOf t = omega arith in
-    let a = invented-count _ rule case2 t bytes-2 rows2 reads-2 fit in
-    let e : shownIn (tableWords (length t) (readOf case2 (roomOf t))) ≡ 3 =
-    ap (λ (o : Outcome). shownIn (tableWords (length t) o)) (accepts reads-2 (roomOf t) fit) ∙ (shown-rows reads-2 t fit ∙ c) in
+    let a = invented-count τ _ rule case2 t bytes-2 rows2 (reads-2 τ) fit in
+    let e : shownIn (tableWords (length t) (readOf τ case2 (roomOf t))) ≡ 3 =
+    ap (λ (o : Outcome). shownIn (tableWords (length t) o)) (accepts τ (reads-2 τ) (roomOf t) fit) ∙ (shown-rows τ (reads-2 τ) t fit ∙ c) in
     differs (sym (ap wrong e) ∙ (a ∙ c))

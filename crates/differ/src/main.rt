@@ -1,8 +1,11 @@
 // Whether two lists say the same: the two files that the arguments name, of at most 65,535 bytes each. The first word that it writes is `same`, `different`,
-// `refused` or `unusable`. Where the lists differ it names the row of the tidy copies in which they first do, and what that row says in each.
+// `refused` or `unusable`. Where the lists differ it names the row of the tidy copies in which they first do, and what that row says in each. An option
+// after the files lets length prefixes be padded: `--lenient` in both lists, `--lenient-first` and `--lenient-second` in one of them.
 use format::ReadAnswer;
 use format::Refusal;
 use format::Sameness;
+use format::Setting;
+use options::ForTwo;
 use spelling::number;
 use spelling::say;
 ghost use mathlib.Core.Path.{_≡_};
@@ -71,9 +74,9 @@ fn unusable(i: usize, l: Loaded) -> bool
     false
 }
 
-// The row of a copy that holds the byte at a place, by its number and its kind, and what it says.
+// The row of a copy that holds the byte at a place, by its number and its kind, and what it says. A copy is read alike under both settings.
 fn told(copy: &[u8], table: &mut [u32], place: usize) {
-    let a = reader::read(copy, table);
+    let a = reader::read(copy, table, Setting::Strict);
     match a {
         ReadAnswer::Accepted(n) => {
             let i = difference::row_of(table, n, place);
@@ -82,7 +85,7 @@ fn told(copy: &[u8], table: &mut [u32], place: usize) {
             say(b" (");
             telling::kind_name(r.kind);
             say(b"): ");
-            telling::row(copy, table, i);
+            telling::row(copy, table, i, Setting::Strict);
             say(b"\n");
         }
         ReadAnswer::Refused(_, _) => say(b"none\n"),
@@ -101,9 +104,17 @@ fn apart(a: &[u8], b: &[u8], table: &mut [u32]) {
 }
 
 // Tidies both lists again for the lengths of their copies. A copy is never longer than its output, so the tests only say so to the proof.
-fn different(a: &[u8], b: &[u8], table: &mut [u32], first: &mut [u8], second: &mut [u8]) {
-    let m = difference::length_of(tidy::tidy(a, table, first));
-    let n = difference::length_of(tidy::tidy(b, table, second));
+fn different(
+    a: &[u8],
+    b: &[u8],
+    table: &mut [u32],
+    first: &mut [u8],
+    second: &mut [u8],
+    a_setting: Setting,
+    b_setting: Setting,
+) {
+    let m = difference::length_of(tidy::tidy(a, table, first, a_setting));
+    let n = difference::length_of(tidy::tidy(b, table, second, b_setting));
     if m <= first.len() {
         if n <= second.len() {
             apart(&first[..m], &second[..n], table);
@@ -111,12 +122,20 @@ fn different(a: &[u8], b: &[u8], table: &mut [u32], first: &mut [u8], second: &m
     }
 }
 
-// The answer on two lists.
-fn compared(a: &[u8], b: &[u8], table: &mut [u32], first: &mut [u8], second: &mut [u8]) {
-    let q = sameness::say_the_same(a, b, table, first, second);
+// The answer on two lists, each under its own setting.
+fn compared(
+    a: &[u8],
+    b: &[u8],
+    table: &mut [u32],
+    first: &mut [u8],
+    second: &mut [u8],
+    a_setting: Setting,
+    b_setting: Setting,
+) {
+    let q = sameness::say_the_same(a, b, table, first, second, a_setting, b_setting);
     match q {
         Sameness::Same => say(b"same\n"),
-        Sameness::Different => different(a, b, table, first, second),
+        Sameness::Different => different(a, b, table, first, second, a_setting, b_setting),
         Sameness::FirstRefused(r, place) => refused(1, r, place),
         Sameness::SecondRefused(r, place) => refused(2, r, place),
         Sameness::FirstFull(_) => refused(1, Refusal::OutFull, 0),
@@ -139,14 +158,23 @@ fn table_room() -> [u32; 524288]
 }
 
 // Both lists, with room for their copies.
-fn both(a: &[u8], b: &[u8]) {
+fn both(a: &[u8], b: &[u8], a_setting: Setting, b_setting: Setting) {
     let mut table = table_room();
     let mut first = copy_room();
     let mut second = copy_room();
-    compared(a, b, &mut table, &mut first, &mut second);
+    compared(
+        a,
+        b,
+        &mut table,
+        &mut first,
+        &mut second,
+        a_setting,
+        b_setting,
+    );
 }
 
-fn main() {
+// The lists in both files, each under its own setting.
+fn files(a_setting: Setting, b_setting: Setting) {
     let mut a = io::large_buffer();
     let mut b = io::large_buffer();
     let p = load(1, &mut a);
@@ -161,7 +189,16 @@ fn main() {
     let n = q.size;
     if m <= a.len() {
         if n <= b.len() {
-            both(&a[..m], &b[..n]);
+            both(&a[..m], &b[..n], a_setting, b_setting);
         }
+    }
+}
+
+fn main() {
+    match options::two() {
+        ForTwo::Take(first, second) => files(first, second),
+        ForTwo::Wrong => say(
+            b"unusable: no such option; usage: differ FILE FILE [--lenient|--lenient-first|--lenient-second]\n",
+        ),
     }
 }

@@ -6,6 +6,7 @@ use mathlib.Core.List.{List}
 use native.Mathlib.Omega.{arith}
 use lib.ListN.{length, getD}
 use lib.Dec.{ltb, leb}
+use Rattle.format.specs.Terms.{Terms}
 use Rattle.format.specs.declared.Refusal.{Refusal}
 use Rattle.format.specs.declared.Refusal.the-variants as R
 use Rattle.format.specs.declared.PrimitiveCode.{PrimitiveCode}
@@ -56,15 +57,16 @@ module _ (s : List ℕ) where
       let b = lengths-moves k (product * (x .0)) (x .1) n e (a .1) (x .3) in
       (omega arith, omega arith)
 
+module _ (τ : Terms) (s : List ℕ) where
   -- ---- items, of a record that begins at p
 
-  pub with-items-ends : (code : PrimitiveCode) (id n p at : ℕ) → p < at → at ≤ length s → EndsIn p (length s) (withItems s code id n at)
+  pub with-items-ends : (code : PrimitiveCode) (id n p at : ℕ) → p < at → at ≤ length s → EndsIn p (length s) (withItems τ s code id n at)
   with-items-ends code id n p at i h =
-      ends-field p (length s) _ (itemsAt s code n at) (λ e q.
-      let a = items-kept code n .moves s at e h q in
+      ends-field p (length s) _ (itemsAt (τ .setting) s code n at) (λ e q.
+      let a = items-kept (τ .setting) code n .moves s at e h q in
       (omega arith, a .1))
 
-  pub items-ends : (slot : SlotType) (id n infos p at : ℕ) → p < at → at ≤ length s → EndsIn p (length s) (itemsOf s id n infos at slot)
+  pub items-ends : (slot : SlotType) (id n infos p at : ℕ) → p < at → at ≤ length s → EndsIn p (length s) (itemsOf τ s id n infos at slot)
   items-ends (S.Primitive c) id n infos p at i h = with-items-ends c id n p at i h
   items-ends S.Text id n infos p at i h = (i, h)
   items-ends S.Object id n infos p at i h = (i, h)
@@ -88,7 +90,8 @@ module _ (s : List ℕ) (rows : List Row) where
       ends-pick at (length s) (negative n) _ _ (λ u. tt) (λ u. (omega arith, omega arith))))
       (λ t. tt))
 
-  pub primitive-array-ends : (at : ℕ) → EndsIn at (length s) (primitiveArrayAt s rows at)
+module _ (τ : Terms) (s : List ℕ) (rows : List Row) where
+  pub primitive-array-ends : (at : ℕ) → EndsIn at (length s) (primitiveArrayAt τ s rows at)
   unfolding primitiveArrayAt
   primitive-array-ends at =
       ends-number at (length s) _ (u32At s (at + 1)) (λ id p q.
@@ -99,21 +102,21 @@ module _ (s : List ℕ) (rows : List Row) where
       ends-pick at (length s) (negative n) _ _ (λ u. tt) (λ u.
       ends-field at (length s) _ (codeAt s x) (λ y v.
       let c = code-moves s x y v in
-      with-items-ends s (coded (primitiveOf (getD s x 0))) id n at y (omega arith) (omega arith)))))
+      with-items-ends τ s (coded (primitiveOf (getD s x 0))) id n at y (omega arith) (omega arith)))))
       (λ t. tt))
 
   -- ---- kind 7, of a record that begins at p
 
-  pub item-type-ends : (id n p at : ℕ) → p < at → at ≤ length s → EndsIn p (length s) (itemTypeAt s rows id n at)
+  pub item-type-ends : (id n p at : ℕ) → p < at → at ≤ length s → EndsIn p (length s) (itemTypeAt τ s rows id n at)
   unfolding itemTypeAt
   item-type-ends id n p at i h =
       ends-field p (length s) _ (typeByteAt s at) (λ infos q.
       let a = type-moves s at infos q in
-      ends-field p (length s) _ (infoKnown s rows (getD s at 0) infos) (λ e r.
-      let b = info-known-moves s rows (getD s at 0) infos e (a .1) r in
-      items-ends s (typedAt s at infos .slot) id n infos p e (omega arith) (b .1)))
+      ends-field p (length s) _ (infoKnown τ s rows (getD s at 0) infos) (λ e r.
+      let b = info-known-moves τ s rows (getD s at 0) infos e (a .1) r in
+      items-ends τ s (typedAt s at infos .slot) id n infos p e (omega arith) (b .1)))
 
-  pub rank-ends : (id type p at : ℕ) → p < at → EndsIn p (length s) (rankAt s rows id type at)
+  pub rank-ends : (id type p at : ℕ) → p < at → EndsIn p (length s) (rankAt τ s rows id type at)
   unfolding rankAt
   rank-ends id type p at i =
       ends-number p (length s) _ (u32At s at) (λ rank x q.
@@ -124,7 +127,7 @@ module _ (s : List ℕ) (rows : List Row) where
       item-type-ends id n p types (omega arith) (b .1)))
       (λ t. tt))
 
-  pub array-type-ends : (id p at : ℕ) → p < at → EndsIn p (length s) (arrayTypeAt s rows id at)
+  pub array-type-ends : (id p at : ℕ) → p < at → EndsIn p (length s) (arrayTypeAt τ s rows id at)
   array-type-ends id p at i =
       ends-pick p (length s) (ltb at (length s)) _ _ (λ t.
       ends-pick p (length s) (leb (getD s at 0) 2) _ _
@@ -132,7 +135,7 @@ module _ (s : List ℕ) (rows : List Row) where
       (λ u. ends-pick p (length s) (leb (getD s at 0) 5) _ _ (λ v. tt) (λ v. tt)))
       (λ t. tt)
 
-  pub binary-array-ends : (at : ℕ) → EndsIn at (length s) (binaryArrayAt s rows at)
+  pub binary-array-ends : (at : ℕ) → EndsIn at (length s) (binaryArrayAt τ s rows at)
   unfolding binaryArrayAt
   binary-array-ends at =
       ends-number at (length s) _ (u32At s (at + 1)) (λ id p q.

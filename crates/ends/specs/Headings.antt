@@ -7,6 +7,7 @@ use native.Mathlib.Omega.{arith}
 use lib.ListN.{length, getD}
 use lib.Dec.{ltb, eqb}
 use borrow.Author.Tests.{ltb-true}
+use Rattle.format.specs.Terms.{Terms}
 use Rattle.format.specs.declared.Refusal.{Refusal}
 use Rattle.format.specs.declared.Refusal.the-variants as R
 use Rattle.format.specs.declared.SlotType.the-variants as S
@@ -26,7 +27,7 @@ use Rattle.class_info.specs.Moves.{class-ends, class-by-id-ends}
 use Rattle.ends.specs.Arrays.{slot-array-ends, primitive-array-ends, binary-array-ends}
 use Rattle.records.specs.Stages.{namedAt, freeLibrary, onJudged, reference-parts, nulls-parts, string-parts, library-parts}
 
-module _ (s : List ℕ) where
+module _ (τ : Terms) (s : List ℕ) where
   -- a number after the kind byte, and then fields that end after it
   judged-ends : (test : ℕ → Bool) (refusal : Refusal) (good : ℕ → ℕ → Heading) (at : ℕ)
       → ((v p : ℕ) → at < p → p ≤ length s → EndsIn at (length s) (good v p))
@@ -37,11 +38,11 @@ module _ (s : List ℕ) where
       let m = number-moves s (at + 1) v p q in
       ends-pick at (length s) (test v) (good v p) (H.Bad refusal) (λ t. f v p (omega arith) (m .1)) (λ t. tt))
 
-  named-ends : (at id p : ℕ) → at < p → EndsIn at (length s) (namedAt s id p)
+  named-ends : (at id p : ℕ) → at < p → EndsIn at (length s) (namedAt τ s id p)
   unfolding namedAt
   named-ends at id p h =
-      ends-field at (length s) (λ end. plain id end 0) (nameAt s p) (λ e q.
-      let m = name-moves s p e q in
+      ends-field at (length s) (λ end. plain id end 0) (nameAt (τ .setting) s p) (λ e q.
+      let m = name-moves (τ .setting) s p e q in
       (omega arith, m .1))
 
   module _ (at : ℕ) where
@@ -73,42 +74,42 @@ module _ (s : List ℕ) where
         (λ t. let h = ltb-true (at + 1) (length s) t in (omega arith, omega arith))
         (λ t. tt)
 
-    pub typed-ends : EndsIn at (length s) (typedPrimitiveAt s at)
+    pub typed-ends : EndsIn at (length s) (typedPrimitiveAt τ s at)
     unfolding typedPrimitiveAt
     typed-ends =
         let code = coded (primitiveOf (getD s (at + 1) 0)) in
-        ends-field at (length s) (λ p. onField (λ end. plain 0 end 0) (valueAt s code p)) (codeAt s (at + 1)) (λ p q.
-        ends-field at (length s) (λ end. plain 0 end 0) (valueAt s code p) (λ e r.
+        ends-field at (length s) (λ p. onField (λ end. plain 0 end 0) (valueAt (τ .setting) s code p)) (codeAt s (at + 1)) (λ p q.
+        ends-field at (length s) (λ end. plain 0 end 0) (valueAt (τ .setting) s code p) (λ e r.
         let a = code-moves s (at + 1) p q in
-        let b = value-moves s code p e r in
+        let b = value-moves (τ .setting) s code p e r in
         (omega arith, b .1)))
 
     module _ (rows : List Row) where
-      pub string-ends : EndsIn at (length s) (stringRecordAt s rows at)
-      string-ends = rw (string-parts s at rows) (judged-ends (goodId rows) R.BadId (namedAt s) at (λ v p h i. named-ends at v p h))
+      pub string-ends : EndsIn at (length s) (stringRecordAt τ s rows at)
+      string-ends = rw (string-parts τ s at rows) (judged-ends (goodId rows) R.BadId (namedAt τ s) at (λ v p h i. named-ends at v p h))
 
-      pub library-ends : EndsIn at (length s) (libraryAt s rows at)
-      library-ends = rw (library-parts s at rows) (judged-ends (freeLibrary rows) R.BadId (namedAt s) at (λ v p h i. named-ends at v p h))
+      pub library-ends : EndsIn at (length s) (libraryAt τ s rows at)
+      library-ends = rw (library-parts τ s at rows) (judged-ends (freeLibrary rows) R.BadId (namedAt τ s) at (λ v p h i. named-ends at v p h))
 
 -- ---- all kinds
 
-pub heading-ends : (s : List ℕ) (rows : List Row) (k at : ℕ) → at < length s → EndsIn at (length s) (headingAt s rows k at)
+pub heading-ends : (τ : Terms) (s : List ℕ) (rows : List Row) (k at : ℕ) → at < length s → EndsIn at (length s) (headingAt τ s rows k at)
 unfolding headingAt
-heading-ends s rows k at h =
-    or 0 _ _ (header-ends s at)
+heading-ends τ s rows k at h =
+    or 0 _ _ (header-ends τ s at)
     (or 1 _ _ (class-by-id-ends s rows at)
-    (or 4 _ _ (class-ends s rows false at)
-    (or 5 _ _ (class-ends s rows true at)
-    (or 6 _ _ (string-ends s at rows)
-    (or 7 _ _ (binary-array-ends s rows at)
-    (or 8 _ _ (typed-ends s at)
-    (or 9 _ _ (reference-ends s at)
+    (or 4 _ _ (class-ends τ s rows false at)
+    (or 5 _ _ (class-ends τ s rows true at)
+    (or 6 _ _ (string-ends τ s at rows)
+    (or 7 _ _ (binary-array-ends τ s rows at)
+    (or 8 _ _ (typed-ends τ s at)
+    (or 9 _ _ (reference-ends τ s at)
     (or 10 _ _ none
     (or 11 _ _ none
-    (or 12 _ _ (library-ends s at rows)
-    (or 13 _ _ (nulls-ends s at)
-    (or 14 _ _ (long-nulls-ends s at)
-    (or 15 _ _ (primitive-array-ends s rows at)
+    (or 12 _ _ (library-ends τ s at rows)
+    (or 13 _ _ (nulls-ends τ s at)
+    (or 14 _ _ (long-nulls-ends τ s at)
+    (or 15 _ _ (primitive-array-ends τ s rows at)
     (or 16 _ _ (slot-array-ends s rows S.Object at)
     (slot-array-ends s rows S.Text at)))))))))))))))
   where
@@ -118,6 +119,6 @@ heading-ends s rows k at h =
     or : (n : ℕ) (a b : Heading) → EndsIn at (length s) a → EndsIn at (length s) b → EndsIn at (length s) (pick (eqb k n) a b)
     or n a b u v = ends-pick at (length s) (eqb k n) a b (λ t. u) (λ t. v)
 
-pub heading-moves : (s : List ℕ) (rows : List Row) (k at : ℕ) (h : Head) → at < length s → headingAt s rows k at ≡ H.Fields h
+pub heading-moves : (τ : Terms) (s : List ℕ) (rows : List Row) (k at : ℕ) (h : Head) → at < length s → headingAt τ s rows k at ≡ H.Fields h
     → (at < h .end) × (h .end ≤ length s)
-heading-moves s rows k at h i q = rw q at (heading-ends s rows k at i)
+heading-moves τ s rows k at h i q = rw q at (heading-ends τ s rows k at i)

@@ -8,6 +8,7 @@ use native.Mathlib.Omega.{arith}
 use lib.ListN.{length, length-append, getD}
 use lib.Dec.{eqb, leb}
 use borrow.Author.Tests.{eq-eqb, eqb-true}
+use Rattle.format.specs.Terms.{Terms}
 use Rattle.format.specs.declared.Row.{Row}
 use Rattle.format.specs.Bytes.{pick, sameBytes}
 use Rattle.format.specs.Rows.{blank}
@@ -125,7 +126,7 @@ unfoldable speaking : List Row → ℕ
 speaking [] = 0
 speaking (r ∷ rs) = speaks r + speaking rs
 
-module _ (s : List ℕ) (rows : List Row) where
+module _ (τ : Terms) (s : List ℕ) (rows : List Row) where
   row-most : (r : Row) (p : Progress) (y : ℕ) (ns : List Node) → Most (length (afterRow s rows p r .libraries)) y (packed (afterRow s rows p r) ns)
       → Most (length (p .libraries)) (pick (isSilent (r .kind)) y (suc y)) (packed p (nodesOf s rows r ++ ns))
   row-most r p y ns most = go (isSilent (r .kind)) (isNulls (r .kind)) refl refl
@@ -159,18 +160,18 @@ module _ (s : List ℕ) (rows : List Row) where
   -- ---- rows that speak, library rows, and the two that are neither
 
   module _ (ls : Libraries) where
-    row-one : (r : Row) → speaks r + isEntered s ls r ≤ 1
+    row-one : (r : Row) → speaks r + isEntered τ s ls r ≤ 1
     row-one r =
         let n = numberIn (sameBytes (textFrom s (r .offset + 5))) ls in
         either (eqb (r .kind) 12)
         (λ e.
         let k = eqb-true (r .kind) 12 e in
         let a : speaks r ≡ 0 = ap (λ (x : ℕ). pick (isSilent x) 0 1) k in
-        let b : isEntered s ls r ≡ has n = ap (λ (x : Bool). pick x (has n) 0) e in
+        let b : isEntered τ s ls r ≡ has n = ap (λ (x : Bool). pick x (has n) 0) e in
         let c = has-one n in
         omega arith)
         (λ e.
-        let a : isEntered s ls r ≡ 0 = ap (λ (x : Bool). pick x (has n) 0) e in
+        let a : isEntered τ s ls r ≡ 0 = ap (λ (x : Bool). pick x (has n) 0) e in
         let b : speaks r ≤ 1 = picked (λ (x : ℕ). x ≤ 1) (isSilent (r .kind)) (λ q. omega arith) (λ q. omega arith) in
         omega arith)
       where
@@ -179,21 +180,21 @@ module _ (s : List ℕ) (rows : List Row) where
         has-one (suc n) = omega arith
 
     -- the header and the end
-    row-none : (r : Row) (k : ℕ) → r .kind ≡ k → isSilent k ≡ true → eqb k 12 ≡ false → speaks r + isEntered s ls r ≡ 0
+    row-none : (r : Row) (k : ℕ) → r .kind ≡ k → isSilent k ≡ true → eqb k 12 ≡ false → speaks r + isEntered τ s ls r ≡ 0
     row-none r k e a b =
         let n = numberIn (sameBytes (textFrom s (r .offset + 5))) ls in
         let x : speaks r ≡ 0 = ap (λ (y : ℕ). pick (isSilent y) 0 1) e ∙ ap (λ (t : Bool). pick t 0 1) a in
-        let z : isEntered s ls r ≡ 0 = ap (λ (y : ℕ). pick (eqb y 12) (has n) 0) e ∙ ap (λ (t : Bool). pick t (has n) 0) b in
+        let z : isEntered τ s ls r ≡ 0 = ap (λ (y : ℕ). pick (eqb y 12) (has n) 0) e ∙ ap (λ (t : Bool). pick t (has n) 0) b in
         omega arith
 
     rows-end : (r : Row) (rs : List Row) → getD (r ∷ rs) (length rs) blank .kind ≡ 11
-        → suc (speaking (r ∷ rs) + rowsEntered s ls (r ∷ rs)) ≤ suc (length rs)
+        → suc (speaking (r ∷ rs) + rowsEntered τ s ls (r ∷ rs)) ≤ suc (length rs)
     unfolding speaking rowsEntered
     rows-end r [] k = let a = row-none r 11 k refl refl in omega arith
     rows-end r (x ∷ rs) k = let a = row-one r in let b = rows-end x rs k in omega arith
 
     rows-both : (rs : List Row) → 0 < length rs → getD rs 0 blank .kind ≡ 0 → getD rs (length rs - 1) blank .kind ≡ 11
-        → 2 + (speaking rs + rowsEntered s ls rs) ≤ length rs
+        → 2 + (speaking rs + rowsEntered τ s ls rs) ≤ length rs
     unfolding speaking rowsEntered
     rows-both [] h k e = absurd (omega arith)
     rows-both (r ∷ []) h k e = absurd (omega arith)
@@ -204,11 +205,11 @@ module _ (s : List ℕ) (rows : List Row) where
         omega arith
 
 -- the header and the end besides
-pub fewer : (s : List ℕ) (rows : List Row) → Stands s rows → 2 + length (squeezed noWait (packed nothing (says s rows .nodes))) ≤ length rows
+pub fewer : (τ : Terms) (s : List ℕ) (rows : List Row) → Stands τ s rows → 2 + length (squeezed noWait (packed nothing (says s rows .nodes))) ≤ length rows
 unfolding says runOf
-fewer s rows st =
+fewer τ s rows st =
     let ls : Libraries = afterRows s rows nothing rows .libraries in
-    let a : length (squeezed noWait (packed nothing (nodesFrom s rows rows))) + 0 ≤ 0 + (speaking rows + length ls) = rows-most s rows rows nothing noWait in
-    let b : length ls ≤ rowsEntered s ls rows = libraries-few s rows st in
-    let c = rows-both s rows ls rows (st .some) (st .first) (st .last) in
+    let a : length (squeezed noWait (packed nothing (nodesFrom s rows rows))) + 0 ≤ 0 + (speaking rows + length ls) = rows-most τ s rows rows nothing noWait in
+    let b : length ls ≤ rowsEntered τ s ls rows = libraries-few τ s rows st in
+    let c = rows-both τ s rows ls rows (st .some) (st .first) (st .last) in
     omega arith

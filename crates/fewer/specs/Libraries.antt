@@ -8,6 +8,7 @@ use lib.ListN.{length, length-append, getD}
 use lib.Seq.{take-all}
 use lib.Dec.{eqb}
 use borrow.Author.Tests.{eqb-true}
+use Rattle.format.specs.Terms.{Terms}
 use Rattle.format.specs.declared.Row.{Row}
 use Rattle.format.specs.Bytes.{pick, sameBytes}
 use Rattle.format.specs.Rows.{blank, isClass, libraryRow}
@@ -30,7 +31,7 @@ abbrev pub has : ℕ → ℕ
 has zero = 0
 has (suc n) = 1
 
-module _ (s : List ℕ) where
+module _ (τ : Terms) (s : List ℕ) where
   abbrev nameOf : Row → List ℕ
   nameOf r = textFrom s (r .offset + 5)
 
@@ -129,7 +130,7 @@ module _ (s : List ℕ) where
 
     -- ---- the rows of an accepted stream
 
-    module _ (st : Stands s rows) where
+    module _ (st : Stands τ s rows) where
       row-listed : (i : ℕ) → i < length rows → AllListed (rowNeeds s rows i (getD rows i blank))
       unfolding itemNeeds
       row-listed i h =
@@ -142,22 +143,22 @@ module _ (s : List ℕ) where
 
           of-class : isClass (getD rows i blank .kind) ≡ true → AllListed (classNeeds (classFrom s rows (getD rows i blank)))
           of-class k =
-              let c = class-at s rows st i h k in
+              let c = class-at τ s rows st i h k in
               let q : Row = withSlot (getD rows i blank) (c .types) in
-              subst AllListed (class-need s rows (getD rows i blank) c q refl refl refl refl refl)
-              (fields-listed (classFields s q) (class-names s rows (getD rows i blank) c q refl refl refl refl))
+              subst AllListed (class-need τ s rows (getD rows i blank) c q refl refl refl refl refl)
+              (fields-listed (classFields s q) (class-names τ s rows (getD rows i blank) c q refl refl refl refl))
 
           items : (t : Bool) → eqb (getD rows i blank .kind) 7 ≡ t → AllListed (pick t (itemNeeds s rows (getD rows i blank)) [])
           items true e =
-              let a = array-at s rows st i h (eqb-true (getD rows i blank .kind) 7 e) in
-              subst AllListed (array-need s rows (getD rows i blank) a (getD rows i blank) refl)
-              (fields-listed (arrayFields s (getD rows i blank)) (array-names s rows (getD rows i blank) a (getD rows i blank) refl))
+              let a = array-at τ s rows st i h (eqb-true (getD rows i blank .kind) 7 e) in
+              subst AllListed (array-need τ s rows (getD rows i blank) a (getD rows i blank) refl)
+              (fields-listed (arrayFields s (getD rows i blank)) (array-names τ s rows (getD rows i blank) a (getD rows i blank) refl))
           items false e = no-name
 
       once-to : (i : ℕ) → i ≤ length rows → Once (progressTo s rows i .libraries)
       once-to zero h = subst (λ (w : Progress). Once (w .libraries)) (sym (progress-none s rows)) (record { counted = tt; few = omega arith })
       once-to (suc i) h =
-          subst Once (sym (progress-libraries s rows class-refl class-eq st i h))
+          subst Once (sym (progress-libraries τ s rows class-refl class-eq st i h))
           (once-all (rowNeeds s rows i (getD rows i blank)) (progressTo s rows i .libraries) (row-listed i h) (once-to i (omega arith)))
 
       -- no more names are entered than there are library rows whose name is entered

@@ -14,6 +14,7 @@ use Rattle.format.specs.declared.SlotType.the-variants as S
 use Rattle.format.specs.declared.Row.{Row}
 use Rattle.format.specs.Bytes.{pick}
 use Rattle.format.specs.Numbers.{leBytes}
+use Rattle.format.specs.Terms.{Terms, strict}
 use Rattle.format.specs.Prefix.{prefixBytes, groupsOf, groupsIn, prefixOf}
 use Rattle.format.specs.Rows.{withLink, rowsOf}
 use Rattle.format.specs.Unicode.{Scalar, encode, Encodes}
@@ -46,7 +47,7 @@ own-scalars (c ∷ t) e = go (ltb c 0x80) refl e (own-scalars t)
     go false q e again = absurd (let z : _≡_ {A = ℕ} 0 1 = cc in omega arith)
 
 -- a short name in the shortest prefix
-name-of : (t : List ℕ) → ascii t ≡ true → length t < 128 → Name (shortest t)
+name-of : (t : List ℕ) → ascii t ≡ true → length t < 128 → Name strict (shortest t)
 unfolding groupsOf
 name-of t a b =
     let w : length (prefixBytes (length t)) ≡ 1 = rw (lt-ltb (length t) 128 b) in
@@ -83,7 +84,7 @@ other : {rs : List Rec} {it : Row} → eqb (it .kind) 0 ≡ false → eqb (it .k
 other a b = stays (λ e. eqb-false _ 0 a e) (λ e. eqb-false _ 9 b e)
 
 -- a library stands in a slot, and a reference names what the list has
-pub allowed-in-slot : Reading (encs (inSlot 4294967295 4 6 2 9 text 2)) (rowsOf 7 inSlotRows)
+pub allowed-in-slot : Reading strict (encs (inSlot 4294967295 4 6 2 9 text 2)) (rowsOf 7 inSlotRows)
 unfolding rowsOf encs enc leBytes groupsOf groupsIn prefixOf hexOnto
 allowed-in-slot =
     record {
@@ -119,7 +120,7 @@ to-later : (i : ℕ) → among i (3 ∷ []) ≡ true → among i (1 ∷ 2 ∷ 3 
 to-later i e = rw (only i 3 e)
 
 -- a reference may point forwards, and an object may be of a class whose first object is still open
-pub allowed-forwards : Reading (encs forwards) (rowsOf 6 forwardsRows)
+pub allowed-forwards : Reading strict (encs forwards) (rowsOf 6 forwardsRows)
 unfolding rowsOf encs enc leBytes groupsOf groupsIn prefixOf hexOnto
 allowed-forwards =
     record {
@@ -152,40 +153,40 @@ allowed-forwards =
 -- ---- not allowed
 
 -- a null run stands in the slots of its object, whatever they are
-pub run-within : {room own slot at row k : ℕ} {t : SlotType} {ts : List SlotType} {es : List Entry} {rs : List Rec} {is : List Row} {c : Cur}
-    → Slots room own slot (t ∷ ts) (cur at row es (nulls k ∷ rs) is) c → k ≤ length (t ∷ ts)
+pub run-within : {τ : Terms} {room own slot at row k : ℕ} {t : SlotType} {ts : List SlotType} {es : List Entry} {rs : List Rec} {is : List Row} {c : Cur}
+    → Slots τ room own slot (t ∷ ts) (cur at row es (nulls k ∷ rs) is) c → k ≤ length (t ∷ ts)
 run-within (a-run t k l p u r d) = l
 
 -- an array of n slots has n
-slots-of : {es : List Entry} {i n kind j m : ℕ} {ts : List SlotType} → Array es (objectArray i n) kind j m ts → length ts ≡ n
+slots-of : {τ : Terms} {es : List Entry} {i n kind j m : ℕ} {ts : List SlotType} → Array τ es (objectArray i n) kind j m ts → length ts ≡ n
 slots-of (of-objects {n = n} l) = length-replicate n S.Object
 
-run-of-body : {room own at row k : ℕ} {ts : List SlotType} {es : List Entry} {rs : List Rec} {is : List Row} {c : Cur}
-    → Body room own ts (cur at row es (nulls k ∷ rs) is) c → 0 < length ts → k ≤ length ts
+run-of-body : {τ : Terms} {room own at row k : ℕ} {ts : List SlotType} {es : List Entry} {rs : List Rec} {is : List Row} {c : Cur}
+    → Body τ room own ts (cur at row es (nulls k ∷ rs) is) c → 0 < length ts → k ≤ length ts
 run-of-body hollow l = absurd (omega (arith, l))
 run-of-body (filled d) l = run-within d
 
 -- a run of four in an array of three
-pub no-run-past-the-end : {is : List Row} → Objects (cur 17 1 [] (objectArray 1 3 ∷ nulls 4 ∷ end ∷ []) is) → ⊥
+pub no-run-past-the-end : {τ : Terms} {is : List Row} → Objects τ (cur 17 1 [] (objectArray 1 3 ∷ nulls 4 ∷ end ∷ []) is) → ⊥
 no-run-past-the-end (one-array i a q b o) =
     let n = slots-of a in
     let l = run-of-body b (omega (arith, n)) in
     omega (arith, n, l)
 
 -- a run stands over no primitive member
-pub run-over-none : {room own slot at row k : ℕ} {t : SlotType} {ts : List SlotType} {es : List Entry} {rs : List Rec} {is : List Row} {c : Cur}
-    → Slots room own slot (t ∷ ts) (cur at row es (nulls k ∷ rs) is) c → allTake (take k (t ∷ ts)) ≡ true
+pub run-over-none : {τ : Terms} {room own slot at row k : ℕ} {t : SlotType} {ts : List SlotType} {es : List Entry} {rs : List Rec} {is : List Row} {c : Cur}
+    → Slots τ room own slot (t ∷ ts) (cur at row es (nulls k ∷ rs) is) c → allTake (take k (t ∷ ts)) ≡ true
 run-over-none (a-run t k l p u r d) = p
 
 -- likewise of a run with its count in four bytes
-pub long-run-within : {room own slot at row k : ℕ} {t : SlotType} {ts : List SlotType} {es : List Entry} {rs : List Rec} {is : List Row} {c : Cur}
-    → Slots room own slot (t ∷ ts) (cur at row es (manyNulls k ∷ rs) is) c → (k ≤ length (t ∷ ts)) × (allTake (take k (t ∷ ts)) ≡ true)
+pub long-run-within : {τ : Terms} {room own slot at row k : ℕ} {t : SlotType} {ts : List SlotType} {es : List Entry} {rs : List Rec} {is : List Row} {c : Cur}
+    → Slots τ room own slot (t ∷ ts) (cur at row es (manyNulls k ∷ rs) is) c → (k ≤ length (t ∷ ts)) × (allTake (take k (t ∷ ts)) ≡ true)
 long-run-within (a-long-run t k l p u r d) = (l, p)
 
 -- a class that no earlier record has
-pub no-later-class : {rs : List Rec} {is : List Row} → Objects (cur 17 1 [] (classById 1 2 ∷ rs) is) → ⊥
+pub no-later-class : {τ : Terms} {rs : List Rec} {is : List Row} → Objects τ (cur 17 1 [] (classById 1 2 ∷ rs) is) → ⊥
 no-later-class (one-object (class-by-id i k e q d) o) = let z : _≡_ {A = ℕ} 0 1 = cc in omega arith
 
 -- one LibraryId for two libraries
-pub no-library-twice : {m n : Prefixed} {rs : List Rec} {is : List Row} → Objects (cur 17 1 [] (library 1 m ∷ library 1 n ∷ rs) is) → ⊥
+pub no-library-twice : {τ : Terms} {m n : Prefixed} {rs : List Rec} {is : List Row} → Objects τ (cur 17 1 [] (library 1 m ∷ library 1 n ∷ rs) is) → ⊥
 no-library-twice (one-library i k n q (one-library j l m r d)) = let z : _≡_ {A = ℕ} 0 1 = cc in omega arith

@@ -1,6 +1,6 @@
 -- The starred counter examples, 1 to 12, as entries of one table, proved by one fact. In 2 the tidy copy is the list itself, also with HeaderId -1
--- and with 7 for both object ids; in 12 it is two bytes longer than the list.
-use Prim.Native.Nat.{ℕ}
+-- and with 7 for both object ids; in 12 it is two bytes longer than the list. 6, whose prefix is padded, is a list in lenient, and its copy is that of 2.
+use Prim.Native.Nat.{ℕ, suc}
 use mathlib.Core.List.{List, [], _∷_, _++_}
 use Rattle.format.specs.Bytes.{sameBytes, laid}
 use Rattle.format.specs.Numbers.{le, u32At, u64At, leBytes}
@@ -15,7 +15,7 @@ use Rattle.format.specs.View.{recordText, rowText, rowQuestion, textView
 use Rattle.format.specs.Contents.{enc, encs}
 use Rattle.format.specs.Says.{numbersFrom, afterTexts, libraryName, detailFrom, membersFrom, classFrom, itemsFrom, codeIn, valueCode, arrayFrom, objectsIn, orderOf, whatFrom, spread, nodesOf, nodesFrom, says}
 use Rattle.format.specs.Tidy.{sameDetail, sameMembers, sameClass, numberIn, entered, allEntered, libraryRecords, recordsOf, afterWhat, pack, runOf, written, waiting, squeeze, tidyRecords, tidyOf, tidyAnswer, tidyOutput, tidyTable}
-use Rattle.format.specs.Examples.{Example, entry, hex, hexOnto, accepts, refuses, writes, as-read, textsFrom, holds, failing, None}
+use Rattle.format.specs.Examples.{Example, entry, leniently, hex, hexOnto, accepts, refuses, writes, as-read, textsFrom, holds, failing, None}
 
 -- the header with these ids
 abbrev pub headerOf : (root headerId : ℕ) → List ℕ
@@ -30,6 +30,18 @@ stringOf id = 6 ∷ (leBytes 4 id ++ hex 5 0x0431324535)
 
 abbrev pub Str : List ℕ
 Str = stringOf 1
+
+-- 2 with this prefix, of n bytes, before the text
+abbrev pub prefixed : (n prefix : ℕ) → List ℕ
+prefixed n x = H ++ (6 ∷ (leBytes 4 1 ++ (hex n x ++ hex 5 0x313245350B)))
+
+-- the empty text behind this prefix, of n bytes
+abbrev pub emptyIn : (n prefix : ℕ) → List ℕ
+emptyIn n x = H ++ (6 ∷ (leBytes 4 1 ++ (hex n x ++ (11 ∷ []))))
+
+-- 2 with its length in two bytes
+abbrev pub case6 : List ℕ
+case6 = prefixed 2 0x8400
 
 -- an object array of n slots
 abbrev pub A : ℕ → List ℕ
@@ -52,6 +64,13 @@ stringRows id =
     0 ∷ 0 ∷ 17 ∷ id ∷ 0 ∷ 0 ∷ 2 ∷ 0
     ∷ 6 ∷ 17 ∷ 27 ∷ id ∷ 0 ∷ 0 ∷ 0 ∷ 0
     ∷ 11 ∷ 27 ∷ 28 ∷ 0 ∷ 0 ∷ 0 ∷ 0 ∷ 0 ∷ []
+
+-- and where the string ends here
+abbrev pub prefixedRows : (end : ℕ) → List ℕ
+prefixedRows end =
+    0 ∷ 0 ∷ 17 ∷ 1 ∷ 0 ∷ 0 ∷ 2 ∷ 0
+    ∷ 6 ∷ 17 ∷ end ∷ 1 ∷ 0 ∷ 0 ∷ 0 ∷ 0
+    ∷ 11 ∷ end ∷ suc end ∷ 0 ∷ 0 ∷ 0 ∷ 0 ∷ 0 ∷ []
 
 abbrev pub case7 : List ℕ
 case7 =
@@ -81,13 +100,24 @@ table =
     ∷ entry (H ++ Str) 64 64 (refuses 2 27) as-read
     ∷ entry (case2 ++ (0 ∷ [])) 64 64 (refuses 17 28) as-read
     ∷ entry (headerOf 2 1 ++ (Str ++ (11 ∷ []))) 64 64 (refuses 18 0) as-read
-    ∷ entry (H ++ (6 ∷ (leBytes 4 1 ++ (0x84 ∷ 0x00 ∷ hex 5 0x313245350B)))) 64 64 (refuses 7 17) as-read
+    ∷ entry case6 64 64 (refuses 7 17) as-read
     ∷ entry (runList 3 (11 ∷ [])) 64 64 (accepts case7 []) (writes (runList 3 (11 ∷ [])))
     ∷ entry (runList 4 []) 64 64 (refuses 9 26) as-read
     ∷ entry (runList 0 (11 ∷ [])) 64 64 (refuses 5 28) as-read
     ∷ entry (H ++ (A 1 ++ (9 ∷ (leBytes 4 5 ++ (11 ∷ []))))) 64 64 (refuses 19 26) as-read
     ∷ entry (H ++ (A 1 ++ (8 ∷ 5 ∷ hex 5 0x0431324535))) 64 64 (refuses 11 26) as-read
     ∷ entry (H ++ (A 256 ++ (13 ∷ 255 ∷ 10 ∷ 11 ∷ []))) 64 64 (accepts case12 []) (writes (H ++ (A 256 ++ (14 ∷ (leBytes 4 256 ++ (11 ∷ []))))))
+    -- 2 and 6 in lenient; its length in five bytes, of which the fifth is 0, 7 (the text passes the end) or 8; a sixth byte; a prefix that the list ends in
+    ∷ leniently case2 64 64 (accepts (stringRows 1) text) (writes case2)
+    ∷ leniently case6 64 64 (accepts (prefixedRows 28) text) (writes case2)
+    ∷ leniently (prefixed 5 0x8480808000) 64 64 (accepts (prefixedRows 31) text) (writes case2)
+    ∷ leniently (prefixed 5 0x8480808007) 64 64 (refuses 2 17) as-read
+    ∷ leniently (prefixed 5 0x8480808008) 64 64 (refuses 7 17) as-read
+    ∷ leniently (prefixed 6 0x848080808000) 64 64 (refuses 7 17) as-read
+    ∷ leniently (H ++ (6 ∷ (leBytes 4 1 ++ hex 2 0x8480))) 64 64 (refuses 2 17) as-read
+    -- a whole prefix that the list ends after; and the empty text, its length in five bytes: the row has text
+    ∷ leniently (H ++ (6 ∷ (leBytes 4 1 ++ hex 2 0x8400))) 64 64 (refuses 2 17) as-read
+    ∷ leniently (emptyIn 5 0x8080808000) 64 64 (accepts (prefixedRows 27) (1 ∷ 0 ∷ [])) (writes (emptyIn 1 0))
     ∷ []
 
 pub counter-examples : None (failing 0 table)

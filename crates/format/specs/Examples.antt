@@ -1,11 +1,13 @@
--- Tables of worked examples: a stream, the sizes of the lent table and output, and what must come of reading and tidying. That no entry fails is
+-- Tables of worked examples: the terms, a stream, the sizes of the lent table and output, and what must come of reading and tidying. That no entry fails is
 -- one computed fact; where one fails, the refusal of that fact names it.
 use Prim.Native.Nat.{ℕ, zero, suc, _-_, _/_, _%_}
 use mathlib.Core.Bool.{Bool, true, false, _&&_}
 use mathlib.Core.List.{List, [], _∷_, _++_}
 use lib.ListN.{length, replicate}
 use lib.Dec.{eqb}
+use Rattle.format.specs.declared.Setting.{Setting}
 use Rattle.format.specs.Bytes.{pick, sameBytes, laid}
+use Rattle.format.specs.Terms.{Terms, strict, lenient}
 use Rattle.format.specs.Replies.{Reply, reply, readReply, rowReply, tidyReply}
 use Rattle.format.specs.Machine.{Outcome, readOf, readAnswer, tableWords}
 use Rattle.format.specs.View.{rowQuestion, textView}
@@ -32,14 +34,22 @@ pub data ToTidy : Type 0 where
   needs : (length : ℕ) → ToTidy
 
 pub record Example : Type 0 where
+  pub terms : Terms
   pub stream : List ℕ
   pub words : ℕ
   pub out : ℕ
   pub read : ToRead
   pub tidy : ToTidy
 
+abbrev pub entryBy : Terms → List ℕ → ℕ → ℕ → ToRead → ToTidy → Example
+entryBy τ s n o r t = record { terms = τ; stream = s; words = n; out = o; read = r; tidy = t }
+
+-- strict, and lenient
 abbrev pub entry : List ℕ → ℕ → ℕ → ToRead → ToTidy → Example
-entry s n o r t = record { stream = s; words = n; out = o; read = r; tidy = t }
+entry = entryBy strict
+
+abbrev pub leniently : List ℕ → ℕ → ℕ → ToRead → ToTidy → Example
+leniently = entryBy lenient
 
 -- what is shown of a row: nothing where the question answers 21 and the text is empty
 abbrev pub shownText : ℕ → ℕ → List ℕ → List ℕ
@@ -60,10 +70,10 @@ wordsOf n (accepts ws texts) = ws ++ replicate (n - length ws) 0
 wordsOf n (refuses k p) = replicate n 0
 
 -- the texts of n rows from row i on, by the row question and the text view
-unfoldable pub textsFrom : List ℕ → List ℕ → ℕ → ℕ → List ℕ
-textsFrom s table zero i = []
-textsFrom s table (suc n) i =
-    shownText (rowReply (rowQuestion s table i) .number) i (textView s table i) ++ textsFrom s table n (suc i)
+unfoldable pub textsFrom : Setting → List ℕ → List ℕ → ℕ → ℕ → List ℕ
+textsFrom σ s table zero i = []
+textsFrom σ s table (suc n) i =
+    shownText (rowReply (rowQuestion σ s table i) .number) i (textView σ s table i) ++ textsFrom σ s table n (suc i)
 
 abbrev pub textsOf : ToRead → List ℕ
 textsOf (accepts ws texts) = texts
@@ -75,7 +85,7 @@ asked (accepts ws texts) = suc (length ws / 8)
 asked (refuses n p) = 1
 
 abbrev pub textsHold : Example → List ℕ → Bool
-textsHold e table = sameBytes (textsFrom (e .stream) table (asked (e .read)) 0) (textsOf (e .read))
+textsHold e table = sameBytes (textsFrom (e .terms .setting) (e .stream) table (asked (e .read)) 0) (textsOf (e .read))
 
 abbrev pub readHolds : Example → Outcome → Bool
 readHolds e o = textsHold e (tableWords (e .words) o) && (sameReply (readReply (readAnswer o)) (readReplyOf (e .read)) && sameBytes (tableWords (e .words) o) (wordsOf (e .words) (e .read)))
@@ -113,7 +123,7 @@ abbrev pub bothHold : Example → Outcome → Bool
 bothHold e o = readHolds e o && tidyHolds e o (e .tidy)
 
 unfoldable pub holds : Example → Bool
-holds e = bothHold e (readOf (e .stream) (e .words / 8))
+holds e = bothHold e (readOf (e .terms) (e .stream) (e .words / 8))
 
 -- the numbers, from k on, of the entries that fail
 unfoldable pub failing : ℕ → List Example → List ℕ

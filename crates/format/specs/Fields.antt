@@ -12,6 +12,7 @@ use Rattle.format.specs.declared.Number32.{Number32}
 use Rattle.format.specs.declared.Number32.the-variants as N32
 use Rattle.format.specs.declared.Number64.{Number64}
 use Rattle.format.specs.declared.Number64.the-variants as N64
+use Rattle.format.specs.declared.Setting.{Setting}
 use Rattle.format.specs.declared.Setting.the-variants as Q
 use Rattle.format.specs.declared.Prefix.{Prefix}
 use Rattle.format.specs.declared.Prefix.the-variants as P
@@ -21,13 +22,13 @@ use Rattle.format.specs.declared.Span.{Span}
 use Rattle.format.specs.declared.Field.{Field}
 use Rattle.format.specs.declared.Field.the-variants as F
 use Rattle.format.specs.Bytes.{pick, sameBytes}
-use Rattle.format.specs.Replies.{numberOf}
+use Rattle.format.specs.Replies.{numberOf, rowReply}
 use Rattle.format.specs.Numbers.{le, u16At, u32At, u64At, leBytes}
 use Rattle.format.specs.Prefix.{prefixIn, prefixAt, groupsOf, groupsIn, prefixOf, prefixBytes}
 use Rattle.format.specs.Text.{needOf, loOf, hiOf, leadOf, stepOf, after, wellFormed, textAt, stringAt, spanAt}
 use Rattle.format.specs.Values.{bytesAt, booleanAt, scalarAt, charAt, wholeDigit, fractionDigit, digit, decimalByte, decimalAfter, decimal, decimalText, decimalAt, dateTimeAt, valueAt, times, itemsAt}
 use Rattle.format.specs.Types.{codeNumber, primitiveOf, codeAt, coded, typeByteAt, nameAt, libraryIdAt, infoAt, slotOf}
-use Rattle.format.specs.View.{recordText, rowText, textView}
+use Rattle.format.specs.View.{recordText, rowText, rowQuestion, textView}
 use Rattle.format.specs.Examples.{hex, hexOnto, None}
 
 -- ---- what is shown: the number and the place after it, or 0 where bytes are missing
@@ -117,25 +118,28 @@ lenient n x = shownPrefix (prefixAt Q.Lenient (hex n x) 0)
 
 -- a string whose text is these n bytes: taken whole, or refused
 abbrev string : ℕ → ℕ → List ℕ
-string n x = shownText (stringAt (n ∷ hex n x) 0)
+string n x = shownText (stringAt Q.Strict (n ∷ hex n x) 0)
 
 abbrev taken : ℕ → List ℕ
 taken n = 1 ∷ suc n ∷ []
 
 -- a value of this code in n bytes
 abbrev value : ℕ → ℕ → ℕ → List ℕ
-value code n x = shownField (valueAt (hex n x) (coded (primitiveOf code)) 0)
+value code n x = shownField (valueAt Q.Strict (hex n x) (coded (primitiveOf code)) 0)
 
--- a Decimal of n bytes of text
+-- a Decimal of n bytes of text; and one in n bytes, its prefix among them
 abbrev decimalOf : ℕ → ℕ → List ℕ
-decimalOf n x = shownField (valueAt (n ∷ hex n x) (coded (primitiveOf 5)) 0)
+decimalOf n x = shownField (valueAt Q.Strict (n ∷ hex n x) (coded (primitiveOf 5)) 0)
+
+abbrev decimalBy : Setting → ℕ → ℕ → List ℕ
+decimalBy σ n x = shownField (valueAt σ (hex n x) (coded (primitiveOf 5)) 0)
 
 -- where a value and where three items of this code end, in 24 bytes that are all 1
 abbrev valueEnd : ℕ → List ℕ
-valueEnd code = shownField (valueAt (replicate 24 1) (coded (primitiveOf code)) 0)
+valueEnd code = shownField (valueAt Q.Strict (replicate 24 1) (coded (primitiveOf code)) 0)
 
 abbrev itemsEnd : ℕ → List ℕ
-itemsEnd code = shownField (itemsAt (replicate 24 1) (coded (primitiveOf code)) 3 0)
+itemsEnd code = shownField (itemsAt Q.Strict (replicate 24 1) (coded (primitiveOf code)) 3 0)
 
 -- of each, one after the other
 unfoldable each : (ℕ → List ℕ) → List ℕ → List ℕ
@@ -151,14 +155,27 @@ types = 0 ∷ 1 ∷ 2 ∷ 3 ∷ 4 ∷ 5 ∷ 6 ∷ 7 ∷ []
 
 -- a detail of this type: the code 1, or the name A, or the name A and the LibraryId 1
 abbrev detail : ℕ → List ℕ
-detail type = shownField (infoAt (hex 6 0x014101000000) type 0)
+detail type = shownField (infoAt Q.Strict (hex 6 0x014101000000) type 0)
 
 -- the string A with the id 1, of seven bytes; and its text, by a row with these words
 abbrev record7 : List ℕ
 record7 = hex 7 0x06010000000141
 
 abbrev textBy : (kind offset end row : ℕ) → List ℕ
-textBy k o e row = textView record7 (k ∷ o ∷ e ∷ 1 ∷ 0 ∷ 0 ∷ 0 ∷ 0 ∷ []) row
+textBy k o e row = textView Q.Strict record7 (k ∷ o ∷ e ∷ 1 ∷ 0 ∷ 0 ∷ 0 ∷ 0 ∷ []) row
+
+-- the same string with its length in two bytes, and the row that shows it: its text, and whether it has one
+abbrev record8 : List ℕ
+record8 = hex 8 0x0601000000810041
+
+abbrev row8 : List ℕ
+row8 = 6 ∷ 0 ∷ 8 ∷ 1 ∷ 0 ∷ 0 ∷ 0 ∷ 0 ∷ []
+
+abbrev padded : Setting → List ℕ
+padded σ = textView σ record8 row8 0
+
+abbrev paddedAsked : Setting → List ℕ
+paddedAsked σ = rowReply (rowQuestion σ record8 row8 0) .number ∷ []
 
 -- ---- the table
 
@@ -184,7 +201,7 @@ fields =
     ∷ gives (prefix 5 0x8080808000) badLength
     ∷ gives (prefix 5 0x8080808080) badLength
     ∷ gives (prefix 4 0x80808080) cutShort
-    -- lenient: any form of at most five bytes, up to 31 bits; a sixth byte is never read
+    -- lenient: any form of at most five bytes, the fifth at most 7; a sixth byte is never read
     ∷ gives (lenient 2 0x8000) (0 ∷ 2 ∷ [])
     ∷ gives (lenient 2 0x8400) (4 ∷ 2 ∷ [])
     ∷ gives (lenient 5 0x8480808000) (4 ∷ 5 ∷ [])
@@ -192,7 +209,10 @@ fields =
     ∷ gives (lenient 5 0x8480808008) badLength
     ∷ gives (lenient 5 0x8480808080) badLength
     ∷ gives (lenient 6 0x848080808000) badLength
+    ∷ gives (lenient 5 0x8080808000) (0 ∷ 5 ∷ [])
     ∷ gives (lenient 4 0x84808080) cutShort
+    ∷ gives (lenient 3 0x848080) cutShort
+    ∷ gives (lenient 2 0x8480) cutShort
     ∷ gives (lenient 1 0x80) cutShort
     ∷ gives (prefixBytes 127) (0x7F ∷ [])
     ∷ gives (prefixBytes 128) (0x80 ∷ 1 ∷ [])
@@ -222,7 +242,7 @@ fields =
     ∷ gives (string 4 0xF4908080) badText
     ∷ gives (string 4 0xF5808080) badText
     ∷ gives (string 2 0xE0A0) badText
-    ∷ gives (shownText (stringAt (hex 3 0x034142) 0)) cutShort
+    ∷ gives (shownText (stringAt Q.Strict (hex 3 0x034142) 0)) cutShort
     -- strings that were judged before: any prefix and any text, and nothing where the text is not all there
     ∷ gives (shownSpan (spanAt (hex 3 0x024142) 0)) (1 ∷ 3 ∷ [])
     ∷ gives (shownSpan (spanAt (hex 8 0x0082808080004142) 1)) (6 ∷ 8 ∷ [])
@@ -253,6 +273,11 @@ fields =
     ∷ gives (decimalOf 4 0x31324535) badValue
     ∷ gives (decimalOf 2 0x312D) badValue
     ∷ gives (decimalOf 0 0) badValue
+    -- a Decimal's prefix is judged as any other; then its text
+    ∷ gives (decimalBy Q.Strict 3 0x810037) badLength
+    ∷ gives (decimalBy Q.Lenient 3 0x810037) (ends 3)
+    ∷ gives (decimalBy Q.Lenient 3 0x81002D) badValue
+    ∷ gives (decimalBy Q.Lenient 2 0x8100) cutShort
     -- of each kind of DateTime the first tick, the last, one more, and the bits before the next kind; kind 3; bit 61 alone; a byte that is missing
     ∷ gives (value 13 8 0x0000000000000000) (ends 8)
     ∷ gives (value 13 8 0xFF3F37F47528CA2B) (ends 8)
@@ -273,16 +298,16 @@ fields =
     -- where a value ends, and where three items end, by code
     ∷ gives (each valueEnd codes) (0 ∷ 1 ∷ 0 ∷ 1 ∷ 0 ∷ 1 ∷ 0 ∷ 8 ∷ 0 ∷ 2 ∷ 0 ∷ 4 ∷ 0 ∷ 8 ∷ 0 ∷ 1 ∷ 0 ∷ 4 ∷ 0 ∷ 8 ∷ 0 ∷ 8 ∷ 0 ∷ 2 ∷ 0 ∷ 4 ∷ 0 ∷ 8 ∷ [])
     ∷ gives (each itemsEnd codes) (0 ∷ 3 ∷ 0 ∷ 3 ∷ 0 ∷ 3 ∷ 0 ∷ 24 ∷ 0 ∷ 6 ∷ 0 ∷ 12 ∷ 0 ∷ 24 ∷ 0 ∷ 3 ∷ 0 ∷ 12 ∷ 0 ∷ 24 ∷ 0 ∷ 24 ∷ 0 ∷ 6 ∷ 0 ∷ 12 ∷ 0 ∷ 24 ∷ [])
-    ∷ gives (shownField (itemsAt (replicate 23 1) (coded (primitiveOf 6)) 3 0)) cutShort
+    ∷ gives (shownField (itemsAt Q.Strict (replicate 23 1) (coded (primitiveOf 6)) 3 0)) cutShort
     -- codes, type bytes, details and slots
     ∷ gives (map (λ (b : ℕ). shownCode (primitiveOf b)) (17 ∷ 18 ∷ 0 ∷ 4 ∷ 5 ∷ codes)) (0 ∷ 0 ∷ 0 ∷ 0 ∷ 5 ∷ 1 ∷ 2 ∷ 3 ∷ 6 ∷ 7 ∷ 8 ∷ 9 ∷ 10 ∷ 11 ∷ 12 ∷ 13 ∷ 14 ∷ 15 ∷ 16 ∷ [])
     ∷ gives (shownField (typeByteAt (7 ∷ []) 0)) (ends 1)
     ∷ gives (shownField (typeByteAt (8 ∷ []) 0)) badType
     ∷ gives (shownField (typeByteAt (7 ∷ []) 1)) cutShort
     ∷ gives (each detail types) (0 ∷ 1 ∷ 0 ∷ 0 ∷ 0 ∷ 0 ∷ 0 ∷ 2 ∷ 0 ∷ 6 ∷ 0 ∷ 0 ∷ 0 ∷ 0 ∷ 0 ∷ 1 ∷ [])
-    ∷ gives (shownField (infoAt (hex 6 0x014100000000) 4 0)) badId
-    ∷ gives (shownField (infoAt (hex 6 0x014100000080) 4 0)) badId
-    ∷ gives (shownField (infoAt (4 ∷ []) 0 0)) badType
+    ∷ gives (shownField (infoAt Q.Strict (hex 6 0x014100000000) 4 0)) badId
+    ∷ gives (shownField (infoAt Q.Strict (hex 6 0x014100000080) 4 0)) badId
+    ∷ gives (shownField (infoAt Q.Strict (4 ∷ []) 0 0)) badType
     ∷ gives (each (λ (t : ℕ). shownSlot (slotOf t 13)) types) (0 ∷ 13 ∷ 1 ∷ 2 ∷ 3 ∷ 4 ∷ 5 ∷ 6 ∷ 7 ∷ 13 ∷ [])
     -- the text of a row, by its words; no row but the first is there
     ∷ gives (textBy 6 0 7 0) (0x41 ∷ [])
@@ -292,6 +317,10 @@ fields =
     ∷ gives (textBy 6 1 7 0) []
     ∷ gives (textBy 6 7 7 0) []
     ∷ gives (textBy 6 0 7 1) []
+    ∷ gives (padded Q.Strict) []
+    ∷ gives (padded Q.Lenient) (0x41 ∷ [])
+    ∷ gives (paddedAsked Q.Strict) (21 ∷ [])
+    ∷ gives (paddedAsked Q.Lenient) (0 ∷ [])
     ∷ []
 
 -- the numbers, from k on, of the entries that fail
@@ -300,5 +329,5 @@ failing k [] = []
 failing k (e ∷ es) = pick (sameBytes (e .found) (e .wanted)) [] (k ∷ []) ++ failing (suc k) es
 
 pub field-examples : None (failing 0 fields)
-unfolding fields failing each textView rowText recordText slotOf infoAt libraryIdAt nameAt typeByteAt codeAt primitiveOf itemsAt times valueAt dateTimeAt decimalAt decimalText decimal decimalAfter decimalByte digit fractionDigit wholeDigit charAt scalarAt booleanAt bytesAt spanAt stringAt textAt wellFormed after stepOf leadOf hiOf loOf needOf groupsOf groupsIn prefixOf prefixIn leBytes u64At u32At u16At le sameBytes hexOnto
+unfolding fields failing each textView rowQuestion rowText recordText slotOf infoAt libraryIdAt nameAt typeByteAt codeAt primitiveOf itemsAt times valueAt dateTimeAt decimalAt decimalText decimal decimalAfter decimalByte digit fractionDigit wholeDigit charAt scalarAt booleanAt bytesAt spanAt stringAt textAt wellFormed after stepOf leadOf hiOf loOf needOf groupsOf groupsIn prefixOf prefixIn leBytes u64At u32At u16At le sameBytes hexOnto
 field-examples = tt

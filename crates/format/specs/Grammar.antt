@@ -13,6 +13,7 @@ use Rattle.format.specs.declared.PrimitiveCode.the-variants as C
 use Rattle.format.specs.declared.SlotType.{SlotType}
 use Rattle.format.specs.declared.SlotType.the-variants as S
 use Rattle.format.specs.declared.Row.{Row}
+use Rattle.format.specs.Terms.{Terms}
 use Rattle.format.specs.Bytes.{pick}
 use Rattle.format.specs.Numbers.{le}
 use Rattle.format.specs.Rows.{withLink}
@@ -29,11 +30,11 @@ pub record Positive (n : ℕ) : Type 0 where
 
 -- A length prefix (2.1.1.6) of w bytes that says n: at most five bytes, seven bits of the number in each. Strict takes the shortest one alone (01,
 -- Field rules), lenient any (02, (iii)). That the fifth byte is at most 7 is said where the text is: its length is below 2147483648.
-pub record Width (set : Setting) (w n : ℕ) : Type 0 where
+pub record Width (σ : Setting) (w n : ℕ) : Type 0 where
   pub some : 0 < w
   pub most : w ≤ 5
   pub holds : n < 128 ^ w
-  pub least : set ≡ Q.Strict → (v : ℕ) → 0 < v → n < 128 ^ v → w ≤ v
+  pub least : σ ≡ Q.Strict → (v : ℕ) → 0 < v → n < 128 ^ v → w ≤ v
 
 -- the UTF-8 form of some scalar values, short enough for a prefix
 pub record Characters (t : List ℕ) : Type 0 where
@@ -41,9 +42,9 @@ pub record Characters (t : List ℕ) : Type 0 where
   pub short : length t < 2147483648
 
 -- a name or a text
-pub record Name (t : Prefixed) : Type 0 where
+pub record Name (τ : Terms) (t : Prefixed) : Type 0 where
   pub characters : Characters (t .text)
-  pub prefix : Width Q.Strict (t .width) (length (t .text))
+  pub prefix : Width (τ .setting) (t .width) (length (t .text))
 
 -- the 64 bits of a DateTime (2.1.1.5; 02, (i)): a kind from 0 to 2 in the top two, then ticks without a sign, the last of which ends the year 9999
 pub record Moment (x : ℕ) : Type 0 where
@@ -77,19 +78,19 @@ pub data Content : PrimitiveCode → List ℕ → Type 0 where
   moment : {v : List ℕ} → length v ≡ 8 → Moment (le v) → Content C.DateTime v
 
 -- a Decimal has a prefix, no other value has one
-abbrev pub PrefixIf : Bool → (w n : ℕ) → Type 0
-PrefixIf true w n = Width Q.Strict w n
-PrefixIf false w n = w ≡ 0
+abbrev pub PrefixIf : Terms → Bool → (w n : ℕ) → Type 0
+PrefixIf τ true w n = Width (τ .setting) w n
+PrefixIf τ false w n = w ≡ 0
 
 -- one value of a code
-pub record Value (c : PrimitiveCode) (v : Prefixed) : Type 0 where
+pub record Value (τ : Terms) (c : PrimitiveCode) (v : Prefixed) : Type 0 where
   pub content : Content c (v .text)
-  pub prefix : PrefixIf (hasPrefix c) (v .width) (length (v .text))
+  pub prefix : PrefixIf τ (hasPrefix c) (v .width) (length (v .text))
 
 -- n values
-pub data Values : PrimitiveCode → ℕ → List Prefixed → Type 0 where
-  none : {c : PrimitiveCode} → Values c zero []
-  more : {c : PrimitiveCode} {n : ℕ} {v : Prefixed} {vs : List Prefixed} → Value c v → Values c n vs → Values c (suc n) (v ∷ vs)
+pub data Values (τ : Terms) : PrimitiveCode → ℕ → List Prefixed → Type 0 where
+  none : {c : PrimitiveCode} → Values τ c zero []
+  more : {c : PrimitiveCode} {n : ℕ} {v : Prefixed} {vs : List Prefixed} → Value τ c v → Values τ c n vs → Values τ c (suc n) (v ∷ vs)
 
 -- ---- what is known from earlier records
 
@@ -142,29 +143,29 @@ pub record LibraryId (i : ℕ) (es : List Entry) : Type 0 where
 
 -- ---- types
 
-abbrev pub GoodDetail : List Entry → Detail Prefixed ℕ → Type 0
-GoodDetail es (primitive c) = Unit {0}
-GoodDetail es text = Unit {0}
-GoodDetail es object = Unit {0}
-GoodDetail es (system n) = Name n
-GoodDetail es (class n l) = Name n × LibraryId l es
-GoodDetail es objects = Unit {0}
-GoodDetail es texts = Unit {0}
-GoodDetail es (primitives c) = Unit {0}
+abbrev pub GoodDetail : Terms → List Entry → Detail Prefixed ℕ → Type 0
+GoodDetail τ es (primitive c) = Unit {0}
+GoodDetail τ es text = Unit {0}
+GoodDetail τ es object = Unit {0}
+GoodDetail τ es (system n) = Name τ n
+GoodDetail τ es (class n l) = Name τ n × LibraryId l es
+GoodDetail τ es objects = Unit {0}
+GoodDetail τ es texts = Unit {0}
+GoodDetail τ es (primitives c) = Unit {0}
 
-pub data Members (es : List Entry) : List (Member Prefixed ℕ) → Type 0 where
-  no-more : Members es []
-  member : {m : Member Prefixed ℕ} {ms : List (Member Prefixed ℕ)} → Name (m .name) → GoodDetail es (m .type) → Members es ms → Members es (m ∷ ms)
+pub data Members (τ : Terms) (es : List Entry) : List (Member Prefixed ℕ) → Type 0 where
+  no-more : Members τ es []
+  member : {m : Member Prefixed ℕ} {ms : List (Member Prefixed ℕ)} → Name τ (m .name) → GoodDetail τ es (m .type) → Members τ es ms → Members τ es (m ∷ ms)
 
 abbrev pub typesOf : List (Member Prefixed ℕ) → List SlotType
 typesOf [] = []
 typesOf (m ∷ ms) = slotFor (m .type) ∷ typesOf ms
 
 -- a class's name and members
-pub record ClassInfo (es : List Entry) (name : Prefixed) (ms : List (Member Prefixed ℕ)) : Type 0 where
-  pub named : Name name
+pub record ClassInfo (τ : Terms) (es : List Entry) (name : Prefixed) (ms : List (Member Prefixed ℕ)) : Type 0 where
+  pub named : Name τ name
   pub counted : length ms < 2147483648
-  pub members : Members es ms
+  pub members : Members τ es ms
 
 -- slots that take objects of classes and typed primitives, and slots that take strings
 abbrev pub takesObjects : SlotType → Bool
@@ -242,98 +243,98 @@ rowOf kind at r id own slot link count =
 
 mutual
   -- an object of a class. room: how many more objects may be open; own and slot: whose slot it fills
-  pub data Object : (room own slot : ℕ) → Cur → Cur → Type 0 where
+  pub data Object (τ : Terms) : (room own slot : ℕ) → Cur → Cur → Type 0 where
     system-class : {room own slot at row i : ℕ} {n : Prefixed} {ms : List (Member Prefixed ℕ)} {es : List Entry} {rs : List Rec} {it : Row} {is : List Row} {c : Cur}
-        → ClassId i es → ClassInfo es n ms → it ≡ rowOf 4 at (systemClass i n ms) i own slot 0 (length ms)
-        → Body room (suc row) (typesOf ms) (cur (at + size (systemClass i n ms)) (suc row) (es ++ (aClass i (suc row) (typesOf ms) ∷ [])) rs is) c
-        → Object room own slot (cur at row es (systemClass i n ms ∷ rs) (it ∷ is)) c
+        → ClassId i es → ClassInfo τ es n ms → it ≡ rowOf 4 at (systemClass i n ms) i own slot 0 (length ms)
+        → Body τ room (suc row) (typesOf ms) (cur (at + size (systemClass i n ms)) (suc row) (es ++ (aClass i (suc row) (typesOf ms) ∷ [])) rs is) c
+        → Object τ room own slot (cur at row es (systemClass i n ms ∷ rs) (it ∷ is)) c
     library-class : {room own slot at row i l : ℕ} {n : Prefixed} {ms : List (Member Prefixed ℕ)} {es : List Entry} {rs : List Rec} {it : Row} {is : List Row} {c : Cur}
-        → ClassId i es → ClassInfo es n ms → LibraryId l es → it ≡ rowOf 5 at (libraryClass i n ms l) i own slot 0 (length ms)
-        → Body room (suc row) (typesOf ms) (cur (at + size (libraryClass i n ms l)) (suc row) (es ++ (aClass i (suc row) (typesOf ms) ∷ [])) rs is) c
-        → Object room own slot (cur at row es (libraryClass i n ms l ∷ rs) (it ∷ is)) c
+        → ClassId i es → ClassInfo τ es n ms → LibraryId l es → it ≡ rowOf 5 at (libraryClass i n ms l) i own slot 0 (length ms)
+        → Body τ room (suc row) (typesOf ms) (cur (at + size (libraryClass i n ms l)) (suc row) (es ++ (aClass i (suc row) (typesOf ms) ∷ [])) rs is) c
+        → Object τ room own slot (cur at row es (libraryClass i n ms l ∷ rs) (it ∷ is)) c
     -- of a class that an earlier record of kind 4 or 5 has, which may be open still
     class-by-id : {room own slot at row i k r : ℕ} {ts : List SlotType} {es : List Entry} {rs : List Rec} {it : Row} {is : List Row} {c : Cur}
         → ClassId i es → k < 4294967296 → classOf k es ≡ classed r ts → it ≡ rowOf 1 at (classById i k) i own slot r (length ts)
-        → Body room (suc row) ts (cur (at + size (classById i k)) (suc row) (es ++ (another i ∷ [])) rs is) c
-        → Object room own slot (cur at row es (classById i k ∷ rs) (it ∷ is)) c
+        → Body τ room (suc row) ts (cur (at + size (classById i k)) (suc row) (es ++ (another i ∷ [])) rs is) c
+        → Object τ room own slot (cur at row es (classById i k ∷ rs) (it ∷ is)) c
 
   -- the slots after an object's record: an object without slots is never open
-  pub data Body : (room row : ℕ) → List SlotType → Cur → Cur → Type 0 where
-    hollow : {room row : ℕ} {c : Cur} → Body room row [] c c
-    filled : {room row : ℕ} {t : SlotType} {ts : List SlotType} {c c₁ : Cur} → Slots room row 0 (t ∷ ts) c c₁ → Body (suc room) row (t ∷ ts) c c₁
+  pub data Body (τ : Terms) : (room row : ℕ) → List SlotType → Cur → Cur → Type 0 where
+    hollow : {room row : ℕ} {c : Cur} → Body τ room row [] c c
+    filled : {room row : ℕ} {t : SlotType} {ts : List SlotType} {c c₁ : Cur} → Slots τ room row 0 (t ∷ ts) c c₁ → Body τ (suc room) row (t ∷ ts) c c₁
 
   -- slots of these types, from this number on, of the object with this row
-  pub data Slots : (room own slot : ℕ) → List SlotType → Cur → Cur → Type 0 where
-    full : {room own slot : ℕ} {c : Cur} → Slots room own slot [] c c
+  pub data Slots (τ : Terms) : (room own slot : ℕ) → List SlotType → Cur → Cur → Type 0 where
+    full : {room own slot : ℕ} {c : Cur} → Slots τ room own slot [] c c
     -- a primitive member takes its value at once
     member-value : {room own slot at row : ℕ} {b : PrimitiveCode} {v : Prefixed} {ts : List SlotType} {es : List Entry} {rs : List Rec} {it : Row} {is : List Row} {c : Cur}
-        → Value b v → it ≡ rowOf 32 at (value b v) 0 own slot 0 0
-        → Slots room own (slot + 1) ts (cur (at + size (value b v)) (suc row) es rs is) c
-        → Slots room own slot (S.Primitive b ∷ ts) (cur at row es (value b v ∷ rs) (it ∷ is)) c
+        → Value τ b v → it ≡ rowOf 32 at (value b v) 0 own slot 0 0
+        → Slots τ room own (slot + 1) ts (cur (at + size (value b v)) (suc row) es rs is) c
+        → Slots τ room own slot (S.Primitive b ∷ ts) (cur at row es (value b v ∷ rs) (it ∷ is)) c
     an-object : {room own slot : ℕ} {t : SlotType} {ts : List SlotType} {c c₁ c₂ : Cur}
-        → takesObjects t ≡ true → Object room own slot c c₁ → Slots room own (slot + 1) ts c₁ c₂ → Slots room own slot (t ∷ ts) c c₂
+        → takesObjects t ≡ true → Object τ room own slot c c₁ → Slots τ room own (slot + 1) ts c₁ c₂ → Slots τ room own slot (t ∷ ts) c c₂
     a-string : {room own slot at row i : ℕ} {x : Prefixed} {t : SlotType} {ts : List SlotType} {es : List Entry} {rs : List Rec} {it : Row} {is : List Row} {c : Cur}
-        → takesStrings t ≡ true → ObjectId i es → Name x → it ≡ rowOf 6 at (string i x) i own slot 0 0
-        → Slots room own (slot + 1) ts (cur (at + size (string i x)) (suc row) (es ++ (another i ∷ [])) rs is) c
-        → Slots room own slot (t ∷ ts) (cur at row es (string i x ∷ rs) (it ∷ is)) c
+        → takesStrings t ≡ true → ObjectId i es → Name τ x → it ≡ rowOf 6 at (string i x) i own slot 0 0
+        → Slots τ room own (slot + 1) ts (cur (at + size (string i x)) (suc row) (es ++ (another i ∷ [])) rs is) c
+        → Slots τ room own slot (t ∷ ts) (cur at row es (string i x ∷ rs) (it ∷ is)) c
     a-typed-primitive : {room own slot at row : ℕ} {b : PrimitiveCode} {v : Prefixed} {t : SlotType} {ts : List SlotType} {es : List Entry} {rs : List Rec} {it : Row} {is : List Row} {c : Cur}
-        → takesObjects t ≡ true → Value b v → it ≡ rowOf 8 at (typedPrimitive b v) 0 own slot 0 0
-        → Slots room own (slot + 1) ts (cur (at + size (typedPrimitive b v)) (suc row) es rs is) c
-        → Slots room own slot (t ∷ ts) (cur at row es (typedPrimitive b v ∷ rs) (it ∷ is)) c
+        → takesObjects t ≡ true → Value τ b v → it ≡ rowOf 8 at (typedPrimitive b v) 0 own slot 0 0
+        → Slots τ room own (slot + 1) ts (cur (at + size (typedPrimitive b v)) (suc row) es rs is) c
+        → Slots τ room own slot (t ∷ ts) (cur at row es (typedPrimitive b v ∷ rs) (it ∷ is)) c
     -- a reference may name an object anywhere in the stream
     a-reference : {room own slot at row i : ℕ} {t : SlotType} {ts : List SlotType} {es : List Entry} {rs : List Rec} {it : Row} {is : List Row} {c : Cur}
         → takesRecords t ≡ true → Positive i → it ≡ rowOf 9 at (reference i) i own slot 0 0
-        → Slots room own (slot + 1) ts (cur (at + size (reference i)) (suc row) es rs is) c
-        → Slots room own slot (t ∷ ts) (cur at row es (reference i ∷ rs) (it ∷ is)) c
+        → Slots τ room own (slot + 1) ts (cur (at + size (reference i)) (suc row) es rs is) c
+        → Slots τ room own slot (t ∷ ts) (cur at row es (reference i ∷ rs) (it ∷ is)) c
     a-null : {room own slot at row : ℕ} {t : SlotType} {ts : List SlotType} {es : List Entry} {rs : List Rec} {it : Row} {is : List Row} {c : Cur}
         → takesRecords t ≡ true → it ≡ rowOf 10 at null 0 own slot 0 1
-        → Slots room own (slot + 1) ts (cur (at + 1) (suc row) es rs is) c
-        → Slots room own slot (t ∷ ts) (cur at row es (null ∷ rs) (it ∷ is)) c
+        → Slots τ room own (slot + 1) ts (cur (at + 1) (suc row) es rs is) c
+        → Slots τ room own slot (t ∷ ts) (cur at row es (null ∷ rs) (it ∷ is)) c
     -- a null run fills slots of this object that all take records; a run of 0 fills none
     a-run : {room own slot at row k : ℕ} {t : SlotType} {ts us : List SlotType} {es : List Entry} {rs : List Rec} {it : Row} {is : List Row} {c : Cur}
         → takesRecords t ≡ true → k < 256 → k ≤ length (t ∷ ts) → allTake (take k (t ∷ ts)) ≡ true → us ≡ drop k (t ∷ ts)
         → it ≡ rowOf 13 at (nulls k) 0 own slot 0 k
-        → Slots room own (slot + k) us (cur (at + 2) (suc row) es rs is) c
-        → Slots room own slot (t ∷ ts) (cur at row es (nulls k ∷ rs) (it ∷ is)) c
+        → Slots τ room own (slot + k) us (cur (at + 2) (suc row) es rs is) c
+        → Slots τ room own slot (t ∷ ts) (cur at row es (nulls k ∷ rs) (it ∷ is)) c
     a-long-run : {room own slot at row k : ℕ} {t : SlotType} {ts us : List SlotType} {es : List Entry} {rs : List Rec} {it : Row} {is : List Row} {c : Cur}
         → takesRecords t ≡ true → Positive k → k ≤ length (t ∷ ts) → allTake (take k (t ∷ ts)) ≡ true → us ≡ drop k (t ∷ ts)
         → it ≡ rowOf 14 at (manyNulls k) 0 own slot 0 k
-        → Slots room own (slot + k) us (cur (at + size (manyNulls k)) (suc row) es rs is) c
-        → Slots room own slot (t ∷ ts) (cur at row es (manyNulls k ∷ rs) (it ∷ is)) c
+        → Slots τ room own (slot + k) us (cur (at + size (manyNulls k)) (suc row) es rs is) c
+        → Slots τ room own slot (t ∷ ts) (cur at row es (manyNulls k ∷ rs) (it ∷ is)) c
     -- a library stands wherever a kind byte is expected
     a-library : {room own slot at row i : ℕ} {n : Prefixed} {t : SlotType} {ts : List SlotType} {es : List Entry} {rs : List Rec} {it : Row} {is : List Row} {c : Cur}
-        → takesRecords t ≡ true → Positive i → known i es ≡ false → Name n → it ≡ rowOf 12 at (library i n) i 0 0 0 0
-        → Slots room own slot (t ∷ ts) (cur (at + size (library i n)) (suc row) (es ++ (aLibrary i ∷ [])) rs is) c
-        → Slots room own slot (t ∷ ts) (cur at row es (library i n ∷ rs) (it ∷ is)) c
+        → takesRecords t ≡ true → Positive i → known i es ≡ false → Name τ n → it ≡ rowOf 12 at (library i n) i 0 0 0 0
+        → Slots τ room own slot (t ∷ ts) (cur (at + size (library i n)) (suc row) (es ++ (aLibrary i ∷ [])) rs is) c
+        → Slots τ room own slot (t ∷ ts) (cur at row es (library i n ∷ rs) (it ∷ is)) c
 
 -- ---- the top level: objects, arrays, strings and libraries, then the end and nothing after it
 
 -- an array's record: the types of its slots, or its items inside it
-pub data Array (es : List Entry) : Rec → (kind id count : ℕ) → List SlotType → Type 0 where
-  of-objects : {i n : ℕ} → n < 2147483648 → Array es (objectArray i n) 16 i n (replicate n S.Object)
-  of-strings : {i n : ℕ} → n < 2147483648 → Array es (stringArray i n) 17 i n (replicate n S.Text)
-  of-primitives : {i n : ℕ} {b : PrimitiveCode} {vs : List Prefixed} → n < 2147483648 → Values b n vs → Array es (primitiveArray i n b vs) 15 i n []
+pub data Array (τ : Terms) (es : List Entry) : Rec → (kind id count : ℕ) → List SlotType → Type 0 where
+  of-objects : {i n : ℕ} → n < 2147483648 → Array τ es (objectArray i n) 16 i n (replicate n S.Object)
+  of-strings : {i n : ℕ} → n < 2147483648 → Array τ es (stringArray i n) 17 i n (replicate n S.Text)
+  of-primitives : {i n : ℕ} {b : PrimitiveCode} {vs : List Prefixed} → n < 2147483648 → Values τ b n vs → Array τ es (primitiveArray i n b vs) 15 i n []
   of-any : {i type n : ℕ} {ns : List ℕ} {d : Detail Prefixed ℕ} {ts : List SlotType}
-      → Shape type ns → n ≡ product ns → GoodDetail es d → takesRecords (slotFor d) ≡ true → ts ≡ replicate n (slotFor d)
-      → Array es (array i type ns d []) 7 i n ts
+      → Shape type ns → n ≡ product ns → GoodDetail τ es d → takesRecords (slotFor d) ≡ true → ts ≡ replicate n (slotFor d)
+      → Array τ es (array i type ns d []) 7 i n ts
   of-values : {i type n : ℕ} {ns : List ℕ} {b : PrimitiveCode} {vs : List Prefixed}
-      → Shape type ns → n ≡ product ns → Values b n vs → Array es (array i type ns (primitive b) vs) 7 i n []
+      → Shape type ns → n ≡ product ns → Values τ b n vs → Array τ es (array i type ns (primitive b) vs) 7 i n []
 
-pub data Objects : Cur → Type 0 where
-  the-end : {at row : ℕ} {es : List Entry} {it : Row} → it ≡ rowOf 11 at end 0 0 0 0 0 → Objects (cur at row es (end ∷ []) (it ∷ []))
-  one-object : {c c₁ : Cur} → Object 64 0 0 c c₁ → Objects c₁ → Objects c
+pub data Objects (τ : Terms) : Cur → Type 0 where
+  the-end : {at row : ℕ} {es : List Entry} {it : Row} → it ≡ rowOf 11 at end 0 0 0 0 0 → Objects τ (cur at row es (end ∷ []) (it ∷ []))
+  one-object : {c c₁ : Cur} → Object τ 64 0 0 c c₁ → Objects τ c₁ → Objects τ c
   one-string : {at row i : ℕ} {x : Prefixed} {es : List Entry} {rs : List Rec} {it : Row} {is : List Row}
-      → ObjectId i es → Name x → it ≡ rowOf 6 at (string i x) i 0 0 0 0
-      → Objects (cur (at + size (string i x)) (suc row) (es ++ (another i ∷ [])) rs is)
-      → Objects (cur at row es (string i x ∷ rs) (it ∷ is))
+      → ObjectId i es → Name τ x → it ≡ rowOf 6 at (string i x) i 0 0 0 0
+      → Objects τ (cur (at + size (string i x)) (suc row) (es ++ (another i ∷ [])) rs is)
+      → Objects τ (cur at row es (string i x ∷ rs) (it ∷ is))
   one-array : {at row kind i n : ℕ} {r : Rec} {ts : List SlotType} {es : List Entry} {rs : List Rec} {it : Row} {is : List Row} {c : Cur}
-      → ObjectId i es → Array es r kind i n ts → it ≡ rowOf kind at r i 0 0 0 n
-      → Body 64 (suc row) ts (cur (at + size r) (suc row) (es ++ (another i ∷ [])) rs is) c
-      → Objects c → Objects (cur at row es (r ∷ rs) (it ∷ is))
+      → ObjectId i es → Array τ es r kind i n ts → it ≡ rowOf kind at r i 0 0 0 n
+      → Body τ 64 (suc row) ts (cur (at + size r) (suc row) (es ++ (another i ∷ [])) rs is) c
+      → Objects τ c → Objects τ (cur at row es (r ∷ rs) (it ∷ is))
   one-library : {at row i : ℕ} {n : Prefixed} {es : List Entry} {rs : List Rec} {it : Row} {is : List Row}
-      → Positive i → known i es ≡ false → Name n → it ≡ rowOf 12 at (library i n) i 0 0 0 0
-      → Objects (cur (at + size (library i n)) (suc row) (es ++ (aLibrary i ∷ [])) rs is)
-      → Objects (cur at row es (library i n ∷ rs) (it ∷ is))
+      → Positive i → known i es ≡ false → Name τ n → it ≡ rowOf 12 at (library i n) i 0 0 0 0
+      → Objects τ (cur (at + size (library i n)) (suc row) (es ++ (aLibrary i ∷ [])) rs is)
+      → Objects τ (cur at row es (library i n ∷ rs) (it ∷ is))
 
 -- ---- the whole stream
 
@@ -406,7 +407,7 @@ pub data Links (rs : List Rec) : List Row → List Row → Type 0 where
   one-link : {it row : Row} {is rows : List Row} → Link rs it row → Links rs is rows → Links rs (it ∷ is) (row ∷ rows)
 
 -- a reading of a stream, with the rows that show it
-pub record Reading (s : List ℕ) (rows : List Row) : Type 0 where
+pub record Reading (τ : Terms) (s : List ℕ) (rows : List Row) : Type 0 where
   pub root : ℕ
   pub header-id : ℕ
   pub rs : List Rec
@@ -415,7 +416,7 @@ pub record Reading (s : List ℕ) (rows : List Row) : Type 0 where
   pub header-bits : header-id < 4294967296
   pub bytes-are : s ≡ enc (header root header-id) ++ encs rs
   pub small : length s ≤ 16777216
-  pub objects-are : Objects (cur 17 1 [] rs is)
+  pub objects-are : Objects τ (cur 17 1 [] rs is)
   pub rooted : among root (idsOf rs) ≡ true
   pub targets : (i : ℕ) → among i (refsOf rs) ≡ true → among i (idsOf rs) ≡ true
   pub links-are : Links (header root header-id ∷ rs) (rowOf 0 0 (header root header-id) root 0 0 0 0 ∷ is) rows

@@ -2,6 +2,7 @@
 pub mod Bytes
 pub mod Replies
 pub mod Local
+pub mod Terms
 pub mod Numbers
 pub mod Prefix
 pub mod Text

@@ -9,6 +9,7 @@ use lib.Dec.{eqb}
 use Rattle.format.specs.declared.PrimitiveCode.the-variants as C
 use Rattle.format.specs.declared.Row.{Row}
 use Rattle.format.specs.Bytes.{pick, sameBytes, laid}
+use Rattle.format.specs.Terms.{strict}
 use Rattle.format.specs.Numbers.{le, u32At, u64At, leBytes}
 use Rattle.format.specs.Prefix.{prefixIn, groupsOf, groupsIn, prefixOf}
 use Rattle.format.specs.Text.{needOf, loOf, hiOf, leadOf, stepOf, after, wellFormed, textAt, stringAt, spanAt}
@@ -18,11 +19,11 @@ use Rattle.format.specs.Rows.{words, findFrom, objectRow, classRow, libr
 use Rattle.format.specs.Records.{allowed, kindOf, kindAt, ownLibraryAt, headerAt, stringRecordAt, referenceAt, nullsAt, longNullsAt, libraryAt, infoKnown, infosAt, membersAt, classAt, classByIdAt, slotArrayAt, headingAt, typedPrimitiveAt, primitiveArrayAt, lengthsAt, itemTypeAt, rankAt, binaryArrayAt}
 use Rattle.format.specs.Machine.{close, filled, opened, add, object, nullRun, ending, act, recordStep, valueStep, step, finish, run, Outcome, accepted, refused, rawOf, readOf, readAnswer, tableWords}
 use Rattle.format.specs.View.{recordText, rowText, rowQuestion, textView}
-use Rattle.format.specs.Contents.{Prefixed, bare, shortest, Detail, primitive, text, Member, typeByte, Rec, header, classById, systemClass, libraryClass, string, typedPrimitive, primitiveArray, reference, null, nulls, end, library, objectArray, value, enc, encs}
+use Rattle.format.specs.Contents.{Prefixed, bare, shortest, Detail, primitive, text, Member, typeByte, Rec, header, classById, systemClass, libraryClass, string, array, typedPrimitive, primitiveArray, reference, null, nulls, end, library, objectArray, value, enc, encs}
 use Rattle.format.specs.Contents.{object as anything}
 use Rattle.format.specs.Says.{numbersFrom, afterTexts, libraryName, detailFrom, membersFrom, classFrom, codeIn, valueCode, arrayFrom, objectsIn, orderOf, whatFrom, spread, nodesOf, nodesFrom, What, anObject, aString, anArray, aPrimitive, aReference, aNull, aPrimitiveArray, anObjectArray, aStringArray, aValue, Node, Model, says, itemsFrom}
 use Rattle.format.specs.Tidy.{sameDetail, sameMembers, sameClass, numberIn, entered, allEntered, libraryRecords, recordsOf, afterWhat, pack, runOf, written, waiting, squeeze, tidyRecords, tidyOf, tidyAnswer, tidyOutput, tidyTable}
-use Rattle.format.specs.Examples.{Example, entry, hexOnto, hex, accepts, writes, textsFrom, holds, failing, None}
+use Rattle.format.specs.Examples.{Example, entry, leniently, hexOnto, hex, accepts, refuses, writes, as-read, textsFrom, holds, failing, None}
 
 -- ---- the lists
 
@@ -50,12 +51,21 @@ twoParts d =
 abbrev pub forwards : List Rec
 forwards = header 1 1 ∷ systemClass 1 (shortest (0x50 ∷ [])) (named anything) ∷ classById 2 1 ∷ reference 3 ∷ string 3 (shortest jaw) ∷ end ∷ []
 
--- Decimals at three of their places, in the shortest prefixes: 7.5 in a slot with its code, 1 and 23 as items, 7 as a member
+-- Decimals at their four places, the texts of all with prefixes of one kind: 7.5 in a slot with its code, 1 and 23 as items, 7 as a member, 9 as the
+-- item of an array of any type. The names of the class and of its member have such prefixes too
+abbrev pub decimalsBy : (List ℕ → Prefixed) → List Rec
+decimalsBy f =
+    header 1 1 ∷ objectArray 1 1 ∷ typedPrimitive C.Decimal (f (55 ∷ 46 ∷ 53 ∷ []))
+    ∷ primitiveArray 2 2 C.Decimal (f (49 ∷ []) ∷ f (50 ∷ 51 ∷ []) ∷ [])
+    ∷ systemClass 3 (f (0x50 ∷ [])) (record { name = f (0x4E ∷ []); type = primitive C.Decimal } ∷ []) ∷ value C.Decimal (f (55 ∷ []))
+    ∷ array 4 0 (1 ∷ []) (primitive C.Decimal) (f (57 ∷ []) ∷ []) ∷ end ∷ []
+
 abbrev pub decimals : List Rec
-decimals =
-    header 1 1 ∷ objectArray 1 1 ∷ typedPrimitive C.Decimal (shortest (55 ∷ 46 ∷ 53 ∷ []))
-    ∷ primitiveArray 2 2 C.Decimal (shortest (49 ∷ []) ∷ shortest (50 ∷ 51 ∷ []) ∷ [])
-    ∷ systemClass 3 (shortest (0x50 ∷ [])) (named (primitive C.Decimal)) ∷ value C.Decimal (shortest (55 ∷ [])) ∷ end ∷ []
+decimals = decimalsBy shortest
+
+-- in two bytes each
+abbrev pub paddedDecimals : List Rec
+paddedDecimals = decimalsBy (λ t. record { width = 2; text = t })
 
 -- ---- read and tidied
 
@@ -96,7 +106,19 @@ decimalsRows =
     ∷ 15 ∷ 32 ∷ 47 ∷ 2 ∷ 0 ∷ 0 ∷ 0 ∷ 2
     ∷ 4 ∷ 47 ∷ 62 ∷ 3 ∷ 0 ∷ 0 ∷ 0 ∷ 1
     ∷ 32 ∷ 62 ∷ 64 ∷ 0 ∷ 5 ∷ 0 ∷ 0 ∷ 0
-    ∷ 11 ∷ 64 ∷ 65 ∷ 0 ∷ 0 ∷ 0 ∷ 0 ∷ 0 ∷ []
+    ∷ 7 ∷ 64 ∷ 82 ∷ 4 ∷ 0 ∷ 0 ∷ 0 ∷ 1
+    ∷ 11 ∷ 82 ∷ 83 ∷ 0 ∷ 0 ∷ 0 ∷ 0 ∷ 0 ∷ []
+
+abbrev pub paddedDecimalsRows : List ℕ
+paddedDecimalsRows =
+    0 ∷ 0 ∷ 17 ∷ 1 ∷ 0 ∷ 0 ∷ 2 ∷ 0
+    ∷ 16 ∷ 17 ∷ 26 ∷ 1 ∷ 0 ∷ 0 ∷ 0 ∷ 1
+    ∷ 8 ∷ 26 ∷ 33 ∷ 0 ∷ 2 ∷ 0 ∷ 0 ∷ 0
+    ∷ 15 ∷ 33 ∷ 50 ∷ 2 ∷ 0 ∷ 0 ∷ 0 ∷ 2
+    ∷ 4 ∷ 50 ∷ 67 ∷ 3 ∷ 0 ∷ 0 ∷ 0 ∷ 1
+    ∷ 32 ∷ 67 ∷ 70 ∷ 0 ∷ 5 ∷ 0 ∷ 0 ∷ 0
+    ∷ 7 ∷ 70 ∷ 89 ∷ 4 ∷ 0 ∷ 0 ∷ 0 ∷ 1
+    ∷ 11 ∷ 89 ∷ 90 ∷ 0 ∷ 0 ∷ 0 ∷ 0 ∷ 0 ∷ []
 
 -- the start of both tidy copies: the second object is the root, and the library stands before the first record that needs it
 abbrev pub firstPart : List Rec
@@ -108,7 +130,10 @@ lists =
     ∷ entry (encs (twoParts text)) 64 80 (accepts twoPartsRows []) (writes (encs (firstPart ++ (classById 2 1 ∷ null ∷ end ∷ []))))
     ∷ entry (encs (twoParts anything)) 64 80 (accepts twoPartsRows []) (writes (encs (firstPart ++ (libraryClass 2 (shortest (0x50 ∷ [])) (named anything) 1 ∷ null ∷ end ∷ []))))
     ∷ entry (encs forwards) 64 80 (accepts forwardsRows (4 ∷ 4 ∷ jaw)) (writes (encs forwards))
-    ∷ entry (encs decimals) 64 80 (accepts decimalsRows []) (writes (encs decimals))
+    ∷ entry (encs decimals) 64 96 (accepts decimalsRows []) (writes (encs decimals))
+    ∷ leniently (encs decimals) 64 96 (accepts decimalsRows []) (writes (encs decimals))
+    ∷ entry (encs paddedDecimals) 64 96 (refuses 7 26) as-read
+    ∷ leniently (encs paddedDecimals) 64 96 (accepts paddedDecimalsRows []) (writes (encs decimals))
     ∷ []
 
 pub list-examples : None (failing 0 lists)
@@ -123,7 +148,7 @@ saidBy s (refused r place) = record { root = 0; nodes = [] }
 
 -- what a list of these records says; at most 16 rows
 unfoldable pub said : List Rec → Model
-said rs = saidBy (encs rs) (readOf (encs rs) 16)
+said rs = saidBy (encs rs) (readOf strict (encs rs) 16)
 
 -- three empty slots, packed in these records
 abbrev pub threeNulls : List Rec → List Rec
@@ -187,7 +212,7 @@ abbrev pub codesBy : (List Row → List ℕ) → Outcome → List ℕ
 codesBy f (accepted rows) = f rows
 codesBy f (refused r place) = []
 
-pub value-codes : (codesBy readCodes (rawOf (encs valued) 16) ≡ 7 ∷ 1 ∷ 7 ∷ 1 ∷ [])
-    × (codesBy (λ (rows : List Row). saidCodes (encs valued) rows rows) (readOf (encs valued) 16) ≡ 7 ∷ 1 ∷ 7 ∷ 1 ∷ [])
+pub value-codes : (codesBy readCodes (rawOf strict (encs valued) 16) ≡ 7 ∷ 1 ∷ 7 ∷ 1 ∷ [])
+    × (codesBy (λ (rows : List Row). saidCodes (encs valued) rows rows) (readOf strict (encs valued) 16) ≡ 7 ∷ 1 ∷ 7 ∷ 1 ∷ [])
 unfolding readCodes saidCodes valueCode codeIn classByIdAt valueStep valueAt booleanAt bytesAt codeAt primitiveOf says nodesFrom nodesOf spread whatFrom orderOf objectsIn classFrom membersFrom detailFrom libraryName encs enc readOf rawOf run finish step recordStep act ending nullRun object add opened filled close headingAt slotArrayAt classAt membersAt infosAt infoKnown libraryAt nullsAt referenceAt stringRecordAt headerAt ownLibraryAt kindAt kindOf allowed linked linkOf libraryRow classRow objectRow findFrom passedOf passed moved typedAt slotOf infoAt libraryIdAt nameAt typeByteAt times stringAt textAt wellFormed after stepOf leadOf hiOf loOf needOf groupsOf groupsIn prefixOf prefixIn leBytes u32At le hexOnto afterTexts afterInfo spanAt
 value-codes = (refl, refl)

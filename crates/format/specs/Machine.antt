@@ -4,6 +4,7 @@ use mathlib.Core.Bool.{_||_}
 use mathlib.Core.List.{List, [], _∷_, _++_}
 use lib.ListN.{length, getD, replicate}
 use lib.Dec.{ltb, eqb}
+use Rattle.format.specs.Terms.{Terms}
 use Rattle.format.specs.declared.Refusal.{Refusal}
 use Rattle.format.specs.declared.Refusal.the-variants as R
 use Rattle.format.specs.declared.ReadAnswer.{ReadAnswer}
@@ -139,12 +140,12 @@ act s room st kind (H.Fields h) =
 
 -- ---- a step: a member value at once, else a kind byte and its record
 
-abbrev pub onKind : List ℕ → ℕ → State → Kind → Next
-onKind s room st (K.Taken k) = act s room st k (headingAt s (st .rows) k (st .at))
-onKind s room st (K.Wrong f) = refuse f (st .at)
+abbrev pub onKind : Terms → List ℕ → ℕ → State → Kind → Next
+onKind τ s room st (K.Taken k) = act s room st k (headingAt τ s (st .rows) k (st .at))
+onKind τ s room st (K.Wrong f) = refuse f (st .at)
 
-unfoldable pub recordStep : List ℕ → ℕ → State → Where → Next
-recordStep s room st w = onKind s room st (kindAt s w (st .at))
+unfoldable pub recordStep : Terms → List ℕ → ℕ → State → Where → Next
+recordStep τ s room st w = onKind τ s room st (kindAt s w (st .at))
 
 -- a member value has a row of kind 32; until links are put in, its link is the number of the code by which it was read
 abbrev pub valueHead : PrimitiveCode → ℕ → Head
@@ -155,26 +156,26 @@ onValue s room st c (F.End end) =
     add room st (rowIn st 32 (valueHead c end)) (filled (st .stack) 1 (moved s (st .stack .cur .typed)))
 onValue s room st c (F.Fault f) = refuse f (st .at)
 
-unfoldable pub valueStep : List ℕ → ℕ → State → PrimitiveCode → Next
-valueStep s room st c = onValue s room st c (valueAt s c (st .at))
+unfoldable pub valueStep : Terms → List ℕ → ℕ → State → PrimitiveCode → Next
+valueStep τ s room st c = onValue s room st c (valueAt (τ .setting) s c (st .at))
 
 -- the top level has no object around it
 abbrev pub whereIn : List Frame → Where → Where
 whereIn [] w = W.Top
 whereIn (f ∷ fs) w = w
 
-abbrev pub bySlot : List ℕ → ℕ → State → SlotType → Next
-bySlot s room st (S.Primitive c) = valueStep s room st c
-bySlot s room st S.Text = recordStep s room st (whereIn (st .stack .below) W.StringSlot)
-bySlot s room st S.Object = recordStep s room st (whereIn (st .stack .below) W.ObjectSlot)
-bySlot s room st S.SystemClass = recordStep s room st (whereIn (st .stack .below) W.ObjectSlot)
-bySlot s room st S.Class = recordStep s room st (whereIn (st .stack .below) W.ObjectSlot)
-bySlot s room st S.ObjectArray = recordStep s room st (whereIn (st .stack .below) W.ArraySlot)
-bySlot s room st S.StringArray = recordStep s room st (whereIn (st .stack .below) W.ArraySlot)
-bySlot s room st (S.PrimitiveArray c) = recordStep s room st (whereIn (st .stack .below) W.ArraySlot)
+abbrev pub bySlot : Terms → List ℕ → ℕ → State → SlotType → Next
+bySlot τ s room st (S.Primitive c) = valueStep τ s room st c
+bySlot τ s room st S.Text = recordStep τ s room st (whereIn (st .stack .below) W.StringSlot)
+bySlot τ s room st S.Object = recordStep τ s room st (whereIn (st .stack .below) W.ObjectSlot)
+bySlot τ s room st S.SystemClass = recordStep τ s room st (whereIn (st .stack .below) W.ObjectSlot)
+bySlot τ s room st S.Class = recordStep τ s room st (whereIn (st .stack .below) W.ObjectSlot)
+bySlot τ s room st S.ObjectArray = recordStep τ s room st (whereIn (st .stack .below) W.ArraySlot)
+bySlot τ s room st S.StringArray = recordStep τ s room st (whereIn (st .stack .below) W.ArraySlot)
+bySlot τ s room st (S.PrimitiveArray c) = recordStep τ s room st (whereIn (st .stack .below) W.ArraySlot)
 
-unfoldable pub step : List ℕ → ℕ → State → Next
-step s room st = bySlot s room st (st .stack .cur .typed .slot)
+unfoldable pub step : Terms → List ℕ → ℕ → State → Next
+step τ s room st = bySlot τ s room st (st .stack .cur .typed .slot)
 
 -- ---- after the end record: trailing bytes, the root, the references
 
@@ -195,9 +196,9 @@ onward s f (ended rows at) = finish s rows at
 onward s f (refuse r place) = refused r place
 
 -- at most k steps: each takes a byte or more, and past the end there is none
-unfoldable pub run : ℕ → List ℕ → ℕ → State → Outcome
-run zero s room st = refused R.CutShort (st .at)
-run (suc k) s room st = onward s (run k s room) (step s room st)
+unfoldable pub run : Terms → ℕ → List ℕ → ℕ → State → Outcome
+run τ zero s room st = refused R.CutShort (st .at)
+run τ (suc k) s room st = onward s (run τ k s room) (step τ s room st)
 
 abbrev pub topLevel : Frame
 topLevel = record { owner = 0; count = 0; left = 0; typed = alike S.Object 0 }
@@ -206,14 +207,14 @@ abbrev pub start : State
 start = record { at = 0; rows = []; stack = record { cur = topLevel; below = [] } }
 
 -- the header stands first
-abbrev pub begin : List ℕ → ℕ → Next → Outcome
-begin s room (go st) = run (length s) s room st
-begin s room (ended rows at) = finish s rows at
-begin s room (refuse r place) = refused r place
+abbrev pub begin : Terms → List ℕ → ℕ → Next → Outcome
+begin τ s room (go st) = run τ (length s) s room st
+begin τ s room (ended rows at) = finish s rows at
+begin τ s room (refuse r place) = refused r place
 
 -- the outcome of a stream with room for so many rows, the rows as they are read: their link words are not final
-unfoldable pub rawOf : List ℕ → ℕ → Outcome
-rawOf s room = pick (ltb 16777216 (length s)) (refused R.TooLarge 0) (begin s room (recordStep s room start W.Start))
+unfoldable pub rawOf : Terms → List ℕ → ℕ → Outcome
+rawOf τ s room = pick (ltb 16777216 (length s)) (refused R.TooLarge 0) (begin τ s room (recordStep τ s room start W.Start))
 
 -- links are put in at the end
 abbrev pub withLinks : Outcome → Outcome
@@ -221,8 +222,8 @@ withLinks (accepted rows) = accepted (linked rows)
 withLinks (refused r place) = refused r place
 
 -- what a right reader says of a stream, with room for so many rows
-unfoldable pub readOf : List ℕ → ℕ → Outcome
-readOf s room = withLinks (rawOf s room)
+unfoldable pub readOf : Terms → List ℕ → ℕ → Outcome
+readOf τ s room = withLinks (rawOf τ s room)
 
 -- ---- the answer, and every word of the table
 

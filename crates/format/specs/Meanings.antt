@@ -170,6 +170,17 @@ items-told e =
     let z : _≡_ {A = ℕ} 1 2 = ap (λ (m : Model). firstItem (whats m)) e in
     omega arith
 
+-- the text of a Decimal and not its number: 7 is not 07, by itself and as an item
+pub decimal-told : typed (typedPrimitive C.Decimal (shortest (55 ∷ []))) ≡ typed (typedPrimitive C.Decimal (shortest (48 ∷ 55 ∷ []))) → ⊥
+unfolding meant walk nameBy classBy orderBy found librariesOf classesOf orderAfter spread
+decimal-told e = let w = ap whats e in let z : _≡_ {A = ℕ} 55 48 = cc in omega arith
+
+pub decimal-item-told : alone (primitiveArray 8 1 C.Decimal (shortest (55 ∷ []) ∷ [])) ≡ alone (primitiveArray 8 1 C.Decimal (shortest (48 ∷ 55 ∷ []) ∷ [])) → ⊥
+unfolding meant walk nameBy classBy orderBy found librariesOf classesOf orderAfter spread
+decimal-item-told e =
+    let z : _≡_ {A = ℕ} 1 2 = ap (λ (m : Model). firstItem (whats m)) e in
+    omega arith
+
 -- text
 pub text-told : alone (string 8 (shortest (65 ∷ []))) ≡ alone (string 8 (shortest (66 ∷ []))) → ⊥
 unfolding meant walk nameBy classBy orderBy found librariesOf classesOf orderAfter spread

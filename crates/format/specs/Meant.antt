@@ -5,6 +5,7 @@ use Prim.Native.Nat.{ℕ, zero, suc, _+_, _-_}
 use mathlib.Core.List.{List, [], _∷_, _++_}
 use lib.ListN.{length}
 use lib.Dec.{eqb}
+use Rattle.format.specs.Terms.{Terms}
 use Rattle.format.specs.declared.Row.{Row}
 use Rattle.format.specs.Bytes.{pick}
 use Rattle.format.specs.Contents.{Prefixed, textsOf, Detail, primitive, text, object, system, class, objects, texts, primitives, Member, slotFor, Rec, header, classById, systemClass, libraryClass, string, array, typedPrimitive, reference, null, nulls, manyNulls, end, library, primitiveArray, objectArray, stringArray, value}
@@ -198,5 +199,5 @@ unfoldable pub meant : ℕ → List Rec → Model
 meant root rs = record { root = orderBy rs root; nodes = walk (nameBy rs) (classBy rs) (orderBy rs) 0 [] rs }
 
 -- what the records of a reading mean
-abbrev pub meantBy : {s : List ℕ} {rows : List Row} → Reading s rows → Model
+abbrev pub meantBy : {τ : Terms} {s : List ℕ} {rows : List Row} → Reading τ s rows → Model
 meantBy w = meant (w .root) (w .rs)

@@ -1,4 +1,5 @@
--- The length prefix (2.1.1.6; 01, Field rules): seven bits a byte, the low group first, in the shortest form or, lenient, in any of at most five bytes.
+-- The length prefix (2.1.1.6; 01, Field rules): seven bits a byte, the low group first, in the shortest form or, lenient, in any of at most five bytes whose
+-- fifth is at most 7.
 use Prim.Native.Nat.{ℕ, zero, suc, _+_, _*_, _/_, _%_}
 use mathlib.Core.List.{List, [], _∷_}
 use lib.ListN.{length, getD}
@@ -35,7 +36,7 @@ laterLeast Q.Lenient = 0
 
 -- the number at a place, and the place after its bytes
 abbrev pub prefixAt : Setting → List ℕ → ℕ → Prefix
-prefixAt set s p = prefixIn 4 0 (laterLeast set) s p
+prefixAt σ s p = prefixIn 4 0 (laterLeast σ) s p
 
 -- how a number is written: its groups, of which at most k follow the first
 unfoldable pub groupsOf : ℕ → ℕ → List ℕ

@@ -4,6 +4,7 @@ use mathlib.Core.Bool.{Bool, true, false, _&&_, _||_, not}
 use mathlib.Core.List.{List, _∷_}
 use lib.ListN.{length, getD}
 use lib.Dec.{ltb, leb, eqb}
+use Rattle.format.specs.Terms.{Terms}
 use Rattle.format.specs.declared.Refusal.the-variants as R
 use Rattle.format.specs.declared.PrimitiveCode.{PrimitiveCode}
 use Rattle.format.specs.declared.SlotType.{SlotType}
@@ -115,14 +116,14 @@ headerAt s at =
     (u32At s (at + 1))
 
 -- 6 string: ObjectId, text
-unfoldable pub stringRecordAt : List ℕ → List Row → ℕ → Heading
-stringRecordAt s rows at =
-    onNumber (λ id p. pick (goodId rows id) (onField (λ end. plain id end 0) (nameAt s p)) (H.Bad R.BadId)) (u32At s (at + 1))
+unfoldable pub stringRecordAt : Terms → List ℕ → List Row → ℕ → Heading
+stringRecordAt τ s rows at =
+    onNumber (λ id p. pick (goodId rows id) (onField (λ end. plain id end 0) (nameAt (τ .setting) s p)) (H.Bad R.BadId)) (u32At s (at + 1))
 
 -- 8 typed primitive: code, value
-unfoldable pub typedPrimitiveAt : List ℕ → ℕ → Heading
-typedPrimitiveAt s at =
-    onField (λ p. onField (λ end. plain 0 end 0) (valueAt s (coded (primitiveOf (getD s (at + 1) 0))) p)) (codeAt s (at + 1))
+unfoldable pub typedPrimitiveAt : Terms → List ℕ → ℕ → Heading
+typedPrimitiveAt τ s at =
+    onField (λ p. onField (λ end. plain 0 end 0) (valueAt (τ .setting) s (coded (primitiveOf (getD s (at + 1) 0))) p)) (codeAt s (at + 1))
 
 -- 9 reference: IdRef
 unfoldable pub referenceAt : List ℕ → ℕ → Heading
@@ -137,20 +138,20 @@ unfoldable pub longNullsAt : List ℕ → ℕ → Heading
 longNullsAt s at = onNumber (λ n end. pick (positive n) (plain 0 end n) (H.Bad R.BadCount)) (u32At s (at + 1))
 
 -- 12 library: LibraryId, name
-unfoldable pub libraryAt : List ℕ → List Row → ℕ → Heading
-libraryAt s rows at =
-    onNumber (λ id p. pick (positive id && eqb (libraryRow id rows) 0) (onField (λ end. plain id end 0) (nameAt s p)) (H.Bad R.BadId)) (u32At s (at + 1))
+unfoldable pub libraryAt : Terms → List ℕ → List Row → ℕ → Heading
+libraryAt τ s rows at =
+    onNumber (λ id p. pick (positive id && eqb (libraryRow id rows) 0) (onField (λ end. plain id end 0) (nameAt (τ .setting) s p)) (H.Bad R.BadId)) (u32At s (at + 1))
 
 -- ---- classes
 
 -- a detail, and for type 4 its library known
-unfoldable pub infoKnown : List ℕ → List Row → ℕ → ℕ → Field
-infoKnown s rows type at = onEnd (λ end. pick (eqb type 4) (knownLibrary s rows end) (F.End end)) (infoAt s type at)
+unfoldable pub infoKnown : Terms → List ℕ → List Row → ℕ → ℕ → Field
+infoKnown τ s rows type at = onEnd (λ end. pick (eqb type 4) (knownLibrary s rows end) (F.End end)) (infoAt (τ .setting) s type at)
 
 -- the details of n members, their type bytes from a place on
-unfoldable pub infosAt : List ℕ → List Row → ℕ → ℕ → ℕ → Field
-infosAt s rows zero types at = F.End at
-infosAt s rows (suc n) types at = onEnd (infosAt s rows n (types + 1)) (infoKnown s rows (getD s types 0) at)
+unfoldable pub infosAt : Terms → List ℕ → List Row → ℕ → ℕ → ℕ → Field
+infosAt τ s rows zero types at = F.End at
+infosAt τ s rows (suc n) types at = onEnd (infosAt τ s rows n (types + 1)) (infoKnown τ s rows (getD s types 0) at)
 
 -- what follows the details: nothing, or the class's own LibraryId
 abbrev pub afterInfos : Bool → List ℕ → List Row → ℕ → Field
@@ -158,23 +159,23 @@ afterInfos false s rows at = F.End at
 afterInfos true s rows at = ownLibraryAt s rows at
 
 -- n members: all names, then all type bytes, then the details
-unfoldable pub membersAt : List ℕ → List Row → Bool → ℕ → ℕ → ℕ → Heading
-membersAt s rows own id n at =
+unfoldable pub membersAt : Terms → List ℕ → List Row → Bool → ℕ → ℕ → ℕ → Heading
+membersAt τ s rows own id n at =
     onField (λ types.
     onField (λ infos.
     onField (λ p.
     onField (λ end. H.Fields (record { id = id; end = end; count = n; slots = n; first = typedAt s types infos; link = types }))
     (afterInfos own s rows p))
-    (infosAt s rows n types infos))
+    (infosAt τ s rows n types infos))
     (times (typeByteAt s) n types))
-    (times (nameAt s) n at)
+    (times (nameAt (τ .setting) s) n at)
 
 -- 4 system class: ObjectId, name, member count, members; 5 class: as 4, then LibraryId
-unfoldable pub classAt : List ℕ → List Row → Bool → ℕ → Heading
-classAt s rows own at =
+unfoldable pub classAt : Terms → List ℕ → List Row → Bool → ℕ → Heading
+classAt τ s rows own at =
     onNumber (λ id p.
     pick (goodClassId rows id)
-    (onField (λ q. onNumber (λ n r. pick (negative n) (H.Bad R.BadCount) (membersAt s rows own id n r)) (u32At s q)) (nameAt s p))
+    (onField (λ q. onNumber (λ n r. pick (negative n) (H.Bad R.BadCount) (membersAt τ s rows own id n r)) (u32At s q)) (nameAt (τ .setting) s p))
     (H.Bad R.BadId))
     (u32At s (at + 1))
 
@@ -211,15 +212,15 @@ slotArrayAt s rows slot at =
     (u32At s (at + 1))
 
 -- the items of a primitive array lie in its own record
-abbrev pub withItems : List ℕ → PrimitiveCode → ℕ → ℕ → ℕ → Heading
-withItems s code id n at = onField (λ end. plain id end n) (itemsAt s code n at)
+abbrev pub withItems : Terms → List ℕ → PrimitiveCode → ℕ → ℕ → ℕ → Heading
+withItems τ s code id n at = onField (λ end. plain id end n) (itemsAt (τ .setting) s code n at)
 
 -- 15 primitive array: ObjectId, length, code, items
-unfoldable pub primitiveArrayAt : List ℕ → List Row → ℕ → Heading
-primitiveArrayAt s rows at =
+unfoldable pub primitiveArrayAt : Terms → List ℕ → List Row → ℕ → Heading
+primitiveArrayAt τ s rows at =
     onNumber (λ id p.
     pick (goodId rows id)
-    (onNumber (λ n q. pick (negative n) (H.Bad R.BadCount) (onField (withItems s (coded (primitiveOf (getD s q 0))) id n) (codeAt s q))) (u32At s p))
+    (onNumber (λ n q. pick (negative n) (H.Bad R.BadCount) (onField (withItems τ s (coded (primitiveOf (getD s q 0))) id n) (codeAt s q))) (u32At s p))
     (H.Bad R.BadId))
     (u32At s (at + 1))
 
@@ -237,55 +238,55 @@ lengthsAt s zero product at = pick (leb product 2147483647) (L.Product product a
 lengthsAt s (suc k) product at = onLength (λ n next. lengthsAt s k (product * n) next) (u32At s at)
 
 -- items of a type: primitive ones follow at once, the others fill slots
-abbrev pub itemsOf : List ℕ → ℕ → ℕ → ℕ → ℕ → SlotType → Heading
-itemsOf s id n infos at (S.Primitive c) = withItems s c id n at
-itemsOf s id n infos at S.Text = slotted id at n (alike S.Text infos)
-itemsOf s id n infos at S.Object = slotted id at n (alike S.Object infos)
-itemsOf s id n infos at S.SystemClass = slotted id at n (alike S.SystemClass infos)
-itemsOf s id n infos at S.Class = slotted id at n (alike S.Class infos)
-itemsOf s id n infos at S.ObjectArray = slotted id at n (alike S.ObjectArray infos)
-itemsOf s id n infos at S.StringArray = slotted id at n (alike S.StringArray infos)
-itemsOf s id n infos at (S.PrimitiveArray c) = slotted id at n (alike (S.PrimitiveArray c) infos)
+abbrev pub itemsOf : Terms → List ℕ → ℕ → ℕ → ℕ → ℕ → SlotType → Heading
+itemsOf τ s id n infos at (S.Primitive c) = withItems τ s c id n at
+itemsOf τ s id n infos at S.Text = slotted id at n (alike S.Text infos)
+itemsOf τ s id n infos at S.Object = slotted id at n (alike S.Object infos)
+itemsOf τ s id n infos at S.SystemClass = slotted id at n (alike S.SystemClass infos)
+itemsOf τ s id n infos at S.Class = slotted id at n (alike S.Class infos)
+itemsOf τ s id n infos at S.ObjectArray = slotted id at n (alike S.ObjectArray infos)
+itemsOf τ s id n infos at S.StringArray = slotted id at n (alike S.StringArray infos)
+itemsOf τ s id n infos at (S.PrimitiveArray c) = slotted id at n (alike (S.PrimitiveArray c) infos)
 
 -- the type byte and detail of the items
-unfoldable pub itemTypeAt : List ℕ → List Row → ℕ → ℕ → ℕ → Heading
-itemTypeAt s rows id n types =
-    onField (λ infos. onField (λ end. itemsOf s id n infos end (typedAt s types infos .slot)) (infoKnown s rows (getD s types 0) infos))
+unfoldable pub itemTypeAt : Terms → List ℕ → List Row → ℕ → ℕ → ℕ → Heading
+itemTypeAt τ s rows id n types =
+    onField (λ infos. onField (λ end. itemsOf τ s id n infos end (typedAt s types infos .slot)) (infoKnown τ s rows (getD s types 0) infos))
     (typeByteAt s types)
 
 -- rank and lengths
-unfoldable pub rankAt : List ℕ → List Row → ℕ → ℕ → ℕ → Heading
-rankAt s rows id type at =
-    onNumber (λ rank p. pick (goodRank type rank) (onSlots (itemTypeAt s rows id) (lengthsAt s rank 1 p)) (H.Bad R.BadCount)) (u32At s at)
+unfoldable pub rankAt : Terms → List ℕ → List Row → ℕ → ℕ → ℕ → Heading
+rankAt τ s rows id type at =
+    onNumber (λ rank p. pick (goodRank type rank) (onSlots (itemTypeAt τ s rows id) (lengthsAt s rank 1 p)) (H.Bad R.BadCount)) (u32At s at)
 
 -- an array type: 0 to 2 are taken, 3 to 5 refused by name
-abbrev pub arrayTypeAt : List ℕ → List Row → ℕ → ℕ → Heading
-arrayTypeAt s rows id at =
+abbrev pub arrayTypeAt : Terms → List ℕ → List Row → ℕ → ℕ → Heading
+arrayTypeAt τ s rows id at =
     pick (ltb at (length s))
-    (pick (leb (getD s at 0) 2) (rankAt s rows id (getD s at 0) (at + 1)) (pick (leb (getD s at 0) 5) (H.Bad R.NotTaken) (H.Bad R.BadType)))
+    (pick (leb (getD s at 0) 2) (rankAt τ s rows id (getD s at 0) (at + 1)) (pick (leb (getD s at 0) 5) (H.Bad R.NotTaken) (H.Bad R.BadType)))
     (H.Bad R.CutShort)
 
 -- 7 BinaryArray: ObjectId, array type, rank, lengths, type byte, type info
-unfoldable pub binaryArrayAt : List ℕ → List Row → ℕ → Heading
-binaryArrayAt s rows at = onNumber (λ id p. pick (goodId rows id) (arrayTypeAt s rows id p) (H.Bad R.BadId)) (u32At s (at + 1))
+unfoldable pub binaryArrayAt : Terms → List ℕ → List Row → ℕ → Heading
+binaryArrayAt τ s rows at = onNumber (λ id p. pick (goodId rows id) (arrayTypeAt τ s rows id p) (H.Bad R.BadId)) (u32At s (at + 1))
 
 -- ---- the fields of a record of a kind that is taken; 10 and 11 have none
 
-unfoldable pub headingAt : List ℕ → List Row → ℕ → ℕ → Heading
-headingAt s rows k at =
+unfoldable pub headingAt : Terms → List ℕ → List Row → ℕ → ℕ → Heading
+headingAt τ s rows k at =
     pick (eqb k 0) (headerAt s at)
     (pick (eqb k 1) (classByIdAt s rows at)
-    (pick (eqb k 4) (classAt s rows false at)
-    (pick (eqb k 5) (classAt s rows true at)
-    (pick (eqb k 6) (stringRecordAt s rows at)
-    (pick (eqb k 7) (binaryArrayAt s rows at)
-    (pick (eqb k 8) (typedPrimitiveAt s at)
+    (pick (eqb k 4) (classAt τ s rows false at)
+    (pick (eqb k 5) (classAt τ s rows true at)
+    (pick (eqb k 6) (stringRecordAt τ s rows at)
+    (pick (eqb k 7) (binaryArrayAt τ s rows at)
+    (pick (eqb k 8) (typedPrimitiveAt τ s at)
     (pick (eqb k 9) (referenceAt s at)
     (pick (eqb k 10) (plain 0 (at + 1) 1)
     (pick (eqb k 11) (plain 0 (at + 1) 0)
-    (pick (eqb k 12) (libraryAt s rows at)
+    (pick (eqb k 12) (libraryAt τ s rows at)
     (pick (eqb k 13) (nullsAt s at)
     (pick (eqb k 14) (longNullsAt s at)
-    (pick (eqb k 15) (primitiveArrayAt s rows at)
+    (pick (eqb k 15) (primitiveArrayAt τ s rows at)
     (pick (eqb k 16) (slotArrayAt s rows S.Object at)
     (slotArrayAt s rows S.Text at)))))))))))))))

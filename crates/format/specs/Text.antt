@@ -6,6 +6,7 @@ use lib.ListN.{length}
 use lib.Dec.{ltb, leb, eqb}
 use Rattle.format.specs.declared.Utf8.{Utf8}
 use Rattle.format.specs.declared.Refusal.the-variants as R
+use Rattle.format.specs.declared.Setting.{Setting}
 use Rattle.format.specs.declared.Setting.the-variants as Q
 use Rattle.format.specs.declared.Prefix.{Prefix}
 use Rattle.format.specs.declared.Prefix.the-variants as P
@@ -68,8 +69,8 @@ abbrev pub afterPrefix : List ℕ → Prefix → Text
 afterPrefix s (P.Length n next) = textFrom next (textAt s next n)
 afterPrefix s (P.Fault f) = T.Fault f
 
-unfoldable pub stringAt : List ℕ → ℕ → Text
-stringAt s at = afterPrefix s (prefixAt Q.Strict s at)
+unfoldable pub stringAt : Setting → List ℕ → ℕ → Text
+stringAt σ s at = afterPrefix s (prefixAt σ s at)
 
 -- ---- strings that were judged before
 

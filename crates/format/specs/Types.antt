@@ -4,6 +4,7 @@ use mathlib.Core.Bool.{Bool, true, false, _&&_, _||_, not}
 use mathlib.Core.List.{List}
 use lib.ListN.{length, getD}
 use lib.Dec.{ltb, leb, eqb}
+use Rattle.format.specs.declared.Setting.{Setting}
 use Rattle.format.specs.declared.Refusal.the-variants as R
 use Rattle.format.specs.declared.PrimitiveCode.{PrimitiveCode}
 use Rattle.format.specs.declared.PrimitiveCode.the-variants as C
@@ -88,8 +89,8 @@ endOf (T.Part from end) = F.End end
 endOf (T.Fault f) = F.Fault f
 
 -- a name at a place
-unfoldable pub nameAt : List ℕ → ℕ → Field
-nameAt s at = endOf (stringAt s at)
+unfoldable pub nameAt : Setting → List ℕ → ℕ → Field
+nameAt σ s at = endOf (stringAt σ s at)
 
 -- positive, by its unsigned bits
 abbrev pub positive : ℕ → Bool
@@ -104,11 +105,11 @@ unfoldable pub libraryIdAt : List ℕ → ℕ → Field
 libraryIdAt s at = positiveOf (u32At s at)
 
 -- the detail of a type at a place: a primitive code, a class name, a class name and a LibraryId, or nothing
-unfoldable pub infoAt : List ℕ → ℕ → ℕ → Field
-infoAt s type at =
+unfoldable pub infoAt : Setting → List ℕ → ℕ → ℕ → Field
+infoAt σ s type at =
     pick (eqb type 0 || eqb type 7) (codeAt s at)
-    (pick (eqb type 3) (nameAt s at)
-    (pick (eqb type 4) (onEnd (libraryIdAt s) (nameAt s at))
+    (pick (eqb type 3) (nameAt σ s at)
+    (pick (eqb type 4) (onEnd (libraryIdAt s) (nameAt σ s at))
     (F.End at)))
 
 -- ---- the types of slots

@@ -7,7 +7,7 @@ use lib.Dec.{ltb, leb, eqb}
 use Rattle.format.specs.declared.Refusal.the-variants as R
 use Rattle.format.specs.declared.PrimitiveCode.{PrimitiveCode}
 use Rattle.format.specs.declared.PrimitiveCode.the-variants as C
-use Rattle.format.specs.declared.Setting.the-variants as Q
+use Rattle.format.specs.declared.Setting.{Setting}
 use Rattle.format.specs.declared.Prefix.{Prefix}
 use Rattle.format.specs.declared.Prefix.the-variants as P
 use Rattle.format.specs.declared.Number64.{Number64}
@@ -95,8 +95,8 @@ abbrev pub decimalFrom : List ℕ → Prefix → Field
 decimalFrom s (P.Length n next) = decimalText s next n
 decimalFrom s (P.Fault f) = F.Fault f
 
-unfoldable pub decimalAt : List ℕ → ℕ → Field
-decimalAt s at = decimalFrom s (prefixAt Q.Strict s at)
+unfoldable pub decimalAt : Setting → List ℕ → ℕ → Field
+decimalAt σ s at = decimalFrom s (prefixAt σ s at)
 
 -- ---- DateTime (2.1.1.5; 02, (i)): the top two bits are the kind, 0 to 2; the low 62 bits are ticks without a sign, up to the last of the year 9999
 
@@ -134,22 +134,22 @@ sizeOf C.UInt16 = 2
 sizeOf C.UInt32 = 4
 sizeOf C.UInt64 = 8
 
-unfoldable pub valueAt : List ℕ → PrimitiveCode → ℕ → Field
-valueAt s C.Boolean at = booleanAt s at
-valueAt s C.Byte at = bytesAt s at 1
-valueAt s C.Char at = charAt s at
-valueAt s C.Decimal at = decimalAt s at
-valueAt s C.Double at = bytesAt s at 8
-valueAt s C.Int16 at = bytesAt s at 2
-valueAt s C.Int32 at = bytesAt s at 4
-valueAt s C.Int64 at = bytesAt s at 8
-valueAt s C.SByte at = bytesAt s at 1
-valueAt s C.Single at = bytesAt s at 4
-valueAt s C.TimeSpan at = bytesAt s at 8
-valueAt s C.DateTime at = dateTimeAt s at
-valueAt s C.UInt16 at = bytesAt s at 2
-valueAt s C.UInt32 at = bytesAt s at 4
-valueAt s C.UInt64 at = bytesAt s at 8
+unfoldable pub valueAt : Setting → List ℕ → PrimitiveCode → ℕ → Field
+valueAt σ s C.Boolean at = booleanAt s at
+valueAt σ s C.Byte at = bytesAt s at 1
+valueAt σ s C.Char at = charAt s at
+valueAt σ s C.Decimal at = decimalAt σ s at
+valueAt σ s C.Double at = bytesAt s at 8
+valueAt σ s C.Int16 at = bytesAt s at 2
+valueAt σ s C.Int32 at = bytesAt s at 4
+valueAt σ s C.Int64 at = bytesAt s at 8
+valueAt σ s C.SByte at = bytesAt s at 1
+valueAt σ s C.Single at = bytesAt s at 4
+valueAt σ s C.TimeSpan at = bytesAt s at 8
+valueAt σ s C.DateTime at = dateTimeAt s at
+valueAt σ s C.UInt16 at = bytesAt s at 2
+valueAt σ s C.UInt32 at = bytesAt s at 4
+valueAt σ s C.UInt64 at = bytesAt s at 8
 
 -- ---- values that were judged before
 
@@ -188,5 +188,5 @@ times field zero at = F.End at
 times field (suc n) at = onEnd (times field n) (field at)
 
 -- the n items of a primitive array: numbers in one step, judged values one by one
-unfoldable pub itemsAt : List ℕ → PrimitiveCode → ℕ → ℕ → Field
-itemsAt s code n at = pick (eqb (sizeOf code) 0) (times (valueAt s code) n at) (bytesAt s at (sizeOf code * n))
+unfoldable pub itemsAt : Setting → List ℕ → PrimitiveCode → ℕ → ℕ → Field
+itemsAt σ s code n at = pick (eqb (sizeOf code) 0) (times (valueAt σ s code) n at) (bytesAt s at (sizeOf code * n))

@@ -1,12 +1,42 @@
--- Worked facts of the grammar's words, on either side of each bound: scalar values and their bytes, the digits of a Decimal and its range, the ticks of
--- a DateTime.
-use Prim.Native.Nat.{ℕ, _+_, _*_, _%_, _≤_, _<_}
+-- Worked facts of the grammar's words, on either side of each bound: the widths of a prefix, scalar values and their bytes, the digits of a Decimal and its
+-- range, the ticks of a DateTime.
+use Prim.Native.Nat.{ℕ, zero, suc, _+_, _*_, _%_, _^_, _≤_, _<_}
 use mathlib.Core.Path.{_≡_, refl}
 use mathlib.Core.List.{List, [], _∷_}
 use native.Mathlib.Omega.{arith}
+use Rattle.format.specs.declared.Setting.the-variants as Q
 use Rattle.format.specs.Unicode.{Scalar, encode}
 use Rattle.format.specs.Decimals.{valueOf, written, Each, Digits, minus, point, InRange, Decimal}
-use Rattle.format.specs.Grammar.{Moment}
+use Rattle.format.specs.Grammar.{Width, Moment}
+
+-- ---- widths of a prefix
+
+-- one byte for 0 and 127, two for 128; in lenient also two for 4, and five for 0
+pub widths : Width Q.Strict 1 0 × Width Q.Strict 1 127 × Width Q.Strict 2 128 × Width Q.Lenient 2 4 × Width Q.Lenient 5 0
+widths = (
+  record { some = omega arith; most = omega arith; holds = omega arith; least = λ e v i h. i },
+  record { some = omega arith; most = omega arith; holds = omega arith; least = λ e v i h. i },
+  record { some = omega arith; most = omega arith; holds = omega arith; least = λ e v i h. two v i h },
+  record { some = omega arith; most = omega arith; holds = omega arith; least = λ e. absurd (no-strict e) },
+  record { some = omega arith; most = omega arith; holds = omega arith; least = λ e. absurd (no-strict e) },
+)
+  where
+    no-strict : Q.Lenient ≡ Q.Strict → ⊥
+    no-strict e = let z : _≡_ {A = ℕ} 0 1 = cc in omega arith
+
+    two : (v : ℕ) → 0 < v → 128 < 128 ^ v → 2 ≤ v
+    two zero i h = absurd (omega arith)
+    two (suc zero) i h = absurd (omega arith)
+    two (suc (suc v)) i h = omega arith
+
+-- strict does not pad; one byte has seven bits; a sixth byte is never one of a prefix; no bytes are none
+pub no-widths : (Width Q.Strict 2 4 → ⊥) × (Width Q.Lenient 1 128 → ⊥) × (Width Q.Lenient 6 4 → ⊥) × (Width Q.Lenient 0 0 → ⊥)
+no-widths = (
+  λ w. omega (arith, w .least refl 1 (omega arith) (omega arith)),
+  λ w. omega (arith, w .holds),
+  λ w. omega (arith, w .most),
+  λ w. omega (arith, w .some),
+)
 
 -- ---- text
 

@@ -164,7 +164,7 @@ pub enum Number64 {
     Short,
 }
 
-// How length prefixes are judged: strict takes the shortest form alone, lenient any form of at most five bytes.
+// How length prefixes are judged: strict takes the shortest form alone, lenient any form of at most five bytes whose fifth is at most 7.
 pub enum Setting {
     Strict,
     Lenient,

@@ -5,6 +5,7 @@ use mathlib.Core.Bool.{Bool, true, false}
 use mathlib.Core.List.{List}
 use lib.ListN.{getD}
 use borrow.Author.Tests.{ne-eqb}
+use Rattle.format.specs.Terms.{Terms}
 use Rattle.format.specs.declared.Refusal.{Refusal}
 use Rattle.format.specs.declared.Refusal.the-variants as R
 use Rattle.format.specs.declared.SlotType.the-variants as S
@@ -28,69 +29,69 @@ abbrev pub NoneOf : ℕ → Type 0
 NoneOf k =
     (((((((((((Unit {0} × (k ≡ 0 → ⊥)) × (k ≡ 1 → ⊥)) × (k ≡ 4 → ⊥)) × (k ≡ 5 → ⊥)) × (k ≡ 7 → ⊥)) × (k ≡ 11 → ⊥)) × (k ≡ 12 → ⊥)) × (k ≡ 13 → ⊥)) × (k ≡ 14 → ⊥)) × (k ≡ 15 → ⊥)) × (k ≡ 16 → ⊥))
 
-module _ (s : List ℕ) (rows : List Row) (k at : ℕ) where
-  pub header-heading : k ≡ 0 → headingAt s rows k at ≡ headerAt s at
+module _ (τ : Terms) (s : List ℕ) (rows : List Row) (k at : ℕ) where
+  pub header-heading : k ≡ 0 → headingAt τ s rows k at ≡ headerAt s at
   unfolding headingAt
   header-heading h = rw h
 
-  pub by-id-heading : k ≡ 1 → headingAt s rows k at ≡ classByIdAt s rows at
+  pub by-id-heading : k ≡ 1 → headingAt τ s rows k at ≡ classByIdAt s rows at
   unfolding headingAt
   by-id-heading h = rw h
 
-  pub system-heading : k ≡ 4 → headingAt s rows k at ≡ classAt s rows false at
+  pub system-heading : k ≡ 4 → headingAt τ s rows k at ≡ classAt τ s rows false at
   unfolding headingAt
   system-heading h = rw h
 
-  pub class-heading : k ≡ 5 → headingAt s rows k at ≡ classAt s rows true at
+  pub class-heading : k ≡ 5 → headingAt τ s rows k at ≡ classAt τ s rows true at
   unfolding headingAt
   class-heading h = rw h
 
-  pub string-heading : k ≡ 6 → headingAt s rows k at ≡ stringRecordAt s rows at
+  pub string-heading : k ≡ 6 → headingAt τ s rows k at ≡ stringRecordAt τ s rows at
   unfolding headingAt
   string-heading h = rw h
 
-  pub array-heading : k ≡ 7 → headingAt s rows k at ≡ binaryArrayAt s rows at
+  pub array-heading : k ≡ 7 → headingAt τ s rows k at ≡ binaryArrayAt τ s rows at
   unfolding headingAt
   array-heading h = rw h
 
-  pub typed-heading : k ≡ 8 → headingAt s rows k at ≡ typedPrimitiveAt s at
+  pub typed-heading : k ≡ 8 → headingAt τ s rows k at ≡ typedPrimitiveAt τ s at
   unfolding headingAt
   typed-heading h = rw h
 
-  pub reference-heading : k ≡ 9 → headingAt s rows k at ≡ referenceAt s at
+  pub reference-heading : k ≡ 9 → headingAt τ s rows k at ≡ referenceAt s at
   unfolding headingAt
   reference-heading h = rw h
 
-  pub null-heading : k ≡ 10 → headingAt s rows k at ≡ plain 0 (at + 1) 1
+  pub null-heading : k ≡ 10 → headingAt τ s rows k at ≡ plain 0 (at + 1) 1
   unfolding headingAt
   null-heading h = rw h
 
-  pub end-heading : k ≡ 11 → headingAt s rows k at ≡ plain 0 (at + 1) 0
+  pub end-heading : k ≡ 11 → headingAt τ s rows k at ≡ plain 0 (at + 1) 0
   unfolding headingAt
   end-heading h = rw h
 
-  pub library-heading : k ≡ 12 → headingAt s rows k at ≡ libraryAt s rows at
+  pub library-heading : k ≡ 12 → headingAt τ s rows k at ≡ libraryAt τ s rows at
   unfolding headingAt
   library-heading h = rw h
 
-  pub nulls-heading : k ≡ 13 → headingAt s rows k at ≡ nullsAt s at
+  pub nulls-heading : k ≡ 13 → headingAt τ s rows k at ≡ nullsAt s at
   unfolding headingAt
   nulls-heading h = rw h
 
-  pub long-nulls-heading : k ≡ 14 → headingAt s rows k at ≡ longNullsAt s at
+  pub long-nulls-heading : k ≡ 14 → headingAt τ s rows k at ≡ longNullsAt s at
   unfolding headingAt
   long-nulls-heading h = rw h
 
-  pub primitives-heading : k ≡ 15 → headingAt s rows k at ≡ primitiveArrayAt s rows at
+  pub primitives-heading : k ≡ 15 → headingAt τ s rows k at ≡ primitiveArrayAt τ s rows at
   unfolding headingAt
   primitives-heading h = rw h
 
-  pub objects-heading : k ≡ 16 → headingAt s rows k at ≡ slotArrayAt s rows S.Object at
+  pub objects-heading : k ≡ 16 → headingAt τ s rows k at ≡ slotArrayAt s rows S.Object at
   unfolding headingAt
   objects-heading h = rw h
 
   -- 17, and what never stands here
-  pub strings-heading : NoneOf k → isBrief k ≡ false → headingAt s rows k at ≡ slotArrayAt s rows S.Text at
+  pub strings-heading : NoneOf k → isBrief k ≡ false → headingAt τ s rows k at ≡ slotArrayAt s rows S.Text at
   unfolding headingAt
   strings-heading r b =
       let n = brief-none k b in
@@ -128,20 +129,21 @@ unfolding onJudged
 hollow-judged test refusal good (N32.Value v p) h = hollow-pick (test v) (good v p) (H.Bad refusal) (h v p) tt
 hollow-judged test refusal good N32.Short h = tt
 
-module _ (s : List ℕ) (at : ℕ) where
-  named-hollow : (id p : ℕ) → Hollow (namedAt s id p)
+module _ (τ : Terms) (s : List ℕ) (at : ℕ) where
+  named-hollow : (id p : ℕ) → Hollow (namedAt τ s id p)
   unfolding namedAt
-  named-hollow id p = hollow-field (λ end. plain id end 0) (nameAt s p) (λ e. refl)
+  named-hollow id p = hollow-field (λ end. plain id end 0) (nameAt (τ .setting) s p) (λ e. refl)
 
-  pub string-hollow : (rows : List Row) → Hollow (stringRecordAt s rows at)
-  string-hollow rows = rw (string-parts s at rows) (hollow-judged (goodId rows) R.BadId (namedAt s) (u32At s (at + 1)) named-hollow)
+  pub string-hollow : (rows : List Row) → Hollow (stringRecordAt τ s rows at)
+  string-hollow rows = rw (string-parts τ s at rows) (hollow-judged (goodId rows) R.BadId (namedAt τ s) (u32At s (at + 1)) named-hollow)
 
-  pub typed-hollow : Hollow (typedPrimitiveAt s at)
+  pub typed-hollow : Hollow (typedPrimitiveAt τ s at)
   unfolding typedPrimitiveAt
   typed-hollow =
       let code = coded (primitiveOf (getD s (at + 1) 0)) in
-      hollow-field (λ p. onField (λ end. plain 0 end 0) (valueAt s code p)) (codeAt s (at + 1)) (λ p.
-      hollow-field (λ end. plain 0 end 0) (valueAt s code p) (λ e. refl))
+      hollow-field (λ p. onField (λ end. plain 0 end 0) (valueAt (τ .setting) s code p)) (codeAt s (at + 1)) (λ p.
+      hollow-field (λ end. plain 0 end 0) (valueAt (τ .setting) s code p) (λ e. refl))
 
+module _ (s : List ℕ) (at : ℕ) where
   pub reference-hollow : Hollow (referenceAt s at)
   reference-hollow = rw (reference-parts s at) (hollow-judged positive R.BadId (λ id end. plain id end 0) (u32At s (at + 1)) (λ id p. refl))

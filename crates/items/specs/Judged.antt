@@ -8,6 +8,7 @@ use native.Mathlib.Decide.{decLt}
 use lib.ListN.{length, getD}
 use lib.Dec.{ltb, leb, eqb}
 use borrow.Author.Tests.{eqb-false, lt-ltb, le-ltb, le-leb, lt-leb}
+use Rattle.format.specs.declared.Setting.{Setting}
 use Rattle.format.specs.declared.Refusal.the-variants as R
 use Rattle.format.specs.declared.Setting.the-variants as Q
 use Rattle.format.specs.declared.Prefix.{Prefix}
@@ -94,14 +95,14 @@ module _ (s : List ℕ) (p e : ℕ) where
 
 -- ---- Decimal: a prefix, and as many bytes as it says
 
-pub decimal-told : (s : List ℕ) (p e : ℕ) → decimalAt s p ≡ F.End e → (n : ℕ) × (a : ℕ) × Counted decimal R.BadValue s p n a e
+pub decimal-told : (σ : Setting) (s : List ℕ) (p e : ℕ) → decimalAt σ s p ≡ F.End e → (n : ℕ) × (a : ℕ) × Counted σ decimal R.BadValue s p n a e
 unfolding decimalAt decimalText judgedAt
-decimal-told s p e q = go (prefixAt Q.Strict s p) refl q
+decimal-told σ s p e q = go (prefixAt σ s p) refl q
   where
-    go : (r : Prefix) → prefixAt Q.Strict s p ≡ r → decimalFrom s r ≡ F.End e → (n : ℕ) × (a : ℕ) × Counted decimal R.BadValue s p n a e
+    go : (r : Prefix) → prefixAt σ s p ≡ r → decimalFrom s r ≡ F.End e → (n : ℕ) × (a : ℕ) × Counted σ decimal R.BadValue s p n a e
     go (P.Length n a) h q = (n, a, record { says = h; ends = q })
     go (P.Fault f) h q = absurd (no-end f e q)
 
-pub decimal-of : (s : List ℕ) (p n a e : ℕ) → Counted decimal R.BadValue s p n a e → decimalAt s p ≡ F.End e
+pub decimal-of : (σ : Setting) (s : List ℕ) (p n a e : ℕ) → Counted σ decimal R.BadValue s p n a e → decimalAt σ s p ≡ F.End e
 unfolding decimalAt decimalText judgedAt
-decimal-of s p n a e c = rw (c .says) (c .ends)
+decimal-of σ s p n a e c = rw (c .says) (c .ends)

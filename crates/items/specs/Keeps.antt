@@ -8,6 +8,7 @@ use native.Mathlib.Nat.{mul-le-mul}
 use lib.ListN.{length, drop}
 use lib.Dec.{eqb}
 use borrow.Author.Tests.{eqb-false}
+use Rattle.format.specs.declared.Setting.{Setting}
 use Rattle.format.specs.declared.Refusal.the-variants as R
 use Rattle.format.specs.declared.PrimitiveCode.{PrimitiveCode}
 use Rattle.format.specs.declared.PrimitiveCode.the-variants as C
@@ -39,38 +40,38 @@ date-local = same-local dateTimeAt (λ s p. judgedAt moment R.BadValue s p 8) da
 pub char-local : Local charAt
 char-local = local-of oneScalar charWidth charAt (λ b. omega arith) char-taken char-of
 
-pub decimal-local : Local decimalAt
-decimal-local = record { moves = moves; only = only }
+pub decimal-local : (σ : Setting) → Local (decimalAt σ)
+decimal-local σ = record { moves = moves; only = only }
   where
-    moves : (s : List ℕ) (p e : ℕ) → decimalAt s p ≡ F.End e → (p ≤ e) × (e ≤ length s)
+    moves : (s : List ℕ) (p e : ℕ) → decimalAt σ s p ≡ F.End e → (p ≤ e) × (e ≤ length s)
     moves s p e q =
-        let w = decimal-told s p e q in
-        let m = counted-moves decimal R.BadValue s p (w .0) (w .1) e (w .2) in
+        let w = decimal-told σ s p e q in
+        let m = counted-moves σ decimal R.BadValue s p (w .0) (w .1) e (w .2) in
         (omega arith, omega arith)
 
-    only : (s t rest : List ℕ) (p q e : ℕ) → decimalAt s p ≡ F.End e → drop q t ≡ part s p (e - p) ++ rest → decimalAt t q ≡ F.End (q + (e - p))
+    only : (s t rest : List ℕ) (p q e : ℕ) → decimalAt σ s p ≡ F.End e → drop q t ≡ part s p (e - p) ++ rest → decimalAt σ t q ≡ F.End (q + (e - p))
     only s t rest p q e h d =
-        let w = decimal-told s p e h in
-        let c = counted-only decimal R.BadValue s t rest p q (w .0) (w .1) e (w .2) d in
-        decimal-of t q (w .0) (q + (w .1 - p)) (q + (e - p)) c
+        let w = decimal-told σ s p e h in
+        let c = counted-only σ decimal R.BadValue s t rest p q (w .0) (w .1) e (w .2) d in
+        decimal-of σ t q (w .0) (q + (w .1 - p)) (q + (e - p)) c
 
-pub value-local : (code : PrimitiveCode) → Local (λ s p. valueAt s code p)
+pub value-local : (σ : Setting) (code : PrimitiveCode) → Local (λ s p. valueAt σ s code p)
 unfolding valueAt
-value-local C.Boolean = boolean-local
-value-local C.Byte = bytes-local 1 (omega arith)
-value-local C.Char = char-local
-value-local C.Decimal = decimal-local
-value-local C.Double = bytes-local 8 (omega arith)
-value-local C.Int16 = bytes-local 2 (omega arith)
-value-local C.Int32 = bytes-local 4 (omega arith)
-value-local C.Int64 = bytes-local 8 (omega arith)
-value-local C.SByte = bytes-local 1 (omega arith)
-value-local C.Single = bytes-local 4 (omega arith)
-value-local C.TimeSpan = bytes-local 8 (omega arith)
-value-local C.DateTime = date-local
-value-local C.UInt16 = bytes-local 2 (omega arith)
-value-local C.UInt32 = bytes-local 4 (omega arith)
-value-local C.UInt64 = bytes-local 8 (omega arith)
+value-local σ C.Boolean = boolean-local
+value-local σ C.Byte = bytes-local 1 (omega arith)
+value-local σ C.Char = char-local
+value-local σ C.Decimal = decimal-local σ
+value-local σ C.Double = bytes-local 8 (omega arith)
+value-local σ C.Int16 = bytes-local 2 (omega arith)
+value-local σ C.Int32 = bytes-local 4 (omega arith)
+value-local σ C.Int64 = bytes-local 8 (omega arith)
+value-local σ C.SByte = bytes-local 1 (omega arith)
+value-local σ C.Single = bytes-local 4 (omega arith)
+value-local σ C.TimeSpan = bytes-local 8 (omega arith)
+value-local σ C.DateTime = date-local
+value-local σ C.UInt16 = bytes-local 2 (omega arith)
+value-local σ C.UInt32 = bytes-local 4 (omega arith)
+value-local σ C.UInt64 = bytes-local 8 (omega arith)
 
 -- ---- at least one byte
 
@@ -79,55 +80,55 @@ bytes-some s p n e h q =
     let w = judged-taken any R.BadValue s p n e (sym (bytes-judged s p n) ∙ q) in
     omega arith
 
-value-some : (s : List ℕ) (code : PrimitiveCode) (p e : ℕ) → valueAt s code p ≡ F.End e → p < e
+value-some : (σ : Setting) (s : List ℕ) (code : PrimitiveCode) (p e : ℕ) → valueAt σ s code p ≡ F.End e → p < e
 unfolding valueAt
-value-some s C.Boolean p e q =
+value-some σ s C.Boolean p e q =
     let w = judged-taken truth R.BadValue s p 1 e (sym (boolean-judged s p) ∙ q) in
     omega arith
-value-some s C.Byte p e q = bytes-some s p 1 e (omega arith) q
-value-some s C.Char p e q =
+value-some σ s C.Byte p e q = bytes-some s p 1 e (omega arith) q
+value-some σ s C.Char p e q =
     let w = char-taken s p e q in
     omega arith
-value-some s C.Decimal p e q =
-    let w = decimal-told s p e q in
-    let m = counted-moves decimal R.BadValue s p (w .0) (w .1) e (w .2) in
+value-some σ s C.Decimal p e q =
+    let w = decimal-told σ s p e q in
+    let m = counted-moves σ decimal R.BadValue s p (w .0) (w .1) e (w .2) in
     omega arith
-value-some s C.Double p e q = bytes-some s p 8 e (omega arith) q
-value-some s C.Int16 p e q = bytes-some s p 2 e (omega arith) q
-value-some s C.Int32 p e q = bytes-some s p 4 e (omega arith) q
-value-some s C.Int64 p e q = bytes-some s p 8 e (omega arith) q
-value-some s C.SByte p e q = bytes-some s p 1 e (omega arith) q
-value-some s C.Single p e q = bytes-some s p 4 e (omega arith) q
-value-some s C.TimeSpan p e q = bytes-some s p 8 e (omega arith) q
-value-some s C.DateTime p e q =
+value-some σ s C.Double p e q = bytes-some s p 8 e (omega arith) q
+value-some σ s C.Int16 p e q = bytes-some s p 2 e (omega arith) q
+value-some σ s C.Int32 p e q = bytes-some s p 4 e (omega arith) q
+value-some σ s C.Int64 p e q = bytes-some s p 8 e (omega arith) q
+value-some σ s C.SByte p e q = bytes-some s p 1 e (omega arith) q
+value-some σ s C.Single p e q = bytes-some s p 4 e (omega arith) q
+value-some σ s C.TimeSpan p e q = bytes-some s p 8 e (omega arith) q
+value-some σ s C.DateTime p e q =
     let w = judged-taken moment R.BadValue s p 8 e (sym (date-judged s p) ∙ q) in
     omega arith
-value-some s C.UInt16 p e q = bytes-some s p 2 e (omega arith) q
-value-some s C.UInt32 p e q = bytes-some s p 4 e (omega arith) q
-value-some s C.UInt64 p e q = bytes-some s p 8 e (omega arith) q
+value-some σ s C.UInt16 p e q = bytes-some s p 2 e (omega arith) q
+value-some σ s C.UInt32 p e q = bytes-some s p 4 e (omega arith) q
+value-some σ s C.UInt64 p e q = bytes-some s p 8 e (omega arith) q
 
-pub value-moves : (s : List ℕ) (code : PrimitiveCode) (p e : ℕ) → valueAt s code p ≡ F.End e → (p < e) × (e ≤ length s)
-value-moves s code p e q = (value-some s code p e q, value-local code .moves s p e q .1)
+pub value-moves : (σ : Setting) (s : List ℕ) (code : PrimitiveCode) (p e : ℕ) → valueAt σ s code p ≡ F.End e → (p < e) × (e ≤ length s)
+value-moves σ s code p e q = (value-some σ s code p e q, value-local σ code .moves s p e q .1)
 
 -- ---- the items
 
 -- from places within the streams, also of no items
-pub items-kept : (code : PrimitiveCode) (n : ℕ) → Kept (λ s p. itemsAt s code n p)
+pub items-kept : (σ : Setting) (code : PrimitiveCode) (n : ℕ) → Kept (λ s p. itemsAt σ s code n p)
 unfolding itemsAt
-items-kept code n = go (eqb (sizeOf code) 0)
+items-kept σ code n = go (eqb (sizeOf code) 0)
   where
-    go : (t : Bool) → Kept (λ s p. pick t (times (valueAt s code) n p) (bytesAt s p (sizeOf code * n)))
-    go true = times-kept (λ s p. valueAt s code p) (local-kept (λ s p. valueAt s code p) (value-local code)) n
+    go : (t : Bool) → Kept (λ s p. pick t (times (valueAt σ s code) n p) (bytesAt s p (sizeOf code * n)))
+    go true = times-kept (λ s p. valueAt σ s code p) (local-kept (λ s p. valueAt σ s code p) (value-local σ code)) n
     go false = bytes-kept (sizeOf code * n)
 
 -- Past the end of the stream no judged values end where they begin, and no bytes are cut short: hence 0 < n.
-pub items-local : (code : PrimitiveCode) (n : ℕ) → 0 < n → Local (λ s p. itemsAt s code n p)
+pub items-local : (σ : Setting) (code : PrimitiveCode) (n : ℕ) → 0 < n → Local (λ s p. itemsAt σ s code n p)
 unfolding itemsAt
-items-local code zero h = absurd (omega arith)
-items-local code (suc n) h = go (eqb (sizeOf code) 0) refl
+items-local σ code zero h = absurd (omega arith)
+items-local σ code (suc n) h = go (eqb (sizeOf code) 0) refl
   where
-    go : (t : Bool) → eqb (sizeOf code) 0 ≡ t → Local (λ s p. pick t (times (valueAt s code) (suc n) p) (bytesAt s p (sizeOf code * suc n)))
-    go true e = times-local (λ s p. valueAt s code p) (value-local code) n
+    go : (t : Bool) → eqb (sizeOf code) 0 ≡ t → Local (λ s p. pick t (times (valueAt σ s code) (suc n) p) (bytesAt s p (sizeOf code * suc n)))
+    go true e = times-local (λ s p. valueAt σ s code p) (value-local σ code) n
     go false e =
         let some : 1 ≤ sizeOf code = let z = eqb-false (sizeOf code) 0 e in omega arith in
         bytes-local (sizeOf code * suc n) (mul-le-mul {n₁ = 1} {m₁ = 1} {n₂ = sizeOf code} {m₂ = suc n} some (omega arith))

@@ -7,6 +7,7 @@ use mathlib.Core.List.{List, [], _∷_, _++_}
 use native.Mathlib.Omega.{arith}
 use lib.Dec.{eqb}
 use borrow.Author.Tests.{eqb-true, eqb-false, eq-eqb, ne-eqb, not-true}
+use Rattle.format.specs.Terms.{Terms}
 use Rattle.format.specs.declared.SlotType.{SlotType}
 use Rattle.format.specs.declared.Row.{Row}
 use Rattle.format.specs.Bytes.{pick}
@@ -35,13 +36,13 @@ pub shown-more : {rs : List Rec} {rows : List Row} (it : Row) (r : Rec) (kind at
     → idOf r ≡ pick (isObject kind) (id ∷ []) [] → refOf r ≡ pick (eqb kind 9) (id ∷ []) [] → Shown rs rows → Shown (r ∷ rs) (it ∷ rows)
 shown-more it r kind at id own slot link count e i f w = record { ids = rw (e, i, w .ids); refs = rw (e, f, w .refs) }
 
-pub array-shown : {es : List Entry} {k id n : ℕ} {r : Rec} {ts : List SlotType} → Array es r k id n ts
+pub array-shown : (τ : Terms) {es : List Entry} {k id n : ℕ} {r : Rec} {ts : List SlotType} → Array τ es r k id n ts
     → (idOf r ≡ pick (isObject k) (id ∷ []) []) × (refOf r ≡ pick (eqb k 9) (id ∷ []) [])
-array-shown (of-objects a) = (refl, refl)
-array-shown (of-strings a) = (refl, refl)
-array-shown (of-primitives a b) = (refl, refl)
-array-shown (of-any a b c d e) = (refl, refl)
-array-shown (of-values a b c) = (refl, refl)
+array-shown τ (of-objects a) = (refl, refl)
+array-shown τ (of-strings a) = (refl, refl)
+array-shown τ (of-primitives a b) = (refl, refl)
+array-shown τ (of-any a b c d e) = (refl, refl)
+array-shown τ (of-values a b c) = (refl, refl)
 
 -- ---- along a derivation
 
@@ -49,35 +50,35 @@ abbrev ShownIn : Cur → Type 0
 ShownIn (cur at row es rs is) = Shown rs is
 
 mutual
-  object-shown : {room own slot : ℕ} {c c₁ : Cur} → Object room own slot c c₁ → ShownIn c₁ → ShownIn c
-  object-shown (system-class a b q d) k = shown-more _ _ 4 _ _ _ _ _ _ q refl refl (body-shown d k)
-  object-shown (library-class a b l q d) k = shown-more _ _ 5 _ _ _ _ _ _ q refl refl (body-shown d k)
-  object-shown (class-by-id a b f q d) k = shown-more _ _ 1 _ _ _ _ _ _ q refl refl (body-shown d k)
+  object-shown : (τ : Terms) {room own slot : ℕ} {c c₁ : Cur} → Object τ room own slot c c₁ → ShownIn c₁ → ShownIn c
+  object-shown τ (system-class a b q d) k = shown-more _ _ 4 _ _ _ _ _ _ q refl refl (body-shown τ d k)
+  object-shown τ (library-class a b l q d) k = shown-more _ _ 5 _ _ _ _ _ _ q refl refl (body-shown τ d k)
+  object-shown τ (class-by-id a b f q d) k = shown-more _ _ 1 _ _ _ _ _ _ q refl refl (body-shown τ d k)
 
-  body-shown : {room row : ℕ} {ts : List SlotType} {c c₁ : Cur} → Body room row ts c c₁ → ShownIn c₁ → ShownIn c
-  body-shown hollow k = k
-  body-shown (filled d) k = slots-shown d k
+  body-shown : (τ : Terms) {room row : ℕ} {ts : List SlotType} {c c₁ : Cur} → Body τ room row ts c c₁ → ShownIn c₁ → ShownIn c
+  body-shown τ hollow k = k
+  body-shown τ (filled d) k = slots-shown τ d k
 
-  slots-shown : {room own slot : ℕ} {ts : List SlotType} {c c₁ : Cur} → Slots room own slot ts c c₁ → ShownIn c₁ → ShownIn c
-  slots-shown full k = k
-  slots-shown (member-value a q d) k = shown-more _ _ 32 _ _ _ _ _ _ q refl refl (slots-shown d k)
-  slots-shown (an-object t a d) k = object-shown a (slots-shown d k)
-  slots-shown (a-string t a b q d) k = shown-more _ _ 6 _ _ _ _ _ _ q refl refl (slots-shown d k)
-  slots-shown (a-typed-primitive t a q d) k = shown-more _ _ 8 _ _ _ _ _ _ q refl refl (slots-shown d k)
-  slots-shown (a-reference t a q d) k = shown-more _ _ 9 _ _ _ _ _ _ q refl refl (slots-shown d k)
-  slots-shown (a-null t q d) k = shown-more _ _ 10 _ _ _ _ _ _ q refl refl (slots-shown d k)
-  slots-shown (a-run t a b e u q d) k = shown-more _ _ 13 _ _ _ _ _ _ q refl refl (slots-shown d k)
-  slots-shown (a-long-run t a b e u q d) k = shown-more _ _ 14 _ _ _ _ _ _ q refl refl (slots-shown d k)
-  slots-shown (a-library t a b n q d) k = shown-more _ _ 12 _ _ _ _ _ _ q refl refl (slots-shown d k)
+  slots-shown : (τ : Terms) {room own slot : ℕ} {ts : List SlotType} {c c₁ : Cur} → Slots τ room own slot ts c c₁ → ShownIn c₁ → ShownIn c
+  slots-shown τ full k = k
+  slots-shown τ (member-value a q d) k = shown-more _ _ 32 _ _ _ _ _ _ q refl refl (slots-shown τ d k)
+  slots-shown τ (an-object t a d) k = object-shown τ a (slots-shown τ d k)
+  slots-shown τ (a-string t a b q d) k = shown-more _ _ 6 _ _ _ _ _ _ q refl refl (slots-shown τ d k)
+  slots-shown τ (a-typed-primitive t a q d) k = shown-more _ _ 8 _ _ _ _ _ _ q refl refl (slots-shown τ d k)
+  slots-shown τ (a-reference t a q d) k = shown-more _ _ 9 _ _ _ _ _ _ q refl refl (slots-shown τ d k)
+  slots-shown τ (a-null t q d) k = shown-more _ _ 10 _ _ _ _ _ _ q refl refl (slots-shown τ d k)
+  slots-shown τ (a-run t a b e u q d) k = shown-more _ _ 13 _ _ _ _ _ _ q refl refl (slots-shown τ d k)
+  slots-shown τ (a-long-run t a b e u q d) k = shown-more _ _ 14 _ _ _ _ _ _ q refl refl (slots-shown τ d k)
+  slots-shown τ (a-library t a b n q d) k = shown-more _ _ 12 _ _ _ _ _ _ q refl refl (slots-shown τ d k)
 
-pub objects-shown : {c : Cur} → Objects c → ShownIn c
-objects-shown (the-end q) = shown-more _ _ 11 _ _ _ _ _ _ q refl refl (record { ids = refl; refs = refl })
-objects-shown (one-object a d) = object-shown a (objects-shown d)
-objects-shown (one-string a b q d) = shown-more _ _ 6 _ _ _ _ _ _ q refl refl (objects-shown d)
-objects-shown (one-array {kind = kind} a b q d f) =
-    let w = array-shown b in
-    shown-more _ _ kind _ _ _ _ _ _ q (w .0) (w .1) (body-shown d (objects-shown f))
-objects-shown (one-library a b n q d) = shown-more _ _ 12 _ _ _ _ _ _ q refl refl (objects-shown d)
+pub objects-shown : (τ : Terms) {c : Cur} → Objects τ c → ShownIn c
+objects-shown τ (the-end q) = shown-more _ _ 11 _ _ _ _ _ _ q refl refl (record { ids = refl; refs = refl })
+objects-shown τ (one-object a d) = object-shown τ a (objects-shown τ d)
+objects-shown τ (one-string a b q d) = shown-more _ _ 6 _ _ _ _ _ _ q refl refl (objects-shown τ d)
+objects-shown τ (one-array {kind = kind} a b q d f) =
+    let w = array-shown τ b in
+    shown-more _ _ kind _ _ _ _ _ _ q (w .0) (w .1) (body-shown τ d (objects-shown τ f))
+objects-shown τ (one-library a b n q d) = shown-more _ _ 12 _ _ _ _ _ _ q refl refl (objects-shown τ d)
 
 -- ---- lookups among the rows against the ids of the records
 

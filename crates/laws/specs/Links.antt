@@ -9,6 +9,7 @@ use native.Mathlib.Nat.{zero-add}
 use lib.ListN.{length, getD}
 use lib.Dec.{eqb}
 use borrow.Author.Tests.{eqb-true, eqb-false, eq-eqb, ne-eqb}
+use Rattle.format.specs.Terms.{Terms}
 use Rattle.format.specs.declared.SlotType.{SlotType}
 use Rattle.format.specs.declared.Row.{Row}
 use Rattle.format.specs.Bytes.{pick}
@@ -114,45 +115,45 @@ itself i = rw (eq-eqb i i refl)
 abbrev ReadyIn : Cur → Type 0
 ReadyIn (cur at row es rs is) = Ready es rs is
 
-array-kind : {es : List Entry} {k id n : ℕ} {r : Rec} {ts : List SlotType} → Array es r k id n ts
+array-kind : (τ : Terms) {es : List Entry} {k id n : ℕ} {r : Rec} {ts : List SlotType} → Array τ es r k id n ts
     → (isObject k ≡ true) × ((idOf r ≡ id ∷ []) × ((_≡_ {A = ℕ} (pick (eqb k 1) 0 0) 0) × (eqb k 0 ≡ false)))
-array-kind (of-objects a) = (refl, (refl, (refl, refl)))
-array-kind (of-strings a) = (refl, (refl, (refl, refl)))
-array-kind (of-primitives a b) = (refl, (refl, (refl, refl)))
-array-kind (of-any a b c d e) = (refl, (refl, (refl, refl)))
-array-kind (of-values a b c) = (refl, (refl, (refl, refl)))
+array-kind τ (of-objects a) = (refl, (refl, (refl, refl)))
+array-kind τ (of-strings a) = (refl, (refl, (refl, refl)))
+array-kind τ (of-primitives a b) = (refl, (refl, (refl, refl)))
+array-kind τ (of-any a b c d e) = (refl, (refl, (refl, refl)))
+array-kind τ (of-values a b c) = (refl, (refl, (refl, refl)))
 
 mutual
-  object-ready : {room own slot : ℕ} {c c₁ : Cur} → Object room own slot c c₁ → ReadyIn c₁ → ReadyIn c
-  object-ready (system-class {row = row} {i = i} {ms = ms} a b q d) k = row-own (aClass i (suc row) (typesOf ms)) _ _ 4 _ _ _ _ _ _ q refl refl refl refl (a .fresh) (itself i) (body-ready d k)
-  object-ready (library-class {row = row} {i = i} {ms = ms} a b l q d) k = row-own (aClass i (suc row) (typesOf ms)) _ _ 5 _ _ _ _ _ _ q refl refl refl refl (a .fresh) (itself i) (body-ready d k)
-  object-ready (class-by-id {i = i} a b f q d) k = row-own (another i) _ _ 1 _ _ _ _ _ _ q refl refl refl refl (a .fresh) (itself i) (body-ready d k)
+  object-ready : (τ : Terms) {room own slot : ℕ} {c c₁ : Cur} → Object τ room own slot c c₁ → ReadyIn c₁ → ReadyIn c
+  object-ready τ (system-class {row = row} {i = i} {ms = ms} a b q d) k = row-own (aClass i (suc row) (typesOf ms)) _ _ 4 _ _ _ _ _ _ q refl refl refl refl (a .fresh) (itself i) (body-ready τ d k)
+  object-ready τ (library-class {row = row} {i = i} {ms = ms} a b l q d) k = row-own (aClass i (suc row) (typesOf ms)) _ _ 5 _ _ _ _ _ _ q refl refl refl refl (a .fresh) (itself i) (body-ready τ d k)
+  object-ready τ (class-by-id {i = i} a b f q d) k = row-own (another i) _ _ 1 _ _ _ _ _ _ q refl refl refl refl (a .fresh) (itself i) (body-ready τ d k)
 
-  body-ready : {room row : ℕ} {ts : List SlotType} {c c₁ : Cur} → Body room row ts c c₁ → ReadyIn c₁ → ReadyIn c
-  body-ready hollow k = k
-  body-ready (filled d) k = slots-ready d k
+  body-ready : (τ : Terms) {room row : ℕ} {ts : List SlotType} {c c₁ : Cur} → Body τ room row ts c c₁ → ReadyIn c₁ → ReadyIn c
+  body-ready τ hollow k = k
+  body-ready τ (filled d) k = slots-ready τ d k
 
-  slots-ready : {room own slot : ℕ} {ts : List SlotType} {c c₁ : Cur} → Slots room own slot ts c c₁ → ReadyIn c₁ → ReadyIn c
-  slots-ready full k = k
-  slots-ready (member-value a q d) k = row-other _ _ 32 _ _ _ _ _ _ q refl refl refl refl (slots-ready d k)
-  slots-ready (an-object t a d) k = object-ready a (slots-ready d k)
-  slots-ready (a-string {i = i} t a b q d) k = row-own (another i) _ _ 6 _ _ _ _ _ _ q refl refl refl refl (a .fresh) (itself i) (slots-ready d k)
-  slots-ready (a-typed-primitive t a q d) k = row-other _ _ 8 _ _ _ _ _ _ q refl refl refl refl (slots-ready d k)
-  slots-ready (a-reference t a q d) k = row-other _ _ 9 _ _ _ _ _ _ q refl refl refl refl (slots-ready d k)
-  slots-ready (a-null t q d) k = row-other _ _ 10 _ _ _ _ _ _ q refl refl refl refl (slots-ready d k)
-  slots-ready (a-run t a b e u q d) k = row-other _ _ 13 _ _ _ _ _ _ q refl refl refl refl (slots-ready d k)
-  slots-ready (a-long-run t a b e u q d) k = row-other _ _ 14 _ _ _ _ _ _ q refl refl refl refl (slots-ready d k)
-  slots-ready (a-library {i = i} t a b n q d) k = row-other _ _ 12 _ _ _ _ _ _ q refl refl refl refl (aside i (slots-ready d k))
+  slots-ready : (τ : Terms) {room own slot : ℕ} {ts : List SlotType} {c c₁ : Cur} → Slots τ room own slot ts c c₁ → ReadyIn c₁ → ReadyIn c
+  slots-ready τ full k = k
+  slots-ready τ (member-value a q d) k = row-other _ _ 32 _ _ _ _ _ _ q refl refl refl refl (slots-ready τ d k)
+  slots-ready τ (an-object t a d) k = object-ready τ a (slots-ready τ d k)
+  slots-ready τ (a-string {i = i} t a b q d) k = row-own (another i) _ _ 6 _ _ _ _ _ _ q refl refl refl refl (a .fresh) (itself i) (slots-ready τ d k)
+  slots-ready τ (a-typed-primitive t a q d) k = row-other _ _ 8 _ _ _ _ _ _ q refl refl refl refl (slots-ready τ d k)
+  slots-ready τ (a-reference t a q d) k = row-other _ _ 9 _ _ _ _ _ _ q refl refl refl refl (slots-ready τ d k)
+  slots-ready τ (a-null t q d) k = row-other _ _ 10 _ _ _ _ _ _ q refl refl refl refl (slots-ready τ d k)
+  slots-ready τ (a-run t a b e u q d) k = row-other _ _ 13 _ _ _ _ _ _ q refl refl refl refl (slots-ready τ d k)
+  slots-ready τ (a-long-run t a b e u q d) k = row-other _ _ 14 _ _ _ _ _ _ q refl refl refl refl (slots-ready τ d k)
+  slots-ready τ (a-library {i = i} t a b n q d) k = row-other _ _ 12 _ _ _ _ _ _ q refl refl refl refl (aside i (slots-ready τ d k))
 
-objects-ready : {c : Cur} → Objects c → ReadyIn c
-objects-ready (the-end q) =
+objects-ready : (τ : Terms) {c : Cur} → Objects τ c → ReadyIn c
+objects-ready τ (the-end q) =
     row-other _ _ 11 _ _ _ _ _ _ q refl refl refl refl (record { beside = no-rows; unused = λ i m. apart m; once = tt; later = tt })
-objects-ready (one-object a d) = object-ready a (objects-ready d)
-objects-ready (one-string {i = i} a b q d) = row-own (another i) _ _ 6 _ _ _ _ _ _ q refl refl refl refl (a .fresh) (itself i) (objects-ready d)
-objects-ready (one-array {kind = kind} {i = i} a b q d f) =
-    let w = array-kind b in
-    row-own (another i) _ _ kind _ _ _ _ _ _ q (w .0) (w .1 .0) (w .1 .1 .0) (w .1 .1 .1) (a .fresh) (itself i) (body-ready d (objects-ready f))
-objects-ready (one-library {i = i} a b n q d) = row-other _ _ 12 _ _ _ _ _ _ q refl refl refl refl (aside i (objects-ready d))
+objects-ready τ (one-object a d) = object-ready τ a (objects-ready τ d)
+objects-ready τ (one-string {i = i} a b q d) = row-own (another i) _ _ 6 _ _ _ _ _ _ q refl refl refl refl (a .fresh) (itself i) (objects-ready τ d)
+objects-ready τ (one-array {kind = kind} {i = i} a b q d f) =
+    let w = array-kind τ b in
+    row-own (another i) _ _ kind _ _ _ _ _ _ q (w .0) (w .1 .0) (w .1 .1 .0) (w .1 .1 .1) (a .fresh) (itself i) (body-ready τ d (objects-ready τ f))
+objects-ready τ (one-library {i = i} a b n q d) = row-other _ _ 12 _ _ _ _ _ _ q refl refl refl refl (aside i (objects-ready τ d))
 
 -- ---- the row of a number
 
@@ -282,12 +283,12 @@ module _ (all : List Rec) (raw : List Row) (besides : Besides all raw) (once : O
 
 -- ---- the rows of a reading
 
-module _ (root h : ℕ) (rs : List Rec) (is : List Row) (d : Objects (cur 17 1 [] rs is)) where
+module _ (τ : Terms) (root h : ℕ) (rs : List Rec) (is : List Row) (d : Objects τ (cur 17 1 [] rs is)) where
   abbrev first : Row
   first = rowOf 0 0 (header root h) root 0 0 0 0
 
   ready : Ready [] rs is
-  ready = objects-ready d
+  ready = objects-ready τ d
 
   all-beside : Besides (header root h ∷ rs) (first ∷ is)
   all-beside = one-row (record { ids = refl; kept = refl }) (ready .beside)
@@ -302,7 +303,7 @@ module _ (root h : ℕ) (rs : List Rec) (is : List Row) (d : Objects (cur 17 1 [
       → Links (header root h ∷ rs) (first ∷ is) (linked (first ∷ is))
   unfolding linked
   linked-links r t =
-      let w = objects-shown d in
+      let w = objects-shown τ d in
       let shown : Shown (header root h ∷ rs) (first ∷ is) = shown-more first (header root h) 0 0 root 0 0 0 0 refl refl refl w in
       let there : (i : ℕ) → among i (idsOf rs) ≡ true → eqb (objectRow i (first ∷ is)) 0 ≡ false = id-there (header root h ∷ rs) (first ∷ is) shown in
       one-link
@@ -312,5 +313,5 @@ module _ (root h : ℕ) (rs : List Rec) (is : List Row) (d : Objects (cur 17 1 [
       (λ i m. there i (t i (ap (among i) (w .refs) ∙ m))))
 
 -- the rows of a reading are those that the machine's pass makes of its rows without links
-pub rows-are : {s : List ℕ} {rows : List Row} (w : Reading s rows) → rows ≡ linked (rowOf 0 0 (header (w .root) (w .header-id)) (w .root) 0 0 0 0 ∷ w .is)
-rows-are {rows = rows} w = links-linked (w .root) (w .header-id) (w .rs) (w .is) (w .objects-are) rows (w .links-are)
+pub rows-are : (τ : Terms) {s : List ℕ} {rows : List Row} (w : Reading τ s rows) → rows ≡ linked (rowOf 0 0 (header (w .root) (w .header-id)) (w .root) 0 0 0 0 ∷ w .is)
+rows-are τ {rows = rows} w = links-linked τ (w .root) (w .header-id) (w .rs) (w .is) (w .objects-are) rows (w .links-are)

@@ -7,6 +7,7 @@ use native.Mathlib.Omega.{arith}
 use lib.ListN.{length}
 use lib.Dec.{eqb}
 use borrow.Author.Tests.{eq-eqb, eqb-true}
+use Rattle.format.specs.Terms.{Terms}
 use Rattle.format.specs.Bytes.{part, sameBytes, samePart}
 use Rattle.format.specs.Says.{textFrom}
 use Rattle.fields.specs.Parts.{length-part}
@@ -44,12 +45,13 @@ module _ (s : List ℕ) where
       let n : x - a ≡ y - b = omega (arith, ap length e) in
       true-between a x b y n (record { first = omega arith; second = omega arith; equal = e ∙ ap (part s b) (sym n) }))
 
+module _ (τ : Terms) (s : List ℕ) where
   -- ---- strings
 
-  pub same-texts : (p e q f : ℕ) → StringStands s p e → StringStands s q f → sameText s p q ≡ sameBytes (textFrom s p) (textFrom s q)
+  pub same-texts : (p e q f : ℕ) → StringStands τ s p e → StringStands τ s q f → sameText s p q ≡ sameBytes (textFrom s p) (textFrom s q)
   unfolding sameText
   same-texts p e q f v w =
-      let m = string-moves s p (v .from) e (v .text) in
-      let n = string-moves s q (w .from) f (w .text) in
-      rw (string-span s p (v .from) e (v .text), string-span s q (w .from) f (w .text))
-      (same-between (v .from) e (w .from) f (omega arith) (omega arith) (omega arith) (omega arith))
+      let m = string-moves (τ .setting) s p (v .from) e (v .text) in
+      let n = string-moves (τ .setting) s q (w .from) f (w .text) in
+      rw (string-span (τ .setting) s p (v .from) e (v .text), string-span (τ .setting) s q (w .from) f (w .text))
+      (same-between s (v .from) e (w .from) f (omega arith) (omega arith) (omega arith) (omega arith))

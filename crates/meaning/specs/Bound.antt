@@ -9,6 +9,7 @@ use native.Mathlib.Decide.{decLt}
 use lib.ListN.{length, getD, take, List·getD-eq-default}
 use lib.Dec.{eqb}
 use borrow.Author.Tests.{eqb-true}
+use Rattle.format.specs.Terms.{Terms}
 use Rattle.format.specs.declared.Row.{Row}
 use Rattle.format.specs.Bytes.{pick}
 use Rattle.format.specs.Rows.{blank, isObject, withLink, linkOf, linked, boundLink, bound}
@@ -20,7 +21,7 @@ use Rattle.standing.specs.Standing.{Standing}
 use Rattle.standing.specs.Accepted.{raw-stands}
 use Rattle.standing.specs.Linked.{relinked, linked-is, bound-is, length-all, row-at, same-at, same-offset, library-linked, link-at, Links, by-link, by-bound}
 use Rattle.marks.specs.Marks.{marked}
-use Rattle.pieces.specs.Copy.{copyOf}
+use Rattle.pieces.specs.Copy.{anewIn, copyOf}
 use Rattle.meaning.specs.FromReading.{bound-stand, bound-types, bound-values, library-slots}
 use Rattle.meaning.specs.Link.{copy-of-rows}
 
@@ -105,7 +106,7 @@ module _ (s : List ℕ) (f : Row → ℕ) (raw : List Row) where
 
 -- ---- by rows with other links
 
-module _ (s : List ℕ) (raw : List Row) (f g : Row → ℕ) (F : Links raw f) (G : Links raw g) where
+module _ (τ : Terms) (s : List ℕ) (raw : List Row) (f g : Row → ℕ) (F : Links raw f) (G : Links raw g) where
   -- where a row says what its link names, the links are one
   nodes-one : (r : Row) → nodesOf s raw (withLink r (f r)) ≡ nodesOf s raw (withLink r (g r))
   unfolding nodesOf whatFrom classFrom arrayFrom valueCode
@@ -126,7 +127,7 @@ module _ (s : List ℕ) (raw : List Row) (f g : Row → ℕ) (F : Links raw f) (
   nodes-same (r ∷ rows) =
       ap₂ (λ (x y : List Node). x ++ y) (nodes-all s f raw F (withLink r (f r)) ∙ (nodes-one r ∙ sym (nodes-all s g raw G (withLink r (g r))))) (nodes-same rows)
 
-  says-same : Standing s raw → says s (relinked f raw) ≡ says s (relinked g raw)
+  says-same : Standing τ s raw → says s (relinked f raw) ≡ says s (relinked g raw)
   unfolding says
   says-same w =
       let r = getD raw 0 blank in
@@ -136,13 +137,13 @@ module _ (s : List ℕ) (raw : List Row) (f g : Row → ℕ) (F : Links raw f) (
       ap₂ (λ (o : ℕ) (ns : List Node). record { root = o; nodes = ns }) b (nodes-same raw)
 
 -- bound rows say what the rows of the reading say
-pub says-bound : (s : List ℕ) (raw : List Row) → Standing s raw → says s (bound raw) ≡ says s (linked raw)
-says-bound s raw w =
-    ap (says s) (bound-is raw) ∙ (says-same s raw (boundLink raw) (linkOf raw) (by-bound raw) (by-link raw) w ∙ ap (says s) (sym (linked-is raw)))
+pub says-bound : (τ : Terms) (s : List ℕ) (raw : List Row) → Standing τ s raw → says s (bound raw) ≡ says s (linked raw)
+says-bound τ s raw w =
+    ap (says s) (bound-is raw) ∙ (says-same τ s raw (boundLink raw) (linkOf raw) (by-bound raw) (by-link raw) w ∙ ap (says s) (sym (linked-is raw)))
 
 -- the copy from marked bound rows is the tidy copy of what the list says
-pub copy-is-tidy : (s : List ℕ) → ((i : ℕ) → getD s i 0 < 256) → (room : ℕ) (raw : List Row) → rawOf s room ≡ accepted raw
-    → copyOf s (marked s (bound raw)) ≡ tidyOf (says s (linked raw))
-copy-is-tidy s bytes room raw e =
-    copy-of-rows s (bound raw) (bound-stand s room raw e bytes) (bound-types s room raw e) (bound-values s room raw e) (library-slots s room raw e)
-    ∙ ap tidyOf (says-bound s raw (raw-stands s room raw e .stands))
+pub copy-is-tidy : (τ : Terms) (s : List ℕ) → ((i : ℕ) → getD s i 0 < 256) → (room : ℕ) (raw : List Row) → rawOf τ s room ≡ accepted raw
+    → copyOf (anewIn (τ .setting)) s (marked s (bound raw)) ≡ tidyOf (says s (linked raw))
+copy-is-tidy τ s bytes room raw e =
+    copy-of-rows τ s (bound raw) (bound-stand τ s room raw e bytes) (bound-types τ s room raw e) (bound-values τ s room raw e) (library-slots τ s room raw e)
+    ∙ ap tidyOf (says-bound τ s raw (raw-stands τ s room raw e .stands))

@@ -6,6 +6,7 @@ use native.Mathlib.Omega.{arith}
 use native.Mathlib.Decide.{decLt}
 use lib.ListN.{length, getD}
 use lib.Dec.{eqb}
+use Rattle.format.specs.Terms.{Terms}
 use Rattle.format.specs.declared.Number32.the-variants as N32
 use Rattle.format.specs.declared.Field.the-variants as F
 use Rattle.format.specs.declared.Row.{Row}
@@ -91,10 +92,12 @@ module _ (s : List ℕ) where
       let d : e - p ≡ 1 = omega arith in
       rw d (part-cons s p 0 (w .2) ∙ ap (λ (b : ℕ). b ∷ []) (code-is p e q))
 
+module _ (τ : Terms) (s : List ℕ) where
   -- a name is a string
-  pub name-stands : (p e : ℕ) → nameAt s p ≡ F.End e → StringStands s p e
-  name-stands p e q = let w = name-told s p e q in record { from = w .0; text = w .1 }
+  pub name-stands : (p e : ℕ) → nameAt (τ .setting) s p ≡ F.End e → StringStands τ s p e
+  name-stands p e q = let w = name-told (τ .setting) s p e q in record { from = w .0; text = w .1 }
 
+module _ (s : List ℕ) where
   -- no bytes
   pub between-none : (p e : ℕ) → p ≡ e → between s p e ≡ []
   between-none p e h =
@@ -104,49 +107,51 @@ module _ (s : List ℕ) where
 -- ---- the details of types
 
 -- what stands where a detail of type 4 ends at e: the class's name, then the LibraryId
-pub record ClassInfo (s : List ℕ) (p e : ℕ) : Type 0 where
-  pub named : nameAt s p ≡ F.End (e - 4)
+pub record ClassInfo (τ : Terms) (s : List ℕ) (p e : ℕ) : Type 0 where
+  pub named : nameAt (τ .setting) s p ≡ F.End (e - 4)
   pub number : ℕ
   pub numbered : u32At s (e - 4) ≡ N32.Value number e
   pub moves : (p < e - 4) × (e ≡ e - 4 + 4)
 
-pub class-info : (s : List ℕ) (rows : List Row) (p e : ℕ) → infoKnown s rows 4 p ≡ F.End e → ClassInfo s p e
+pub class-info : (τ : Terms) (s : List ℕ) (rows : List Row) (p e : ℕ) → infoKnown τ s rows 4 p ≡ F.End e → ClassInfo τ s p e
 unfolding infoKnown infoAt
-class-info s rows p e q =
-    let x = through (knownLibrary s rows) (onEnd (libraryIdAt s) (nameAt s p)) e q in
-    let y = through (libraryIdAt s) (nameAt s p) (x .0) (x .1) in
+class-info τ s rows p e q =
+    let x = through (knownLibrary s rows) (onEnd (libraryIdAt s) (nameAt (τ .setting) s p)) e q in
+    let y = through (libraryIdAt s) (nameAt (τ .setting) s p) (x .0) (x .1) in
     go (y .0) (x .0) (y .1) (y .2) (known-moves s rows (x .0) e (x .2))
   where
-    at : (m v : ℕ) → m ≡ e - 4 → e ≡ m + 4 → p < m → nameAt s p ≡ F.End m → u32At s m ≡ N32.Value v e → ClassInfo s p e
+    at : (m v : ℕ) → m ≡ e - 4 → e ≡ m + 4 → p < m → nameAt (τ .setting) s p ≡ F.End m → u32At s m ≡ N32.Value v e → ClassInfo τ s p e
     at m v d g h n u = record { named = rw d at n; number = v; numbered = rw d at u; moves = (omega arith, omega arith) }
 
-    go : (m x : ℕ) → nameAt s p ≡ F.End m → libraryIdAt s m ≡ F.End x → e ≡ x → ClassInfo s p e
+    go : (m x : ℕ) → nameAt (τ .setting) s p ≡ F.End m → libraryIdAt s m ≡ F.End x → e ≡ x → ClassInfo τ s p e
     go m x n l k =
         let v = library-told s m x l in
         let u = u32-says s m (v .0) x (v .1) in
-        at m (v .0) (omega arith) (omega arith) (name-moves s p m n .0) n (v .1 ∙ ap (N32.Value (v .0)) (sym k))
+        at m (v .0) (omega arith) (omega arith) (name-moves (τ .setting) s p m n .0) n (v .1 ∙ ap (N32.Value (v .0)) (sym k))
+
+module _ (τ : Terms) (s : List ℕ) (rows : List Row) where
+  pub info-place : (type p e : ℕ) → infoKnown τ s rows type p ≡ F.End e → afterInfo s type p ≡ e
+  info-place type p e q = info-after (τ .setting) s type p e (info-plain τ s rows type p e q)
 
 module _ (s : List ℕ) (rows : List Row) where
-  pub info-place : (type p e : ℕ) → infoKnown s rows type p ≡ F.End e → afterInfo s type p ≡ e
-  info-place type p e q = info-after s type p e (info-plain s rows type p e q)
-
   pub type-is : (type p : ℕ) → type ≤ 7 → typeByte (detailFrom s rows type p) ≡ type
   unfolding detailFrom
   type-is type p h = by-type (λ t. typeByte (detailFrom s rows t p) ≡ t) refl refl refl refl refl refl refl refl type h
 
-  pub class-detail : (p e : ℕ) → ClassInfo s p e → detailFrom s rows 4 p ≡ class (textFrom s p) (nameAtField s rows (e - 4))
+module _ (τ : Terms) (s : List ℕ) (rows : List Row) where
+  pub class-detail : (p e : ℕ) → ClassInfo τ s p e → detailFrom s rows 4 p ≡ class (textFrom s p) (nameAtField s rows (e - 4))
   unfolding detailFrom nameAtField
-  class-detail p e c = rw (name-after s p (e - 4) (c .named))
+  class-detail p e c = rw (name-after (τ .setting) s p (e - 4) (c .named))
 
   -- the libraries that a detail needs
-  pub needs-is : (type p e : ℕ) → type ≤ 7 → infoKnown s rows type p ≡ F.End e
+  pub needs-is : (type p e : ℕ) → type ≤ 7 → infoKnown τ s rows type p ≡ F.End e
       → namesOf s rows (pick (eqb type 4) ((e - 4) ∷ []) []) ≡ detailNeeds (detailFrom s rows type p)
   unfolding detailFrom namesOf
   needs-is zero p e h q = refl
   needs-is (suc zero) p e h q = refl
   needs-is (suc (suc zero)) p e h q = refl
   needs-is (suc (suc (suc zero))) p e h q = refl
-  needs-is (suc (suc (suc (suc zero)))) p e h q = ap detailNeeds (sym (class-detail p e (class-info s rows p e q)))
+  needs-is (suc (suc (suc (suc zero)))) p e h q = ap detailNeeds (sym (class-detail p e (class-info τ s rows p e q)))
   needs-is (suc (suc (suc (suc (suc zero))))) p e h q = refl
   needs-is (suc (suc (suc (suc (suc (suc zero)))))) p e h q = refl
   needs-is (suc (suc (suc (suc (suc (suc (suc zero))))))) p e h q = refl
@@ -167,44 +172,44 @@ same-type ls (primitives c) = refl
 abbrev pub Numbered : List ℕ → List Row → List Row → Libraries → ℕ → Type 0
 Numbered s rows rs ls p = libraryNumber s rs p ≡ numberIn (sameBytes (nameAtField s rows p)) ls
 
-module _ (s : List ℕ) (rows rs : List Row) (ls : Libraries) where
-  pub info-is : (type p e : ℕ) → type ≤ 7 → infoKnown s rows type p ≡ F.End e → (type ≡ 4 → Numbered s rows rs ls (e - 4))
+module _ (τ : Terms) (s : List ℕ) (rows rs : List Row) (ls : Libraries) where
+  pub info-is : (type p e : ℕ) → type ≤ 7 → infoKnown τ s rows type p ≡ F.End e → (type ≡ 4 → Numbered s rows rs ls (e - 4))
       → infoOut s rs type p e ≡ infoBytes (detailBy ls (detailFrom s rows type p))
   unfolding infoOut infoAt detailFrom
-  info-is zero p e h q f = code-kept s p e (info-plain s rows 0 p e q)
-  info-is (suc zero) p e h q f = let z = info-plain s rows 1 p e q in between-none s p e (cc)
-  info-is (suc (suc zero)) p e h q f = let z = info-plain s rows 2 p e q in between-none s p e (cc)
+  info-is zero p e h q f = code-kept s p e (info-plain τ s rows 0 p e q)
+  info-is (suc zero) p e h q f = let z = info-plain τ s rows 1 p e q in between-none s p e (cc)
+  info-is (suc (suc zero)) p e h q f = let z = info-plain τ s rows 2 p e q in between-none s p e (cc)
   info-is (suc (suc (suc zero))) p e h q f = text-is s p
   info-is (suc (suc (suc (suc zero)))) p e h q f =
-      let c = class-info s rows p e q in
+      let c = class-info τ s rows p e q in
       ap₂ (λ (a b : List ℕ). a ++ b) (text-is s p) (ap (leBytes 4) (f refl))
-      ∙ ap (λ (d : Detail (List ℕ) (List ℕ)). infoBytes (detailBy ls d)) (sym (class-detail s rows p e c))
-  info-is (suc (suc (suc (suc (suc zero))))) p e h q f = let z = info-plain s rows 5 p e q in between-none s p e (cc)
-  info-is (suc (suc (suc (suc (suc (suc zero)))))) p e h q f = let z = info-plain s rows 6 p e q in between-none s p e (cc)
-  info-is (suc (suc (suc (suc (suc (suc (suc zero))))))) p e h q f = code-kept s p e (info-plain s rows 7 p e q)
+      ∙ ap (λ (d : Detail (List ℕ) (List ℕ)). infoBytes (detailBy ls d)) (sym (class-detail τ s rows p e c))
+  info-is (suc (suc (suc (suc (suc zero))))) p e h q f = let z = info-plain τ s rows 5 p e q in between-none s p e (cc)
+  info-is (suc (suc (suc (suc (suc (suc zero)))))) p e h q f = let z = info-plain τ s rows 6 p e q in between-none s p e (cc)
+  info-is (suc (suc (suc (suc (suc (suc (suc zero))))))) p e h q f = code-kept s p e (info-plain τ s rows 7 p e q)
   info-is (suc (suc (suc (suc (suc (suc (suc (suc type)))))))) p e h q f = absurd (omega arith)
 
 -- ---- the details of members
 
 -- one detail, whose type byte stands at types, and those after it
-pub record First (s : List ℕ) (rows : List Row) (n types p e t : ℕ) : Type 0 where
+pub record First (τ : Terms) (s : List ℕ) (rows : List Row) (n types p e t : ℕ) : Type 0 where
   pub low : getD s types 0 ≤ 7
-  pub known : infoKnown s rows (getD s types 0) p ≡ F.End (afterInfo s (getD s types 0) p)
-  pub infos : infosAt s rows n (types + 1) (afterInfo s (getD s types 0) p) ≡ F.End e
+  pub known : infoKnown τ s rows (getD s types 0) p ≡ F.End (afterInfo s (getD s types 0) p)
+  pub infos : infosAt τ s rows n (types + 1) (afterInfo s (getD s types 0) p) ≡ F.End e
   pub type-bytes : times (typeByteAt s) n (types + 1) ≡ F.End t
 
-pub first-is : (s : List ℕ) (rows : List Row) (n types p e t : ℕ) → infosAt s rows (suc n) types p ≡ F.End e → times (typeByteAt s) (suc n) types ≡ F.End t
-    → First s rows n types p e t
+pub first-is : (τ : Terms) (s : List ℕ) (rows : List Row) (n types p e t : ℕ) → infosAt τ s rows (suc n) types p ≡ F.End e → times (typeByteAt s) (suc n) types ≡ F.End t
+    → First τ s rows n types p e t
 unfolding infosAt times
-first-is s rows n types p e t q r =
-    let x = through (infosAt s rows n (types + 1)) (infoKnown s rows (getD s types 0) p) e q in
+first-is τ s rows n types p e t q r =
+    let x = through (infosAt τ s rows n (types + 1)) (infoKnown τ s rows (getD s types 0) p) e q in
     let y = through (times (typeByteAt s) n) (typeByteAt s types) t r in
     let w = type-told s types (y .0) (y .1) in
-    let d = sym (info-place s rows (getD s types 0) p (x .0) (x .1)) in
+    let d = sym (info-place τ s rows (getD s types 0) p (x .0) (x .1)) in
     record {
       low = w .0;
       known = x .1 ∙ ap F.End d;
-      infos = ap (infosAt s rows n (types + 1)) (sym d) ∙ x .2;
+      infos = ap (infosAt τ s rows n (types + 1)) (sym d) ∙ x .2;
       type-bytes = ap (times (typeByteAt s) n) (sym (w .2)) ∙ y .2;
     }
 
@@ -224,29 +229,29 @@ pub field-of : (P : ℕ → Type 0) (type p : ℕ) → All P (pick (eqb type 4) 
 field-of P type p a e = all-first P p [] (rw e at a)
 
 -- wherever the members' names stand
-pub infos-need : (s : List ℕ) (rows : List Row) (n types names p e t : ℕ) → infosAt s rows n types p ≡ F.End e → times (typeByteAt s) n types ≡ F.End t
+pub infos-need : (τ : Terms) (s : List ℕ) (rows : List Row) (n types names p e t : ℕ) → infosAt τ s rows n types p ≡ F.End e → times (typeByteAt s) n types ≡ F.End t
     → namesOf s rows (infoFields s n types p) ≡ membersNeed (membersFrom s rows n names types p)
 unfolding infoFields membersFrom namesOf
-infos-need s rows zero types names p e t q r = refl
-infos-need s rows (suc n) types names p e t q r =
-    let f = first-is s rows n types p e t q r in
+infos-need τ s rows zero types names p e t q r = refl
+infos-need τ s rows (suc n) types names p e t q r =
+    let f = first-is τ s rows n types p e t q r in
     let type = getD s types 0 in
     let next = afterInfo s type p in
     names-append s rows (pick (eqb type 4) ((next - 4) ∷ []) []) (infoFields s n (types + 1) next)
-    ∙ ap₂ (λ (a b : List (List ℕ)). a ++ b) (needs-is s rows type p next (f .low) (f .known))
-    (infos-need s rows n (types + 1) (afterText s names) next e t (f .infos) (f .type-bytes))
+    ∙ ap₂ (λ (a b : List (List ℕ)). a ++ b) (needs-is τ s rows type p next (f .low) (f .known))
+    (infos-need τ s rows n (types + 1) (afterText s names) next e t (f .infos) (f .type-bytes))
 
-module _ (s : List ℕ) (rows rs : List Row) (ls : Libraries) where
-  pub infos-is : (n types names p e t : ℕ) → infosAt s rows n types p ≡ F.End e → times (typeByteAt s) n types ≡ F.End t
+module _ (τ : Terms) (s : List ℕ) (rows rs : List Row) (ls : Libraries) where
+  pub infos-is : (n types names p e t : ℕ) → infosAt τ s rows n types p ≡ F.End e → times (typeByteAt s) n types ≡ F.End t
       → All (Numbered s rows rs ls) (infoFields s n types p) → infosOut s rs n types p ≡ infosBytes (membersBy ls (membersFrom s rows n names types p))
   unfolding infoFields infosOut membersFrom
   infos-is zero types names p e t q r a = refl
   infos-is (suc n) types names p e t q r a =
-      let f = first-is s rows n types p e t q r in
+      let f = first-is τ s rows n types p e t q r in
       let type = getD s types 0 in
       let next = afterInfo s type p in
       let own = pick (eqb type 4) ((next - 4) ∷ []) [] in
       let later = infoFields s n (types + 1) next in
       let b = field-of (Numbered s rows rs ls) type (next - 4) (all-left (Numbered s rows rs ls) own later a) in
-      ap₂ (λ (a b : List ℕ). a ++ b) (info-is s rows rs ls type p next (f .low) (f .known) b)
+      ap₂ (λ (a b : List ℕ). a ++ b) (info-is τ s rows rs ls type p next (f .low) (f .known) b)
       (infos-is n (types + 1) (afterText s names) next e t (f .infos) (f .type-bytes) (all-right (Numbered s rows rs ls) own later a))

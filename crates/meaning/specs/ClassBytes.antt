@@ -5,6 +5,7 @@ use mathlib.Core.List.{List, [], _∷_, _++_, append-assoc, append-nil}
 use native.Mathlib.Omega.{arith}
 use lib.ListN.{length, getD}
 use lib.Dec.{eqb}
+use Rattle.format.specs.Terms.{Terms}
 use Rattle.format.specs.declared.Field.the-variants as F
 use Rattle.format.specs.declared.Row.{Row}
 use Rattle.format.specs.Bytes.{pick, sameBytes}
@@ -58,13 +59,13 @@ module _ (s : List ℕ) (rows : List Row) (ls : Libraries) where
 
 -- ---- name, member count, names and type bytes
 
-module _ (s : List ℕ) (rows : List Row) (r : Row) (c : ClassStands s rows r) where
+module _ (τ : Terms) (s : List ℕ) (rows : List Row) (r : Row) (c : ClassStands τ s rows r) where
   names-place : afterText s (r .offset + 5) + 4 ≡ c .name-end + 4
-  names-place = ap (λ (n : ℕ). n + 4) (name-after s (r .offset + 5) (c .name-end) (c .named))
+  names-place = ap (λ (n : ℕ). n + 4) (name-after (τ .setting) s (r .offset + 5) (c .name-end) (c .named))
 
   pub members-from : classFrom s rows r .members ≡ membersFrom s rows (r .count) (c .name-end + 4) (c .types) (c .types + r .count)
   unfolding classFrom
-  members-from = rw (name-after s (r .offset + 5) (c .name-end) (c .named), names-after s (r .count) (c .name-end + 4) (c .types) (c .names))
+  members-from = rw (name-after (τ .setting) s (r .offset + 5) (c .name-end) (c .named), names-after (τ .setting) s (r .count) (c .name-end + 4) (c .types) (c .names))
 
   pub class-name : classFrom s rows r .name ≡ textFrom s (r .offset + 5)
   unfolding classFrom
@@ -140,20 +141,19 @@ module _ (s : List ℕ) (rows : List Row) (r : Row) where
   from-library k = ap (λ (z : ℕ). pick (eqb z 5) (theLibrary (libraryName s rows (numberFrom s (r .end - 4)))) theSystem) k
 
 -- a row q that is as r is, but for its number, with the types' place in its slot word
-module _ (s : List ℕ) (rows : List Row) (r : Row) (c : ClassStands s rows r) (q : Row)
-    (k : q .kind ≡ r .kind) (o : q .offset ≡ r .offset) (e : q .end ≡ r .end) (n : q .count ≡ r .count) (t : q .slot ≡ c .types) where
+module _ (τ : Terms) (s : List ℕ) (rows : List Row) (r : Row) (c : ClassStands τ s rows r) (q : Row) (k : q .kind ≡ r .kind) (o : q .offset ≡ r .offset) (e : q .end ≡ r .end) (n : q .count ≡ r .count) (t : q .slot ≡ c .types) where
   pub class-need : namesOf s rows (classFields s q) ≡ classNeeds (classFrom s rows r)
   unfolding namesOf
   class-need =
       let infos = infoFields s (r .count) (c .types) (c .types + r .count) in
       ap (namesOf s rows) (class-fields s q (r .kind) (r .offset) (r .end) (c .types) (r .count) k o e t n)
       ∙ names-append s rows infos (pick (eqb (r .kind) 5) ((r .end - 4) ∷ []) [])
-      ∙ ap₂ (λ (x y : List (List ℕ)). x ++ y) (members-need ∙ ap membersNeed (sym (members-from s rows r c))) (own-need (c .own))
+      ∙ ap₂ (λ (x y : List (List ℕ)). x ++ y) (members-need ∙ ap membersNeed (sym (members-from τ s rows r c))) (own-need (c .own))
     where
       members-need : namesOf s rows (infoFields s (r .count) (c .types) (c .types + r .count))
           ≡ membersNeed (membersFrom s rows (r .count) (c .name-end + 4) (c .types) (c .types + r .count))
       members-need =
-          infos-need s rows (r .count) (c .types) (c .name-end + 4) (c .types + r .count) (c .infos-end) (c .types + r .count) (c .infos) (c .type-bytes)
+          infos-need τ s rows (r .count) (c .types) (c .name-end + 4) (c .types + r .count) (c .infos-end) (c .types + r .count) (c .infos) (c .type-bytes)
 
       own-need : OwnStands s rows r (c .infos-end) → namesOf s rows (pick (eqb (r .kind) 5) ((r .end - 4) ∷ []) []) ≡ fromNeeds (classFrom s rows r .from)
       own-need (of-system h z) =
@@ -172,7 +172,7 @@ module _ (s : List ℕ) (rows : List Row) (r : Row) (c : ClassStands s rows r) (
       of = classFrom s rows r
 
       name-so : textOut s (r .offset + 5) ≡ bytesIn (shortest (classFrom s rows r .name))
-      name-so = text-is s (r .offset + 5) ∙ ap (λ (t : List ℕ). bytesIn (shortest t)) (sym (class-name s rows r c))
+      name-so = text-is s (r .offset + 5) ∙ ap (λ (t : List ℕ). bytesIn (shortest t)) (sym (class-name τ s rows r c))
 
       fields : List ℕ
       fields = infoFields s (r .count) (c .types) (c .types + r .count)
@@ -185,19 +185,19 @@ module _ (s : List ℕ) (rows : List Row) (r : Row) (c : ClassStands s rows r) (
 
       infos-so : All P fields → infos ≡ infosBytes (membersBy ls (classFrom s rows r .members))
       infos-so b =
-          infos-is s rows rs ls (r .count) (c .types) (c .name-end + 4) (c .types + r .count) (c .infos-end) (c .types + r .count) (c .infos) (c .type-bytes) b
-          ∙ ap (λ (m : List (Member (List ℕ) (List ℕ))). infosBytes (membersBy ls m)) (sym (members-from s rows r c))
+          infos-is τ s rows rs ls (r .count) (c .types) (c .name-end + 4) (c .types + r .count) (c .infos-end) (c .types + r .count) (c .infos) (c .type-bytes) b
+          ∙ ap (λ (m : List (Member (List ℕ) (List ℕ))). infosBytes (membersBy ls m)) (sym (members-from τ s rows r c))
 
       go : OwnStands s rows r (c .infos-end) → classOut s rs q ≡ enc (classBy ls (q .id) (classFrom s rows r) (classFrom s rows r .from))
       go (of-system h z) =
           let b = there 4 (k ∙ h) in
           class-out s q 4 (r .offset) (r .end) (c .types) (r .count) (k ∙ h) o e t n rs
-          ∙ system-bytes ls (q .id) of _ _ _ _ infos name-so (count-is s rows r c ls) (names-is s rows r c ls) (type-bytes-are s rows r c ls)
+          ∙ system-bytes ls (q .id) of _ _ _ _ infos name-so (count-is τ s rows r c ls) (names-is τ s rows r c ls) (type-bytes-are τ s rows r c ls)
           (infos-so (all-left P fields [] b)) (from-system s rows r h)
       go (of-library h z) =
           let b = there 5 (k ∙ h) in
           class-out s q 5 (r .offset) (r .end) (c .types) (r .count) (k ∙ h) o e t n rs
-          ∙ library-bytes ls (q .id) of _ _ _ _ infos name-so (count-is s rows r c ls) (names-is s rows r c ls) (type-bytes-are s rows r c ls)
+          ∙ library-bytes ls (q .id) of _ _ _ _ infos name-so (count-is τ s rows r c ls) (names-is τ s rows r c ls) (type-bytes-are τ s rows r c ls)
           (infos-so (all-left P fields ((r .end - 4) ∷ []) b))
           (nameAtField s rows (r .end - 4)) (libraryNumber s rs (r .end - 4)) (from-library s rows r h)
           (all-first P (r .end - 4) [] (all-right P fields ((r .end - 4) ∷ []) b))

@@ -8,6 +8,7 @@ use native.Mathlib.Omega.{arith}
 use lib.ListN.{length, getD}
 use lib.Dec.{eqb}
 use borrow.Author.Tests.{eq-eqb, eqb-true, ne-eqb}
+use Rattle.format.specs.Terms.{Terms}
 use Rattle.format.specs.declared.Field.the-variants as F
 use Rattle.format.specs.declared.Row.{Row}
 use Rattle.format.specs.Bytes.{pick, sameBytes}
@@ -38,7 +39,7 @@ ownFrom s rows r = pick (eqb (r .kind) 5) (theLibrary (libraryName s rows (numbe
 abbrev ownTest : List ℕ → List Row → Row → Row → Bool
 ownTest s ps a b = pick (eqb (a .kind) 5) (eqb (libraryAt s ps (a .end - 4)) (libraryAt s ps (b .end - 4))) true
 
-module _ (s : List ℕ) (rows ps : List Row) (st : Stands s rows) (pl : Placed s rows ps) where
+module _ (τ : Terms) (s : List ℕ) (rows ps : List Row) (st : Stands τ s rows) (pl : Placed τ s rows ps) where
   from-system : (r : Row) → r .kind ≡ 4 → ownFrom s rows r ≡ theSystem
   from-system r k = ap (λ (x : ℕ). pick (eqb x 5) (theLibrary (libraryName s rows (numberFrom s (r .end - 4)))) theSystem) k
 
@@ -53,7 +54,7 @@ module _ (s : List ℕ) (rows ps : List Row) (st : Stands s rows) (pl : Placed s
       → ownTest s ps a b ≡ sameBytes (nameAtField s rows (a .end - 4)) (nameAtField s rows (b .end - 4))
   test-library a b p q k v w =
       ap (λ (x : ℕ). pick (eqb x 5) (eqb (libraryAt s ps (a .end - 4)) (libraryAt s ps (b .end - 4))) true) k
-      ∙ same-library s rows ps st pl (a .end - 4) (b .end - 4) (own-names s rows p (a .end) v .0) (own-names s rows q (b .end) w .0)
+      ∙ same-library τ s rows ps st pl (a .end - 4) (b .end - 4) (own-names τ s rows p (a .end) v .0) (own-names τ s rows q (b .end) w .0)
 
   own-of : (a b : Row) (p q : ℕ) → OwnStands s rows a p → OwnStands s rows b q → b .kind ≡ a .kind → ownTest s ps a b ≡ true
       → ownFrom s rows a ≡ ownFrom s rows b
@@ -83,18 +84,18 @@ module _ (s : List ℕ) (rows ps : List Row) (st : Stands s rows) (pl : Placed s
 -- ---- classes
 
 -- the class of a row, its fields where they stand
-abbrev pub said : (s : List ℕ) (rows : List Row) (r : Row) → ClassStands s rows r → Class
-said s rows r c =
+abbrev pub said : (τ : Terms) (s : List ℕ) (rows : List Row) (r : Row) → ClassStands τ s rows r → Class
+said τ s rows r c =
     record {
       name = textFrom s (r .offset + 5);
       from = ownFrom s rows r;
       members = membersFrom s rows (r .count) (c .name-end + 4) (c .types) (c .types + r .count);
     }
 
-pub class-from : (s : List ℕ) (rows : List Row) (r : Row) (c : ClassStands s rows r) → classFrom s rows r ≡ said s rows r c
+pub class-from : (τ : Terms) (s : List ℕ) (rows : List Row) (r : Row) (c : ClassStands τ s rows r) → classFrom s rows r ≡ said τ s rows r c
 unfolding classFrom
-class-from s rows r c =
-    rw (name-after s (r .offset + 5) (c .name-end) (c .named), names-after s (r .count) (c .name-end + 4) (c .types) (c .names))
+class-from τ s rows r c =
+    rw (name-after (τ .setting) s (r .offset + 5) (c .name-end) (c .named), names-after (τ .setting) s (r .count) (c .name-end + 4) (c .types) (c .names))
 
 -- the row that class row i leads to: the first row of its class
 pub record ClassFirst (s : List ℕ) (rows ps : List Row) (i : ℕ) : Type 0 where
@@ -105,11 +106,11 @@ pub record ClassFirst (s : List ℕ) (rows ps : List Row) (i : ℕ) : Type 0 whe
   pub kind : isClass (getD rows row blank .kind) ≡ true
   pub class : classFrom s rows (getD rows row blank) ≡ classFrom s rows (getD rows i blank)
 
-module _ (s : List ℕ) (rows ps : List Row) (st : Stands s rows) (pl : Placed s rows ps) where
-  module _ (r q : Row) (a : ClassStands s rows r) (b : ClassStands s rows q) where
-    class-infos : (x : Row) (c : ClassStands s rows x) → Infos s rows (x .count) (c .types) (c .types + x .count)
+module _ (τ : Terms) (s : List ℕ) (rows ps : List Row) (st : Stands τ s rows) (pl : Placed τ s rows ps) where
+  module _ (r q : Row) (a : ClassStands τ s rows r) (b : ClassStands τ s rows q) where
+    class-infos : (x : Row) (c : ClassStands τ s rows x) → Infos τ s rows (x .count) (c .types) (c .types + x .count)
     class-infos x c =
-        let l = class-places s rows x c in
+        let l = class-places τ s rows x c in
         record {
           types-end = c .types + x .count;
           typed = c .type-bytes;
@@ -120,15 +121,15 @@ module _ (s : List ℕ) (rows ps : List Row) (st : Stands s rows) (pl : Placed s
         }
 
     -- b's details, counted by a
-    other-infos : r .count ≡ q .count → Infos s rows (r .count) (b .types) (b .types + q .count)
-    other-infos e = subst (λ (n : ℕ). Infos s rows n (b .types) (b .types + q .count)) (sym e) (class-infos q b)
+    other-infos : r .count ≡ q .count → Infos τ s rows (r .count) (b .types) (b .types + q .count)
+    other-infos e = subst (λ (n : ℕ). Infos τ s rows n (b .types) (b .types + q .count)) (sym e) (class-infos q b)
 
     -- the names of a row's members
-    names-place : (x : Row) (c : ClassStands s rows x) → namesPlace s x ≡ c .name-end + 4
-    names-place x c = ap (λ (n : ℕ). n + 4) (name-after s (x .offset + 5) (c .name-end) (c .named))
+    names-place : (x : Row) (c : ClassStands τ s rows x) → namesPlace s x ≡ c .name-end + 4
+    names-place x c = ap (λ (n : ℕ). n + 4) (name-after (τ .setting) s (x .offset + 5) (c .name-end) (c .named))
 
-    other-names : r .count ≡ q .count → times (nameAt s) (r .count) (b .name-end + 4) ≡ F.End (b .types)
-    other-names e = subst (λ (n : ℕ). times (nameAt s) n (b .name-end + 4) ≡ F.End (b .types)) (sym e) (b .names)
+    other-names : r .count ≡ q .count → times (nameAt (τ .setting) s) (r .count) (b .name-end + 4) ≡ F.End (b .types)
+    other-names e = subst (λ (n : ℕ). times (nameAt (τ .setting) s) n (b .name-end + 4) ≡ F.End (b .types)) (sym e) (b .names)
 
     abbrev nameTest : Bool
     nameTest = sameText s (r .offset + 5) (q .offset + 5)
@@ -145,10 +146,10 @@ module _ (s : List ℕ) (rows ps : List Row) (st : Stands s rows) (pl : Placed s
 
     name-test : nameTest ≡ sameBytes (textFrom s (r .offset + 5)) (textFrom s (q .offset + 5))
     name-test =
-        same-texts s (r .offset + 5) (a .name-end) (q .offset + 5) (b .name-end)
-        (name-stands s (r .offset + 5) (a .name-end) (a .named)) (name-stands s (q .offset + 5) (b .name-end) (b .named))
+        same-texts τ s (r .offset + 5) (a .name-end) (q .offset + 5) (b .name-end)
+        (name-stands τ s (r .offset + 5) (a .name-end) (a .named)) (name-stands τ s (q .offset + 5) (b .name-end) (b .named))
 
-    said-of : rowTest ≡ true → said s rows r a ≡ said s rows q b
+    said-of : rowTest ≡ true → said τ s rows r a ≡ said τ s rows q b
     said-of t =
         let own = ownTest s ps r q in
         let x = pick-of (eqb (q .kind) (r .kind)) (pick (eqb (q .count) (r .count)) (pick nameTest (pick membersTest own false) false) false) t in
@@ -156,15 +157,15 @@ module _ (s : List ℕ) (rows ps : List Row) (st : Stands s rows) (pl : Placed s
         let v = pick-of nameTest (pick membersTest own false) (w .1) in
         let u = pick-of membersTest own (v .1) in
         let count : r .count ≡ q .count = sym (eqb-true (q .count) (r .count) (w .0)) in
-        let m = members-of s rows ps st pl (r .count) (a .name-end + 4) (a .types) (a .types + r .count) (b .name-end + 4) (b .types) (b .types + q .count)
+        let m = members-of τ s rows ps st pl (r .count) (a .name-end + 4) (a .types) (a .types + r .count) (b .name-end + 4) (b .types) (b .types + q .count)
         (a .types) (b .types) (a .names) (other-names count) (class-infos r a) (other-infos count)
         (rw (names-place r a, names-place q b) at (u .0)) in
-        class-of (said s rows r a) (said s rows q b)
+        class-of (said τ s rows r a) (said τ s rows q b)
         (same-eq (textFrom s (r .offset + 5)) (textFrom s (q .offset + 5)) (sym name-test ∙ v .0))
-        (own-of s rows ps st pl r q (a .infos-end) (b .infos-end) (a .own) (b .own) (eqb-true (q .kind) (r .kind) (x .0)) (u .1))
+        (own-of τ s rows ps st pl r q (a .infos-end) (b .infos-end) (a .own) (b .own) (eqb-true (q .kind) (r .kind) (x .0)) (u .1))
         (m ∙ ap (λ (n : ℕ). membersFrom s rows n (b .name-end + 4) (b .types) (b .types + q .count)) count)
 
-    said-same : said s rows r a ≡ said s rows q b → rowTest ≡ true
+    said-same : said τ s rows r a ≡ said τ s rows q b → rowTest ≡ true
     said-same e =
         let name : textFrom s (r .offset + 5) ≡ textFrom s (q .offset + 5) = ap (λ (c : Class). c .name) e in
         let from : ownFrom s rows r ≡ ownFrom s rows q = ap (λ (c : Class). c .from) e in
@@ -174,10 +175,10 @@ module _ (s : List ℕ) (rows ps : List Row) (st : Stands s rows) (pl : Placed s
         = sym (members-count s rows (r .count) (a .name-end + 4) (a .types) (a .types + r .count))
         ∙ (ap length members ∙ members-count s rows (q .count) (b .name-end + 4) (b .types) (b .types + q .count)) in
         let m = members ∙ ap (λ (n : ℕ). membersFrom s rows n (b .name-end + 4) (b .types) (b .types + q .count)) (sym count) in
-        let o = own-same s rows ps st pl r q (a .infos-end) (b .infos-end) (a .own) (b .own) from in
+        let o = own-same τ s rows ps st pl r q (a .infos-end) (b .infos-end) (a .own) (b .own) from in
         let own = ownTest s ps r q in
         let there : membersTest ≡ true = rw (names-place r a, names-place q b)
-        (members-same s rows ps st pl (r .count) (a .name-end + 4) (a .types) (a .types + r .count) (b .name-end + 4) (b .types) (b .types + q .count)
+        (members-same τ s rows ps st pl (r .count) (a .name-end + 4) (a .types) (a .types + r .count) (b .name-end + 4) (b .types) (b .types + q .count)
         (a .types) (b .types) (a .names) (other-names count) (class-infos r a) (other-infos count) m) in
         pick-true (eqb (q .kind) (r .kind)) (pick (eqb (q .count) (r .count)) (pick nameTest (pick membersTest own false) false) false)
         (eq-eqb (q .kind) (r .kind) (o .0))
@@ -185,21 +186,21 @@ module _ (s : List ℕ) (rows ps : List Row) (st : Stands s rows) (pl : Placed s
         (pick-true nameTest (pick membersTest own false) (name-test ∙ true-same (textFrom s (r .offset + 5)) (textFrom s (q .offset + 5)) name)
         (pick-true membersTest own there (o .1))))
 
-    same-said : (m n : ℕ) → sameClassRow s ps (withSlot (withId r m) (a .types)) (withSlot (withId q n) (b .types)) ≡ sameClass (said s rows r a) (said s rows q b)
+    same-said : (m n : ℕ) → sameClassRow s ps (withSlot (withId r m) (a .types)) (withSlot (withId q n) (b .types)) ≡ sameClass (said τ s rows r a) (said τ s rows q b)
     unfolding sameClassRow sameOwn
     same-said m n =
-        bool-ext rowTest (sameClass (said s rows r a) (said s rows q b))
-        (λ t. true-class (said s rows r a) (said s rows q b) (said-of t))
-        (λ t. said-same (class-eq (said s rows r a) (said s rows q b) t))
+        bool-ext rowTest (sameClass (said τ s rows r a) (said τ s rows q b))
+        (λ t. true-class (said τ s rows r a) (said τ s rows q b) (said-of t))
+        (λ t. said-same (class-eq (said τ s rows r a) (said τ s rows q b) t))
 
   pub same-class : (i j : ℕ) → i < length rows → j < length rows → isClass (getD rows i blank .kind) ≡ true → isClass (getD rows j blank .kind) ≡ true
       → sameClassRow s ps (getD ps i blank) (getD ps j blank) ≡ sameClass (classFrom s rows (getD rows i blank)) (classFrom s rows (getD rows j blank))
   same-class i j h g k l =
       let r = getD rows i blank in
       let q = getD rows j blank in
-      let a = class-at s rows st i h k in
-      let b = class-at s rows st j g l in
-      rw (placed-class s rows ps st pl i h k, placed-class s rows ps st pl j g l, class-from s rows r a, class-from s rows q b)
+      let a = class-at τ s rows st i h k in
+      let b = class-at τ s rows st j g l in
+      rw (placed-class τ s rows ps st pl i h k, placed-class τ s rows ps st pl j g l, class-from τ s rows r a, class-from τ s rows q b)
       (same-said r q a b (orderOf rows (suc i)) (orderOf rows (suc j)))
 
   -- ---- the first row of a class
@@ -226,8 +227,8 @@ module _ (s : List ℕ) (rows ps : List Row) (st : Stands s rows) (pl : Placed s
       go j g true e = same-class i j h g k e ∙ sym (ap (λ (b : Bool). b && sameClass c (classFrom s rows (getD rows j blank))) e)
       go j g false e =
           other-class (getD ps i blank) (getD ps j blank)
-          (ap isClass (placed-kind s rows ps st pl i h) ∙ k)
-          (ap isClass (placed-kind s rows ps st pl j g) ∙ e)
+          (ap isClass (placed-kind τ s rows ps st pl i h) ∙ k)
+          (ap isClass (placed-kind τ s rows ps st pl j g) ∙ e)
           ∙ sym (ap (λ (b : Bool). b && sameClass c (classFrom s rows (getD rows j blank))) e)
 
   pub class-first : (i : ℕ) → i < length rows → isClass (getD rows i blank .kind) ≡ true → ClassFirst s rows ps i

@@ -5,6 +5,7 @@ use mathlib.Core.Bool.{Bool, true, false}
 use mathlib.Core.List.{List}
 use native.Mathlib.Omega.{arith}
 use lib.ListN.{length, getD, take}
+use Rattle.format.specs.Terms.{Terms}
 use Rattle.format.specs.declared.Number32.the-variants as N32
 use Rattle.format.specs.declared.Field.the-variants as F
 use Rattle.format.specs.declared.Row.{Row}
@@ -42,54 +43,54 @@ owner-is rows i o h (within a b k) = owned (record { row = o - 1; link-is = omeg
 
 -- ---- records
 
-string-stands : (s : List ℕ) (p e : ℕ) → nameAt s p ≡ F.End e → StringStands s p e
-string-stands s p e q =
-    let w = name-told s p e q in
+string-stands : (τ : Terms) (s : List ℕ) (p e : ℕ) → nameAt (τ .setting) s p ≡ F.End e → StringStands τ s p e
+string-stands τ s p e q =
+    let w = name-told (τ .setting) s p e q in
     record { from = w .0; text = w .1 }
 
 -- a record among the rows, with a link
-module _ {s : List ℕ} {before rows : List Row} {r : Row} (later : Later before rows) (w : Recorded s before r) (inside : r .end ≤ length s) (link : ℕ) where
-  class-stands : (own : Bool) → Class s before own (r .offset) (w .head)
+module _ (τ : Terms) {s : List ℕ} {before rows : List Row} {r : Row} (later : Later before rows) (w : Recorded τ s before r) (inside : r .end ≤ length s) (link : ℕ) where
+  class-stands : (own : Bool) → Class τ s before own (r .offset) (w .head)
       → ((p : ℕ) → afterInfos own s before p ≡ F.End (r .end) → OwnStands s rows (withLink r link) p)
-      → ClassStands s rows (withLink r link)
+      → ClassStands τ s rows (withLink r link)
   class-stands own c after =
       let h = w .head in
       let n : h .count ≡ r .count = sym (w .same-count) in
-      let places = class-places s before own (r .offset) h c in
+      let places = class-places τ s before own (r .offset) h c in
       let f : c .infos ≡ h .link + r .count = places .2 ∙ ap (λ (k : ℕ). h .link + k) n in
       record {
         name-end = c .counts;
-        named = subst (λ (p : ℕ). nameAt s p ≡ F.End (c .counts)) (places .0) (c .name-at);
+        named = subst (λ (p : ℕ). nameAt (τ .setting) s p ≡ F.End (c .counts)) (places .0) (c .name-at);
         counted = c .count-at ∙ (ap (λ (k : ℕ). N32.Value k (c .names)) n ∙ ap (N32.Value (r .count)) (places .1));
         types = h .link;
         names =
-            subst (λ (p : ℕ). times (nameAt s) (r .count) p ≡ F.End (h .link)) (places .1)
-            (subst (λ (k : ℕ). times (nameAt s) k (c .names) ≡ F.End (h .link)) n (c .names-at));
+            subst (λ (p : ℕ). times (nameAt (τ .setting) s) (r .count) p ≡ F.End (h .link)) (places .1)
+            (subst (λ (k : ℕ). times (nameAt (τ .setting) s) k (c .names) ≡ F.End (h .link)) n (c .names-at));
         type-bytes = subst (λ (k : ℕ). times (typeByteAt s) k (h .link) ≡ F.End (c .infos)) n (c .types-at) ∙ ap F.End f;
         infos-end = c .after;
         infos =
-            infos-later s later (r .count) (h .link) (h .link + r .count) (c .after)
-            (subst (λ (p : ℕ). infosAt s before (r .count) (h .link) p ≡ F.End (c .after)) f
-            (subst (λ (k : ℕ). infosAt s before k (h .link) (c .infos) ≡ F.End (c .after)) n (c .infos-at)));
+            infos-later τ s later (r .count) (h .link) (h .link + r .count) (c .after)
+            (subst (λ (p : ℕ). infosAt τ s before (r .count) (h .link) p ≡ F.End (c .after)) f
+            (subst (λ (k : ℕ). infosAt τ s before k (h .link) (c .infos) ≡ F.End (c .after)) n (c .infos-at)));
         own = after (c .after) (c .after-at ∙ ap F.End (sym (w .same-end)));
         inside = inside;
       }
 
-  system-stands : r .kind ≡ 4 → ClassStands s rows (withLink r link)
-  system-stands k = class-stands false (system-row w k) (λ p q. of-system k cc)
+  system-stands : r .kind ≡ 4 → ClassStands τ s rows (withLink r link)
+  system-stands k = class-stands false (system-row τ w k) (λ p q. of-system k cc)
 
-  library-class-stands : r .kind ≡ 5 → ClassStands s rows (withLink r link)
-  library-class-stands k = class-stands true (class-row w k) (λ p q. of-library k (own-later s later p (r .end) q))
+  library-class-stands : r .kind ≡ 5 → ClassStands τ s rows (withLink r link)
+  library-class-stands k = class-stands true (class-row τ w k) (λ p q. of-library k (own-later s later p (r .end) q))
 
-  array-stands : r .kind ≡ 7 → ArrayStands s rows (withLink r link)
+  array-stands : r .kind ≡ 7 → ArrayStands τ s rows (withLink r link)
   array-stands k =
-      let a = array-row w k in
+      let a = array-row τ w k in
       record {
         rank = a .rank;
         ranked = a .rank-at;
         typed = a .type-at;
         info-end = a .info-end;
-        info = info-later s later _ _ (a .info-end) (a .info-at);
+        info = info-later τ s later _ _ (a .info-end) (a .info-at);
         items = a .items;
         items-at = a .items-at;
         no-items = a .no-items;
@@ -98,7 +99,7 @@ module _ {s : List ℕ} {before rows : List Row} {r : Row} (later : Later before
 
 -- ---- the rows of an accepted stream
 
-module _ {s : List ℕ} {room : ℕ} {raw : List Row} (bytes : (i : ℕ) → getD s i 0 < 256) (t : Raw s room raw) (f : Row → ℕ) (L : Links raw f) where
+module _ (τ : Terms) {s : List ℕ} {room : ℕ} {raw : List Row} (bytes : (i : ℕ) → getD s i 0 < 256) (t : Raw τ s room raw) (f : Row → ℕ) (L : Links raw f) where
   abbrev all : List Row
   all = relinked f raw
 
@@ -106,62 +107,62 @@ module _ {s : List ℕ} {room : ℕ} {raw : List Row} (bytes : (i : ℕ) → get
   size = length-all f raw
 
   root-target : Target all (getD all 0 blank .link)
-  root-target = target all _ _ (root-link t f (L .root _ (t .stands .headed)))
+  root-target = target all _ _ (root-link τ t f (L .root _ (t .stands .headed)))
 
   module _ (i : ℕ) (h : i < length raw) where
     abbrev row : Row
     row = getD raw i blank
 
     moves : (row .offset < row .end) × (row .end ≤ length s)
-    moves = row-moves (t .stands) i h
+    moves = row-moves τ (t .stands) i h
 
     known : Later (take i raw) all
     known = first-later f i raw
 
-    recorded : (n : ℕ) → n < 32 → row .kind ≡ n → Recorded s (take i raw) row
-    recorded n l k = record-at (t .stands) i h (λ e. omega arith)
+    recorded : (n : ℕ) → n < 32 → row .kind ≡ n → Recorded τ s (take i raw) row
+    recorded n l k = record-at τ (t .stands) i h (λ e. omega arith)
 
-    with-link : RowStands s all i (withLink row (f row)) → RowStands s all i (getD all i blank)
-    with-link x = subst (λ (r : Row). RowStands s all i r) (sym (row-at f raw i h)) x
+    with-link : RowStands τ s all i (withLink row (f row)) → RowStands τ s all i (getD all i blank)
+    with-link x = subst (λ (r : Row). RowStands τ s all i r) (sym (row-at f raw i h)) x
 
-    by-kind : Known (row .kind) → RowStands s all i (getD all i blank)
+    by-kind : Known (row .kind) → RowStands τ s all i (getD all i blank)
     by-kind (K.header k) =
         let z : 0 ≡ i = sym (t .stands .header-first i h k) in
         the-header (sym z) (same-kind f raw i ∙ k) (subst (λ (j : ℕ). Target all (getD all j blank .link)) z root-target)
     by-kind (K.class-by-id k) =
-        let c = to-class-linked (t .stands) i h k f (L .own _ k) in
+        let c = to-class-linked τ (t .stands) i h k f (L .own _ k) in
         let a = c .some in
         by-id (same-kind f raw i ∙ k) (getD all i blank .link - 1) (omega arith) (c .before) (c .class)
-    by-kind (K.system-class k) = with-link (a-class (ap isClass k) (system-stands known (recorded 4 (omega arith) k) (moves .1) _ k))
-    by-kind (K.class k) = with-link (a-class (ap isClass k) (library-class-stands known (recorded 5 (omega arith) k) (moves .1) _ k))
-    by-kind (K.string k) = with-link (a-string k (string-stands s _ _ (string-row (recorded 6 (omega arith) k) k)))
-    by-kind (K.binary-array k) = with-link (an-array k (array-stands known (recorded 7 (omega arith) k) (moves .1) _ k))
+    by-kind (K.system-class k) = with-link (a-class (ap isClass k) (system-stands τ known (recorded 4 (omega arith) k) (moves .1) _ k))
+    by-kind (K.class k) = with-link (a-class (ap isClass k) (library-class-stands τ known (recorded 5 (omega arith) k) (moves .1) _ k))
+    by-kind (K.string k) = with-link (a-string k (string-stands τ s _ _ (string-row τ (recorded 6 (omega arith) k) k)))
+    by-kind (K.binary-array k) = with-link (an-array k (array-stands τ known (recorded 7 (omega arith) k) (moves .1) _ k))
     by-kind (K.typed-primitive k) =
-        let w = typed-row (recorded 8 (omega arith) k) k in
+        let w = typed-row τ (recorded 8 (omega arith) k) k in
         with-link (a-primitive k (w .0) (w .2) (moves .1))
-    by-kind (K.reference k) = a-reference (same-kind f raw i ∙ k) (target all _ _ (reference-link t f i h k (L .reference _ k)))
-    by-kind (K.null k) = with-link (nulls (ap isNulls k) (null-row (recorded 10 (omega arith) k) k))
+    by-kind (K.reference k) = a-reference (same-kind f raw i ∙ k) (target all _ _ (reference-link τ t f i h k (L .reference _ k)))
+    by-kind (K.null k) = with-link (nulls (ap isNulls k) (null-row τ (recorded 10 (omega arith) k) k))
     by-kind (K.ending k) =
         let e : suc i ≡ length all = t .stands .end-last i h k ∙ sym size in
-        with-link (the-end k e (end-row (recorded 11 (omega arith) k) k))
-    by-kind (K.library k) = with-link (a-library k (string-stands s _ _ (library-row (recorded 12 (omega arith) k) k)))
-    by-kind (K.nulls k) = with-link (nulls (ap isNulls k) (nulls-row (recorded 13 (omega arith) k) (bytes (row .offset + 1)) k))
-    by-kind (K.long-nulls k) = with-link (nulls (ap isNulls k) (long-nulls-row (recorded 14 (omega arith) k) k))
+        with-link (the-end k e (end-row τ (recorded 11 (omega arith) k) k))
+    by-kind (K.library k) = with-link (a-library k (string-stands τ s _ _ (library-row τ (recorded 12 (omega arith) k) k)))
+    by-kind (K.nulls k) = with-link (nulls (ap isNulls k) (nulls-row τ (recorded 13 (omega arith) k) (bytes (row .offset + 1)) k))
+    by-kind (K.long-nulls k) = with-link (nulls (ap isNulls k) (long-nulls-row τ (recorded 14 (omega arith) k) k))
     by-kind (K.primitive-array k) =
-        let w = primitives-row (recorded 15 (omega arith) k) k in
+        let w = primitives-row τ (recorded 15 (omega arith) k) k in
         with-link (primitives k (w .count-at) (w .code-at) (w .items-at) (moves .1))
     by-kind (K.object-array k) =
-        let w = objects-row (recorded 16 (omega arith) k) k in
+        let w = objects-row τ (recorded 16 (omega arith) k) k in
         with-link (objects k (w .count-at) (w .ends))
     by-kind (K.string-array k) =
-        let w = strings-row (recorded 17 (omega arith) k) k in
+        let w = strings-row τ (recorded 17 (omega arith) k) k in
         with-link (texts k (w .count-at) (w .ends))
     by-kind (K.value k) = with-link (a-value k (moves .0) (moves .1))
 
     kind-byte : (getD all i blank .kind ≡ 32 → ⊥) → getD s (getD all i blank .offset) 0 ≡ getD all i blank .kind
     kind-byte n =
         ap (λ (p : ℕ). getD s p 0) (same-offset f raw i)
-        ∙ (record-at (t .stands) i h (λ e. n (same-kind f raw i ∙ e)) .byte ∙ sym (same-kind f raw i))
+        ∙ (record-at τ (t .stands) i h (λ e. n (same-kind f raw i ∙ e)) .byte ∙ sym (same-kind f raw i))
 
     forward : getD all i blank .offset < getD all i blank .end
     forward =
@@ -180,7 +181,7 @@ module _ {s : List ℕ} {room : ℕ} {raw : List Row} (bytes : (i : ℕ) → get
         owner-is all i _ (omega arith)
         (subst (λ (o : ℕ). Owned all i o) (sym (same-owner f raw i)) (owned-linked f raw i _ (t .stands .owners i h)))
 
-  all-stand : Stands s all
+  all-stand : Stands τ s all
   all-stand =
       let l = size in
       let w = t .stands in
@@ -206,60 +207,60 @@ module _ {s : List ℕ} {room : ℕ} {raw : List Row} (bytes : (i : ℕ) → get
       }
 
 -- the rows of a reading, with their links
-pub stands : (s : List ℕ) → ((i : ℕ) → getD s i 0 < 256) → (room : ℕ) (rows : List Row) → readOf s room ≡ accepted rows → Stands s rows
-stands s bytes room rows e =
-    let t = accepted-stands s room rows e in
+pub stands : (τ : Terms) (s : List ℕ) → ((i : ℕ) → getD s i 0 < 256) → (room : ℕ) (rows : List Row) → readOf τ s room ≡ accepted rows → Stands τ s rows
+stands τ s bytes room rows e =
+    let t = accepted-stands τ s room rows e in
     let raw = t .raw in
-    subst (λ (rows : List Row). Stands s rows) (sym (t .same ∙ linked-is raw)) (all-stand bytes (raw-stands s room raw (t .reads)) (linkOf raw) (by-link raw))
+    subst (λ (rows : List Row). Stands τ s rows) (sym (t .same ∙ linked-is raw)) (all-stand τ bytes (raw-stands τ s room raw (t .reads)) (linkOf raw) (by-link raw))
 
 -- ---- the rows that tidying begins with
 
-module _ (s : List ℕ) (room : ℕ) (raw : List Row) (e : rawOf s room ≡ accepted raw) where
-  t : Raw s room raw
-  t = raw-stands s room raw e
+module _ (τ : Terms) (s : List ℕ) (room : ℕ) (raw : List Row) (e : rawOf τ s room ≡ accepted raw) where
+  t : Raw τ s room raw
+  t = raw-stands τ s room raw e
 
-  pub bound-stand : ((i : ℕ) → getD s i 0 < 256) → Stands s (bound raw)
-  bound-stand bytes = subst (λ (rows : List Row). Stands s rows) (sym (bound-is raw)) (all-stand bytes t (boundLink raw) (by-bound raw))
+  pub bound-stand : ((i : ℕ) → getD s i 0 < 256) → Stands τ s (bound raw)
+  bound-stand bytes = subst (λ (rows : List Row). Stands τ s rows) (sym (bound-is raw)) (all-stand τ bytes t (boundLink raw) (by-bound raw))
 
   -- a class's row keeps the place of its type bytes
-  types-raw : (i : ℕ) → i < length raw → isClass (getD raw i blank .kind) ≡ true → TypesThere s (withLink (getD raw i blank) (boundLink raw (getD raw i blank)))
+  types-raw : (i : ℕ) → i < length raw → isClass (getD raw i blank .kind) ≡ true → TypesThere τ s (withLink (getD raw i blank) (boundLink raw (getD raw i blank)))
   types-raw i h k =
-      class-kind (getD raw i blank .kind) k (λ (n : ℕ). getD raw i blank .kind ≡ n → TypesThere s (withLink r (boundLink raw r)))
-      (λ q. there false (λ z. omega arith) (λ z. omega arith) (λ z. omega arith) (λ x. system-row x q))
-      (λ q. there true (λ z. omega arith) (λ z. omega arith) (λ z. omega arith) (λ x. class-row x q))
+      class-kind (getD raw i blank .kind) k (λ (n : ℕ). getD raw i blank .kind ≡ n → TypesThere τ s (withLink r (boundLink raw r)))
+      (λ q. there false (λ z. omega arith) (λ z. omega arith) (λ z. omega arith) (λ x. system-row τ x q))
+      (λ q. there true (λ z. omega arith) (λ z. omega arith) (λ z. omega arith) (λ x. class-row τ x q))
       refl
     where
       r : Row
       r = getD raw i blank
 
-      there : (own : Bool) → (r .kind ≡ 32 → ⊥) → (r .kind ≡ 9 → ⊥) → (r .kind ≡ 0 → ⊥) → ((x : Recorded s (take i raw) r) → Class s (take i raw) own (r .offset) (x .head))
-          → TypesThere s (withLink r (boundLink raw r))
+      there : (own : Bool) → (r .kind ≡ 32 → ⊥) → (r .kind ≡ 9 → ⊥) → (r .kind ≡ 0 → ⊥) → ((x : Recorded τ s (take i raw) r) → Class τ s (take i raw) own (r .offset) (x .head))
+          → TypesThere τ s (withLink r (boundLink raw r))
       there own a b c class =
-          let x = record-at (t .stands) i h a in
+          let x = record-at τ (t .stands) i h a in
           let w = class x in
-          let places = class-places s (take i raw) own (r .offset) (x .head) w in
+          let places = class-places τ s (take i raw) own (r .offset) (x .head) w in
           let n : x .head .count ≡ r .count = sym (x .same-count) in
           let l : x .head .link ≡ boundLink raw r = sym (x .same-link) ∙ sym (bound-own raw r b c) in
           record {
             name-end = w .counts;
-            named = subst (λ (p : ℕ). nameAt s p ≡ F.End (w .counts)) (places .0) (w .name-at);
+            named = subst (λ (p : ℕ). nameAt (τ .setting) s p ≡ F.End (w .counts)) (places .0) (w .name-at);
             names =
-                subst (λ (p : ℕ). times (nameAt s) (r .count) p ≡ F.End (boundLink raw r)) (places .1)
-                (subst (λ (k : ℕ). times (nameAt s) k (w .names) ≡ F.End (boundLink raw r)) n (w .names-at ∙ ap F.End l));
+                subst (λ (p : ℕ). times (nameAt (τ .setting) s) (r .count) p ≡ F.End (boundLink raw r)) (places .1)
+                (subst (λ (k : ℕ). times (nameAt (τ .setting) s) k (w .names) ≡ F.End (boundLink raw r)) n (w .names-at ∙ ap F.End l));
           }
 
-  pub bound-types : (i : ℕ) → i < length (bound raw) → isClass (getD (bound raw) i blank .kind) ≡ true → TypesThere s (getD (bound raw) i blank)
+  pub bound-types : (i : ℕ) → i < length (bound raw) → isClass (getD (bound raw) i blank .kind) ≡ true → TypesThere τ s (getD (bound raw) i blank)
   bound-types =
-      subst (λ (rows : List Row). (i : ℕ) → i < length rows → isClass (getD rows i blank .kind) ≡ true → TypesThere s (getD rows i blank)) (sym (bound-is raw))
+      subst (λ (rows : List Row). (i : ℕ) → i < length rows → isClass (getD rows i blank .kind) ≡ true → TypesThere τ s (getD rows i blank)) (sym (bound-is raw))
       (λ i h k.
       let l = length-all (boundLink raw) raw in
       let g : i < length raw = omega arith in
-      subst (TypesThere s) (sym (row-at (boundLink raw) raw i g)) (types-raw i g (ap isClass (sym (same-kind (boundLink raw) raw i)) ∙ k)))
+      subst (TypesThere τ s) (sym (row-at (boundLink raw) raw i g)) (types-raw i g (ap isClass (sym (same-kind (boundLink raw) raw i)) ∙ k)))
 
   -- the members of all classes are no more than the stream has bytes
   pub members-small : membersIn (bound raw) ≤ length s
   members-small =
-      let a = members-fit (t .stands) in
+      let a = members-fit τ (t .stands) in
       let b : membersIn (bound raw) ≡ membersIn raw = ap membersIn (bound-is raw) ∙ members-linked (boundLink raw) raw in
       omega arith
 
@@ -275,22 +276,22 @@ module _ (s : List ℕ) (room : ℕ) (raw : List Row) (e : rawOf s room ≡ acce
   abbrev all-bound : List Row
   all-bound = relinked (boundLink raw) raw
 
-  value-raw : (i : ℕ) → i < length raw → getD raw i blank .kind ≡ 32 → ValueThere s all-bound (getD all-bound i blank)
+  value-raw : (i : ℕ) → i < length raw → getD raw i blank .kind ≡ 32 → ValueThere τ s all-bound (getD all-bound i blank)
   value-raw i h k =
-      let w = value-code s room raw e i h k in
+      let w = value-code τ s room raw e i h k in
       let r = getD raw i blank in
       let at = row-at (boundLink raw) raw i h in
       let l : boundLink raw r ≡ r .link = bound-own raw r (λ z. omega arith) (λ z. omega arith) in
       record {
         code = w .code;
         link-is = ap (λ (x : Row). x .link) at ∙ (l ∙ w .link-is);
-        reads = ap (λ (x : Row). valueAt s (w .code) (x .offset)) at ∙ (w .reads ∙ ap F.End (sym (ap (λ (x : Row). x .end) at)));
+        reads = ap (λ (x : Row). valueAt (τ .setting) s (w .code) (x .offset)) at ∙ (w .reads ∙ ap F.End (sym (ap (λ (x : Row). x .end) at)));
         said = w .said-by (boundLink raw) (by-bound raw);
       }
 
-  pub bound-values : (i : ℕ) → i < length (bound raw) → getD (bound raw) i blank .kind ≡ 32 → ValueThere s (bound raw) (getD (bound raw) i blank)
+  pub bound-values : (i : ℕ) → i < length (bound raw) → getD (bound raw) i blank .kind ≡ 32 → ValueThere τ s (bound raw) (getD (bound raw) i blank)
   bound-values =
-      subst (λ (rows : List Row). (i : ℕ) → i < length rows → getD rows i blank .kind ≡ 32 → ValueThere s rows (getD rows i blank)) (sym (bound-is raw))
+      subst (λ (rows : List Row). (i : ℕ) → i < length rows → getD rows i blank .kind ≡ 32 → ValueThere τ s rows (getD rows i blank)) (sym (bound-is raw))
       (λ i h k.
       let l = length-all (boundLink raw) raw in
       value-raw i (omega arith) (sym (same-kind (boundLink raw) raw i) ∙ k))

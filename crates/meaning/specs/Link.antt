@@ -7,6 +7,7 @@ use native.Mathlib.Omega.{arith}
 use lib.ListN.{length, getD}
 use lib.Dec.{eqb}
 use borrow.Author.Tests.{eqb-true, eqb-false}
+use Rattle.format.specs.Terms.{Terms}
 use Rattle.format.specs.declared.PrimitiveCode.{PrimitiveCode}
 use Rattle.format.specs.declared.Row.{Row}
 use Rattle.format.specs.Bytes.{pick}
@@ -19,7 +20,7 @@ use Rattle.laws.specs.Kinds.{class-kind, class-is-object}
 use Rattle.laws.specs.Runs.{encs-append}
 use Rattle.put.specs.Out.{headOut, byIdOut, headerOut}
 use Rattle.marks.specs.Marks.{rowAt, withId, itemType, numbered, placed, firsts, needed, marked, isFirst}
-use Rattle.pieces.specs.Copy.{needClassOut, classOut, objectOut, arrayOut, bodyOut, needInfoOut, recordOut, copyOf}
+use Rattle.pieces.specs.Copy.{anewIn, needClassOut, classOut, objectOut, arrayOut, bodyOut, needInfoOut, recordOut, copyOf}
 use Rattle.pieces.specs.Laws.{recordAs, record-as}
 use Rattle.meaning.specs.Stands.{RowStands, the-header, by-id, a-class, a-string, an-array, a-primitive, a-reference, nulls, the-end, a-library, primitives, objects, texts, a-value, ArrayStands, Stands}
 use Rattle.meaning.specs.Marked.{TypesThere, ValueThere, Placed, Firsts, classFields, arrayFields, rowFields, fieldsFrom, All, classFirst}
@@ -58,8 +59,11 @@ known-by (suc n) w c h = refl
 
 -- ---- row by row
 
-module _ (s : List ℕ) (rows ps fs : List Row) (st : Stands s rows) (pl : Placed s rows ps) (fi : Firsts s rows ps fs)
-    (F : Fields s rows fs) (spelled : All (Spelled s rows fs) (fieldsFrom s 0 fs)) where
+module _ (τ : Terms) (s : List ℕ) (rows ps fs : List Row) (st : Stands τ s rows) (pl : Placed τ s rows ps) (fi : Firsts s rows ps fs) (F : Fields s rows fs) (spelled : All (Spelled s rows fs) (fieldsFrom s 0 fs)) where
+  -- the code whose values are written anew
+  abbrev δ : ℕ
+  δ = anewIn (τ .setting)
+
   abbrev ms : List Row
   ms = needed s fs
 
@@ -71,8 +75,8 @@ module _ (s : List ℕ) (rows ps fs : List Row) (st : Stands s rows) (pl : Place
     next-number o = order-object rows i h o ∙ ap suc (sym (progress-count s rows i (omega arith)))
 
     -- an object's row writes the record that it has before libraries are numbered
-    from-first : isObject (getD rows i blank .kind) ≡ true → recordOut s ms i (getD ms i blank) ≡ recordOut s ms i (getD fs i blank)
-    from-first o = ap (recordOut s ms i) (marked-kept s rows ps fs st pl fi ms (needed-same s rows fs F) i h (object-not-library (getD rows i blank .kind) o))
+    from-first : isObject (getD rows i blank .kind) ≡ true → recordOut δ s ms i (getD ms i blank) ≡ recordOut δ s ms i (getD fs i blank)
+    from-first o = ap (recordOut δ s ms i) (marked-kept τ s rows ps fs st pl fi ms (needed-same s rows fs F) i h (object-not-library (getD rows i blank .kind) o))
 
     module _ (k : isClass (getD rows i blank .kind) ≡ true) where
       -- the class, and its number so far
@@ -86,7 +90,7 @@ module _ (s : List ℕ) (rows ps fs : List Row) (st : Stands s rows) (pl : Place
       object = class-is-object (getD rows i blank .kind) k
 
       class-number : getD fs i blank .id ≡ suc (progressTo s rows i .count)
-      class-number = ap (λ (r : Row). r .id) (class-words s rows ps fs st pl fi i h k) ∙ next-number object
+      class-number = ap (λ (r : Row). r .id) (class-words τ s rows ps fs st pl fi i h k) ∙ next-number object
 
       -- the first object of a class, in full
       new-object : isNew s rows i (getD rows i blank) ≡ true → objectOut s ms i (getD fs i blank) ≡ encs (objectBy number (progressTo s rows i) class)
@@ -96,20 +100,20 @@ module _ (s : List ℕ) (rows ps fs : List Row) (st : Stands s rows) (pl : Place
           let q : Row = getD fs i blank in
           let w : Progress = progressTo s rows i in
           let ls : Libraries = allEntered (classNeeds class) (w .libraries) in
-          let first : isFirst i q ≡ true = first-new s rows ps fs st pl fi i h ∙ e in
+          let first : isFirst i q ≡ true = first-new τ s rows ps fs st pl fi i h ∙ e in
           let fields : rowFields s i q ≡ classFields s q = class-row-fields s i q first in
           let needs : rowNeeds s rows i r ≡ classNeeds class = class-row-needs s rows i r e in
           let a : needClassOut s ms q ≡ encs (libraryRecords (classNeeds class) (w .libraries)) =
-          class-out s ms q ∙ row-out s rows ps fs st pl fi F i h (classFields s q) (classNeeds class) fields needs spelled in
-          let numbers : All (Numbered s rows ms ls) (classFields s q) = row-numbers s rows ps fs st pl fi F i h (classFields s q) (classNeeds class) fields needs in
-          let c = class-words s rows ps fs st pl fi i h k in
+          class-out s ms q ∙ row-out τ s rows ps fs st pl fi F i h (classFields s q) (classNeeds class) fields needs spelled in
+          let numbers : All (Numbered s rows ms ls) (classFields s q) = row-numbers τ s rows ps fs st pl fi F i h (classFields s q) (classNeeds class) fields needs in
+          let c = class-words τ s rows ps fs st pl fi i h k in
           let b : classOut s ms q ≡ enc (classBy ls (suc (w .count)) class (class .from)) =
-          class-is s rows r (class-at s rows st i h k) q (ap (λ (z : Row). z .kind) c) (ap (λ (z : Row). z .offset) c) (ap (λ (z : Row). z .end) c)
+          class-is τ s rows r (class-at τ s rows st i h k) q (ap (λ (z : Row). z .kind) c) (ap (λ (z : Row). z .offset) c) (ap (λ (z : Row). z .end) c)
           (ap (λ (z : Row). z .count) c) (ap (λ (z : Row). z .slot) c) ms ls numbers
           ∙ ap (λ (n : ℕ). enc (classBy ls n class (class .from))) class-number in
           let f : classFirst s rows class ≡ i + 1 =
           eqb-true (classFirst s rows class) (i + 1) (pick-of (isClass (r .kind)) (eqb (classFirst s rows class) (i + 1)) e .1) in
-          let z : number ≡ 0 = class-later s rows class-refl class-eq st i (omega arith) class (omega arith) in
+          let z : number ≡ 0 = class-later τ s rows class-refl class-eq st i (omega arith) class (omega arith) in
           ap (λ (t : Bool). pick t (needClassOut s ms q ++ classOut s ms q) (byIdOut (q .id) (rowAt ms (q .link) .id))) first
           ∙ last-record (needClassOut s ms q) (classOut s ms q) (libraryRecords (classNeeds class) (w .libraries)) (classBy ls (suc (w .count)) class (class .from))
           (objectBy number w class) a b (ap (λ (n : ℕ). objectBy n w class) z)
@@ -124,132 +128,132 @@ module _ (s : List ℕ) (rows ps fs : List Row) (st : Stands s rows) (pl : Place
           let f : ℕ = classFirst s rows class in
           let g : eqb f (i + 1) ≡ false = ap (λ (t : Bool). pick t (eqb f (i + 1)) false) (sym k) ∙ e in
           let n = eqb-false f (i + 1) g in
-          let b = first-before s rows class-refl class-eq i h k in
+          let b = first-before τ s rows class-refl class-eq i h k in
           let b0 : 0 < f = b .0 in
           let b1 : f ≤ suc i = b .1 in
           let l : f ≤ i = omega (arith, n) in
-          let z : number ≡ orderOf rows f = class-known s rows class-refl class-eq st i (omega arith) class l in
-          let o = first-order s rows class b0 in
+          let z : number ≡ orderOf rows f = class-known τ s rows class-refl class-eq st i (omega arith) class l in
+          let o = first-order τ s rows class b0 in
           let id : rowAt ms (q .link) .id ≡ number =
-          ap (λ (x : Row). rowAt ms (x .link) .id) (class-words s rows ps fs st pl fi i h k)
-          ∙ (first-id s rows ps fs st pl fi ms (needed-same s rows fs F) i h k ∙ sym z) in
-          ap (λ (t : Bool). pick t (needClassOut s ms q ++ classOut s ms q) (byIdOut (q .id) (rowAt ms (q .link) .id))) (first-new s rows ps fs st pl fi i h ∙ e)
+          ap (λ (x : Row). rowAt ms (x .link) .id) (class-words τ s rows ps fs st pl fi i h k)
+          ∙ (first-id τ s rows ps fs st pl fi ms (needed-same s rows fs F) i h k ∙ sym z) in
+          ap (λ (t : Bool). pick t (needClassOut s ms q ++ classOut s ms q) (byIdOut (q .id) (rowAt ms (q .link) .id))) (first-new τ s rows ps fs st pl fi i h ∙ e)
           ∙ (ap₂ byIdOut class-number id
           ∙ one-record (byIdOut (suc (w .count)) number) (classById (suc (w .count)) number) (objectBy number w class) (by-id-is (suc (w .count)) number)
           (known-by number w class (omega arith)))
 
-      class-writes : recordOut s ms i (getD ms i blank) ≡ encs (recordsOf (progressTo s rows i) (whatFrom s rows (getD rows i blank)))
+      class-writes : recordOut δ s ms i (getD ms i blank) ≡ encs (recordsOf (progressTo s rows i) (whatFrom s rows (getD rows i blank)))
       class-writes =
           let r : Row = getD rows i blank in
           let q : Row = getD fs i blank in
           let w : Progress = progressTo s rows i in
-          let kind = first-kind s rows ps fs st pl fi i h in
-          let out : recordOut s ms i q ≡ objectOut s ms i q =
-          class-kind (r .kind) k (λ (n : ℕ). r .kind ≡ n → recordOut s ms i q ≡ objectOut s ms i q)
-          (λ e. record-as s ms i q 4 (kind ∙ e)) (λ e. record-as s ms i q 5 (kind ∙ e)) refl in
+          let kind = first-kind τ s rows ps fs st pl fi i h in
+          let out : recordOut δ s ms i q ≡ objectOut s ms i q =
+          class-kind (r .kind) k (λ (n : ℕ). r .kind ≡ n → recordOut δ s ms i q ≡ objectOut s ms i q)
+          (λ e. record-as δ s ms i q 4 (kind ∙ e)) (λ e. record-as δ s ms i q 5 (kind ∙ e)) refl in
           let says : recordsOf w (whatFrom s rows r) ≡ objectBy number w class =
           class-kind (r .kind) k (λ (n : ℕ). r .kind ≡ n → recordsOf w (whatFrom s rows r) ≡ objectBy number w class) (records-system s rows r w) (records-class s rows r w) refl in
           from-first object ∙ (out ∙ (either (isNew s rows i r) new-object known-object ∙ ap encs (sym says)))
 
     -- an object by its class's row
-    by-id-writes : getD rows i blank .kind ≡ 1 → recordOut s ms i (getD ms i blank) ≡ encs (recordsOf (progressTo s rows i) (whatFrom s rows (getD rows i blank)))
+    by-id-writes : getD rows i blank .kind ≡ 1 → recordOut δ s ms i (getD ms i blank) ≡ encs (recordsOf (progressTo s rows i) (whatFrom s rows (getD rows i blank)))
     by-id-writes k =
         let r : Row = getD rows i blank in
         let w : Progress = progressTo s rows i in
         let c : Class = classFrom s rows (getD rows (r .link - 1) blank) in
         let n : ℕ = numberIn (sameClass c) (w .classes) in
-        let y = class-of-id s rows i r (st .each i h) k in
+        let y = class-of-id τ s rows i r (st .each i h) k in
         let j : ℕ = y .0 in
         let e : r .link ≡ suc j = y .1 in
         let l : j < i = y .2 in
         let z : r .link - 1 ≡ j = omega arith in
-        let q : getD fs i blank ≡ withId r (orderOf rows (suc i)) = object-words s rows ps fs st pl fi i h (ap isObject k) (ap isClass k) in
+        let q : getD fs i blank ≡ withId r (orderOf rows (suc i)) = object-words τ s rows ps fs st pl fi i h (ap isObject k) (ap isClass k) in
         let d : Class = classFrom s rows (getD rows j blank) in
         let same : c ≡ d = ap (λ (m : ℕ). classFrom s rows (getD rows m blank)) z in
-        let b = first-before s rows class-refl class-eq j (omega arith) (y .3) in
+        let b = first-before τ s rows class-refl class-eq j (omega arith) (y .3) in
         let b0 : 0 < classFirst s rows d = b .0 in
         let b1 : classFirst s rows d ≤ suc j = b .1 in
         let known : n ≡ orderOf rows (classFirst s rows d) =
-        ap (λ (x : Class). numberIn (sameClass x) (w .classes)) same ∙ class-known s rows class-refl class-eq st i (omega arith) d (omega arith) in
-        let o = first-order s rows d b0 in
+        ap (λ (x : Class). numberIn (sameClass x) (w .classes)) same ∙ class-known τ s rows class-refl class-eq st i (omega arith) d (omega arith) in
+        let o = first-order τ s rows d b0 in
         let id : rowAt ms (rowAt ms (r .link) .link) .id ≡ n =
-        ap (λ (m : ℕ). rowAt ms (getD ms m blank .link) .id) z ∙ (class-id s rows ps fs st pl fi ms (needed-same s rows fs F) j (omega arith) (y .3) ∙ sym known) in
+        ap (λ (m : ℕ). rowAt ms (getD ms m blank .link) .id) z ∙ (class-id τ s rows ps fs st pl fi ms (needed-same s rows fs F) j (omega arith) (y .3) ∙ sym known) in
         from-first (ap isObject k)
-        ∙ (ap (recordOut s ms i) q
-        ∙ (record-as s ms i (withId r (orderOf rows (suc i))) 1 k
+        ∙ (ap (recordOut δ s ms i) q
+        ∙ (record-as δ s ms i (withId r (orderOf rows (suc i))) 1 k
         ∙ (ap₂ byIdOut (next-number (ap isObject k)) id
         ∙ one-record (byIdOut (suc (w .count)) n) (classById (suc (w .count)) n) (recordsOf w (whatFrom s rows r)) (by-id-is (suc (w .count)) n)
         (records-by-id s rows r w k ∙ known-by n w c (omega arith)))))
 
-    array-writes : getD rows i blank .kind ≡ 7 → recordOut s ms i (getD ms i blank) ≡ encs (recordsOf (progressTo s rows i) (whatFrom s rows (getD rows i blank)))
+    array-writes : getD rows i blank .kind ≡ 7 → recordOut δ s ms i (getD ms i blank) ≡ encs (recordsOf (progressTo s rows i) (whatFrom s rows (getD rows i blank)))
     unfolding arrayOut itemNeeds
     array-writes k =
         let r : Row = getD rows i blank in
         let q : Row = getD fs i blank in
         let w : Progress = progressTo s rows i in
-        let e : q ≡ withId r (orderOf rows (suc i)) = object-words s rows ps fs st pl fi i h (ap isObject k) (ap isClass k) in
+        let e : q ≡ withId r (orderOf rows (suc i)) = object-words τ s rows ps fs st pl fi i h (ap isObject k) (ap isClass k) in
         let item : Detail (List ℕ) (List ℕ) = arrayItem s rows r in
         let ls : Libraries = allEntered (detailNeeds item) (w .libraries) in
-        let c : ArrayStands s rows r = array-at s rows st i h k in
-        let kind : q .kind ≡ 7 = first-kind s rows ps fs st pl fi i h ∙ k in
+        let c : ArrayStands τ s rows r = array-at τ s rows st i h k in
+        let kind : q .kind ≡ 7 = first-kind τ s rows ps fs st pl fi i h ∙ k in
         let none-new : isNew s rows i r ≡ false = ap (λ (t : Bool). pick t (eqb (classFirst s rows (classFrom s rows r)) (i + 1)) false) (ap isClass k) in
         let fields : rowFields s i q ≡ arrayFields s q =
-        other-row-fields s i q (first-new s rows ps fs st pl fi i h ∙ none-new) ∙ ap (λ (n : ℕ). pick (eqb n 7) (arrayFields s q) []) kind in
+        other-row-fields s i q (first-new τ s rows ps fs st pl fi i h ∙ none-new) ∙ ap (λ (n : ℕ). pick (eqb n 7) (arrayFields s q) []) kind in
         let needs : rowNeeds s rows i r ≡ detailNeeds item = other-row-needs s rows i r none-new ∙ ap (λ (n : ℕ). pick (eqb n 7) (itemNeeds s rows r) []) k in
         let need : List ℕ = needInfoOut s ms (getD s (itemType s q) 0) (itemsPlace s q) in
-        let body : List ℕ = bodyOut s ms (itemType s q) (itemsPlace s q) q in
+        let body : List ℕ = bodyOut δ s ms (itemType s q) (itemsPlace s q) q in
         let a : need ≡ encs (libraryRecords (detailNeeds item) (w .libraries)) =
-        array-out s ms q ∙ row-out s rows ps fs st pl fi F i h (arrayFields s q) (detailNeeds item) fields needs spelled in
-        let numbers : All (Numbered s rows ms ls) (arrayFields s q) = row-numbers s rows ps fs st pl fi F i h (arrayFields s q) (detailNeeds item) fields needs in
+        array-out s ms q ∙ row-out τ s rows ps fs st pl fi F i h (arrayFields s q) (detailNeeds item) fields needs spelled in
+        let numbers : All (Numbered s rows ms ls) (arrayFields s q) = row-numbers τ s rows ps fs st pl fi F i h (arrayFields s q) (detailNeeds item) fields needs in
         let whole : ℕ → Rec = λ (n : ℕ). array n (getD s (r .offset + 5) 0) (arrayLengths s r) (detailBy ls item) (valuesBy (codeOf item) (arrayItems s r)) in
         let b : body ≡ enc (whole (suc (w .count))) =
-        array-is s rows r c q (ap (λ (z : Row). z .offset) e) (ap (λ (z : Row). z .end) e) (ap (λ (z : Row). z .count) e) ms (st .bytes) ls numbers
+        array-is τ s rows r c q (ap (λ (z : Row). z .offset) e) (ap (λ (z : Row). z .end) e) (ap (λ (z : Row). z .count) e) ms (st .bytes) ls numbers
         ∙ ap (λ (n : ℕ). enc (whole n)) (ap (λ (z : Row). z .id) e ∙ next-number (ap isObject k)) in
         from-first (ap isObject k)
-        ∙ (record-as s ms i q 7 kind
+        ∙ (record-as δ s ms i q 7 kind
         ∙ last-record need body (libraryRecords (detailNeeds item) (w .libraries)) (whole (suc (w .count))) (recordsOf w (whatFrom s rows r)) a b (records-array s rows r w k))
 
     -- ---- rows that are kept but for their number
 
     abbrev Said : Type 0
-    Said = recordOut s ms i (getD ms i blank) ≡ encs (recordsOf (progressTo s rows i) (whatFrom s rows (getD rows i blank)))
+    Said = recordOut δ s ms i (getD ms i blank) ≡ encs (recordsOf (progressTo s rows i) (whatFrom s rows (getD rows i blank)))
 
     -- the row with its number
     abbrev renumbered : Row
     renumbered = withId (getD rows i blank) (orderOf rows (suc i))
 
     object-writes : (kind : ℕ) (rec : ℕ → Rec) → getD rows i blank .kind ≡ kind → isObject kind ≡ true → isClass kind ≡ false
-        → recordAs s ms i renumbered kind ≡ enc (rec (orderOf rows (suc i)))
+        → recordAs δ s ms i renumbered kind ≡ enc (rec (orderOf rows (suc i)))
         → recordsOf (progressTo s rows i) (whatFrom s rows (getD rows i blank)) ≡ rec (suc (progressTo s rows i .count)) ∷ [] → Said
     object-writes kind rec k o c out says =
         let object : isObject (getD rows i blank .kind) ≡ true = ap isObject k ∙ o in
         let w : Progress = progressTo s rows i in
         from-first object
-        ∙ (ap (recordOut s ms i) (object-words s rows ps fs st pl fi i h object (ap isClass k ∙ c))
-        ∙ (record-as s ms i renumbered kind k
-        ∙ one-record (recordAs s ms i renumbered kind) (rec (suc (w .count))) (recordsOf w (whatFrom s rows (getD rows i blank)))
+        ∙ (ap (recordOut δ s ms i) (object-words τ s rows ps fs st pl fi i h object (ap isClass k ∙ c))
+        ∙ (record-as δ s ms i renumbered kind k
+        ∙ one-record (recordAs δ s ms i renumbered kind) (rec (suc (w .count))) (recordsOf w (whatFrom s rows (getD rows i blank)))
         (out ∙ ap (λ (n : ℕ). enc (rec n)) (next-number object)) says))
 
     -- rows that are no object's are as they were
     as-it-was : (kind : ℕ) → getD rows i blank .kind ≡ kind → isObject kind ≡ false → eqb kind 12 ≡ false
-        → recordOut s ms i (getD ms i blank) ≡ recordAs s ms i (getD rows i blank) kind
+        → recordOut δ s ms i (getD ms i blank) ≡ recordAs δ s ms i (getD rows i blank) kind
     as-it-was kind k o l =
-        ap (recordOut s ms i)
-        (marked-other s rows ps fs st pl fi ms (needed-same s rows fs F) i h (ap isObject k ∙ o) (ap (λ (n : ℕ). eqb n 12) k ∙ l))
-        ∙ record-as s ms i (getD rows i blank) kind k
+        ap (recordOut δ s ms i)
+        (marked-other τ s rows ps fs st pl fi ms (needed-same s rows fs F) i h (ap isObject k ∙ o) (ap (λ (n : ℕ). eqb n 12) k ∙ l))
+        ∙ record-as δ s ms i (getD rows i blank) kind k
 
     other-writes : (kind : ℕ) (rec : Rec) → getD rows i blank .kind ≡ kind → isObject kind ≡ false → eqb kind 12 ≡ false
-        → recordAs s ms i (getD rows i blank) kind ≡ enc rec → recordsOf (progressTo s rows i) (whatFrom s rows (getD rows i blank)) ≡ rec ∷ [] → Said
+        → recordAs δ s ms i (getD rows i blank) kind ≡ enc rec → recordsOf (progressTo s rows i) (whatFrom s rows (getD rows i blank)) ≡ rec ∷ [] → Said
     other-writes kind rec k o l out says =
-        as-it-was kind k o l ∙ one-record (recordAs s ms i (getD rows i blank) kind) rec (recordsOf (progressTo s rows i) (whatFrom s rows (getD rows i blank))) out says
+        as-it-was kind k o l ∙ one-record (recordAs δ s ms i (getD rows i blank) kind) rec (recordsOf (progressTo s rows i) (whatFrom s rows (getD rows i blank))) out says
 
     -- ---- any row
 
     -- header and end by themselves
     record Written : Type 0 where
       pub first : getD rows i blank .kind ≡ 0
-          → recordOut s ms i (getD ms i blank) ≡ enc (header (orderOf rows (getD rows i blank .link)) (orderOf rows (getD rows i blank .link)))
-      pub last : getD rows i blank .kind ≡ 11 → recordOut s ms i (getD ms i blank) ≡ enc end
+          → recordOut δ s ms i (getD ms i blank) ≡ enc (header (orderOf rows (getD rows i blank .link)) (orderOf rows (getD rows i blank .link)))
+      pub last : getD rows i blank .kind ≡ 11 → recordOut δ s ms i (getD ms i blank) ≡ enc end
       pub each : isSilent (getD rows i blank .kind) ≡ false → isNulls (getD rows i blank .kind) ≡ false → Said
 
     said : (kind : ℕ) → getD rows i blank .kind ≡ kind → isSilent kind ≡ false → Said → Written
@@ -261,13 +265,13 @@ module _ (s : List ℕ) (rows ps fs : List Row) (st : Stands s rows) (pl : Place
           each = λ a b. out;
         }
 
-    written : RowStands s rows i (getD rows i blank) → Written
+    written : RowStands τ s rows i (getD rows i blank) → Written
     written (the-header z k t) =
         let root : ℕ = orderOf rows (getD rows i blank .link) in
         record {
           first = λ e.
               as-it-was 0 k refl refl
-              ∙ (ap headerOut (target-id s rows ps fs st pl fi ms (needed-same s rows fs F) (getD rows i blank .link) t) ∙ header-is root);
+              ∙ (ap headerOut (target-id τ s rows ps fs st pl fi ms (needed-same s rows fs F) (getD rows i blank .link) t) ∙ header-is root);
           last = λ e. absurd (omega arith);
           each = λ a b. differ (sym (ap isSilent k) ∙ a);
         }
@@ -284,12 +288,12 @@ module _ (s : List ℕ) (rows ps fs : List Row) (st : Stands s rows) (pl : Place
         let code = codeFrom s (r .offset + 1) in
         said 8 k refl
         (other-writes 8 (typedPrimitive code (valueBy code (contentFrom s code (r .offset + 2)))) k refl refl
-        (typed-is s (st .bytes) r (st .kind-byte i h (λ z. absurd (omega arith)) ∙ k) c a) (records-typed s rows r (progressTo s rows i) k))
+        (typed-is τ s (st .bytes) r (st .kind-byte i h (λ z. absurd (omega arith)) ∙ k) c a) (records-typed s rows r (progressTo s rows i) k))
     written (a-reference k t) =
         let target : ℕ = orderOf rows (getD rows i blank .link) in
         said 9 k refl
         (other-writes 9 (reference target) k refl refl
-        (ap (headOut 9) (target-id s rows ps fs st pl fi ms (needed-same s rows fs F) (getD rows i blank .link) t) ∙ reference-is target)
+        (ap (headOut 9) (target-id τ s rows ps fs st pl fi ms (needed-same s rows fs F) (getD rows i blank .link) t) ∙ reference-is target)
         (records-reference s rows (getD rows i blank) (progressTo s rows i) k))
     written (nulls k n) =
         record {
@@ -312,7 +316,7 @@ module _ (s : List ℕ) (rows ps fs : List Row) (st : Stands s rows) (pl : Place
         let code = codeFrom s (r .offset + 9) in
         said 15 k refl
         (object-writes 15 (λ (n : ℕ). primitiveArray n (r .count) code (valuesBy code (itemsFrom s code (r .count) (r .offset + 10)))) k refl refl
-        (primitives-is s (st .bytes) renumbered r refl refl u refl c a) (records-primitives s rows r (progressTo s rows i) k))
+        (primitives-is τ s (st .bytes) renumbered r refl refl u refl c a) (records-primitives s rows r (progressTo s rows i) k))
     written (objects k u e) =
         let r : Row = getD rows i blank in
         said 16 k refl
@@ -329,19 +333,19 @@ module _ (s : List ℕ) (rows ps fs : List Row) (st : Stands s rows) (pl : Place
         let code = valueCode s rows r in
         said 32 k refl
         (other-writes 32 (value code (valueBy code (contentFrom s code (r .offset)))) k refl refl
-        (member-is s (st .bytes) r (w .code) (w .link-is) (w .reads)
+        (member-is τ s (st .bytes) r (w .code) (w .link-is) (w .reads)
         ∙ ap (λ (c : PrimitiveCode). enc (value c (valueBy c (contentFrom s c (r .offset))))) (sym (w .said)))
         (records-value s rows r (progressTo s rows i) k))
 
   -- marked rows write what the rows say
-  pub writes : Writes s rows ms
+  pub writes : Writes δ s rows ms
   writes =
       let like = needed-same s rows fs F in
       record {
         size = like .size ∙ (fi .size ∙ pl .size);
-        kinds = marked-kind s rows ps fs st pl fi ms like;
+        kinds = marked-kind τ s rows ps fs st pl fi ms like;
         nulls = λ i h k.
-            marked-other s rows ps fs st pl fi ms like i h (nulls-kind (getD rows i blank .kind) k (λ (n : ℕ). isObject n ≡ false) refl refl refl)
+            marked-other τ s rows ps fs st pl fi ms like i h (nulls-kind (getD rows i blank .kind) k (λ (n : ℕ). isObject n ≡ false) refl refl refl)
             (nulls-kind (getD rows i blank .kind) k (λ (n : ℕ). eqb n 12 ≡ false) refl refl refl);
         first = written 0 (st .some) (st .each 0 (st .some)) .first (st .first);
         last = λ i h. written i h (st .each i h) .last;
@@ -350,15 +354,15 @@ module _ (s : List ℕ) (rows ps fs : List Row) (st : Stands s rows) (pl : Place
 
 -- ---- the link
 
-pub copy-of-rows : (s : List ℕ) (rows : List Row) → Stands s rows
-    → ((i : ℕ) → i < length rows → isClass (getD rows i blank .kind) ≡ true → TypesThere s (getD rows i blank))
-    → ((i : ℕ) → i < length rows → getD rows i blank .kind ≡ 32 → ValueThere s rows (getD rows i blank))
-    → ((i : ℕ) → i < length rows → getD rows i blank .kind ≡ 12 → getD rows i blank .slot ≡ 0) → copyOf s (marked s rows) ≡ tidyOf (says s rows)
+pub copy-of-rows : (τ : Terms) (s : List ℕ) (rows : List Row) → Stands τ s rows
+    → ((i : ℕ) → i < length rows → isClass (getD rows i blank .kind) ≡ true → TypesThere τ s (getD rows i blank))
+    → ((i : ℕ) → i < length rows → getD rows i blank .kind ≡ 32 → ValueThere τ s rows (getD rows i blank))
+    → ((i : ℕ) → i < length rows → getD rows i blank .kind ≡ 12 → getD rows i blank .slot ≡ 0) → copyOf (anewIn (τ .setting)) s (marked s rows) ≡ tidyOf (says s rows)
 unfolding marked
-copy-of-rows s rows st types values fresh =
+copy-of-rows τ s rows st types values fresh =
     let ps : List Row = placed s (numbered rows) in
     let fs : List Row = firsts s ps in
     let few = st .few in
-    let pl : Placed s rows ps = placed-rows s rows (omega arith) types values in
+    let pl : Placed τ s rows ps = placed-rows τ s rows (omega arith) types values in
     let fi : Firsts s rows ps fs = firsts-rows s rows ps in
-    copied s rows (needed s fs) st (writes s rows ps fs st pl fi (fields-hold s rows ps fs st pl fi fresh) (fields-spelled s rows ps fs st pl fi))
+    copied τ (anewIn (τ .setting)) s rows (needed s fs) st (writes τ s rows ps fs st pl fi (fields-hold τ s rows ps fs st pl fi fresh) (fields-spelled τ s rows ps fs st pl fi))

@@ -6,6 +6,7 @@ use mathlib.Core.Bool.{true, false, _&&_}
 use mathlib.Core.List.{List, [], _∷_, _++_}
 use lib.ListN.{length, getD}
 use lib.Dec.{eqb}
+use Rattle.format.specs.Terms.{Terms}
 use Rattle.format.specs.declared.PrimitiveCode.{PrimitiveCode}
 use Rattle.format.specs.declared.Field.the-variants as F
 use Rattle.format.specs.declared.Row.{Row}
@@ -21,25 +22,25 @@ use Rattle.marks.specs.Marks.{withId, withSlot, withCount, firstLibrary, infosP
 -- ---- rows after a pass
 
 -- the link of a class's row is the place of its type bytes: after its name, its member count and its members' names
-pub record TypesThere (s : List ℕ) (r : Row) : Type 0 where
+pub record TypesThere (τ : Terms) (s : List ℕ) (r : Row) : Type 0 where
   pub name-end : ℕ
-  pub named : nameAt s (r .offset + 5) ≡ F.End name-end
-  pub names : times (nameAt s) (r .count) (name-end + 4) ≡ F.End (r .link)
+  pub named : nameAt (τ .setting) s (r .offset + 5) ≡ F.End name-end
+  pub names : times (nameAt (τ .setting) s) (r .count) (name-end + 4) ≡ F.End (r .link)
 
 -- the link of a member value's row is the number of its code, by which it was read and which its slot has
-pub record ValueThere (s : List ℕ) (rows : List Row) (r : Row) : Type 0 where
+pub record ValueThere (τ : Terms) (s : List ℕ) (rows : List Row) (r : Row) : Type 0 where
   pub code : PrimitiveCode
   pub link-is : r .link ≡ codeNumber code
-  pub reads : valueAt s code (r .offset) ≡ F.End (r .end)
+  pub reads : valueAt (τ .setting) s code (r .offset) ≡ F.End (r .end)
   pub said : valueCode s rows r ≡ code
 
 -- after numbering, and after the first library and the types' place were put in
-pub record Placed (s : List ℕ) (rows ps : List Row) : Type 0 where
+pub record Placed (τ : Terms) (s : List ℕ) (rows ps : List Row) : Type 0 where
   pub size : length ps ≡ length rows
   pub class : (i : ℕ) → i < length rows → isClass (getD rows i blank .kind) ≡ true
       → getD ps i blank ≡ withSlot (withId (getD rows i blank) (orderOf rows (suc i))) (getD rows i blank .link)
-  pub types : (i : ℕ) → i < length rows → isClass (getD rows i blank .kind) ≡ true → TypesThere s (getD rows i blank)
-  pub values : (i : ℕ) → i < length rows → getD rows i blank .kind ≡ 32 → ValueThere s rows (getD rows i blank)
+  pub types : (i : ℕ) → i < length rows → isClass (getD rows i blank .kind) ≡ true → TypesThere τ s (getD rows i blank)
+  pub values : (i : ℕ) → i < length rows → getD rows i blank .kind ≡ 32 → ValueThere τ s rows (getD rows i blank)
   pub library : (i : ℕ) → i < length rows → getD rows i blank .kind ≡ 12
       → getD ps i blank ≡ withCount (getD rows i blank) (firstLibrary s rows (getD rows i blank))
   pub object : (i : ℕ) → i < length rows → isObject (getD rows i blank .kind) ≡ true → isClass (getD rows i blank .kind) ≡ false

@@ -7,6 +7,7 @@ use native.Mathlib.Omega.{arith}
 use lib.ListN.{length, getD}
 use lib.Dec.{eqb}
 use borrow.Author.Tests.{eq-eqb, eqb-true}
+use Rattle.format.specs.Terms.{Terms}
 use Rattle.format.specs.declared.Coded.{Coded}
 use Rattle.format.specs.declared.Field.the-variants as F
 use Rattle.format.specs.declared.Row.{Row}
@@ -41,7 +42,7 @@ members-count s rows (suc n) names types p = ap suc (members-count s rows n (aft
 
 -- ---- single bytes and names
 
-module _ (s : List ℕ) where
+module _ (τ : Terms) (s : List ℕ) where
   parts-none : (p q : ℕ) → p ≤ length s → q ≤ length s → SameParts s p q 0
   parts-none p q h g = record { first = omega arith; second = omega arith; equal = refl }
 
@@ -56,11 +57,11 @@ module _ (s : List ℕ) where
       let e = w .equal in
       cc
 
-  name-same : (p q m k : ℕ) → nameAt s p ≡ F.End m → nameAt s q ≡ F.End k → sameText s p q ≡ sameBytes (textFrom s p) (textFrom s q)
+  name-same : (p q m k : ℕ) → nameAt (τ .setting) s p ≡ F.End m → nameAt (τ .setting) s q ≡ F.End k → sameText s p q ≡ sameBytes (textFrom s p) (textFrom s q)
   name-same p q m k a b =
-      let c = name-told s p m a in
-      let d = name-told s q k b in
-      same-texts s p m q k (record { from = c .0; text = c .1 }) (record { from = d .0; text = d .1 })
+      let c = name-told (τ .setting) s p m a in
+      let d = name-told (τ .setting) s q k b in
+      same-texts τ s p m q k (record { from = c .0; text = c .1 }) (record { from = d .0; text = d .1 })
 
   -- two codes
   code-number : (p e : ℕ) → codeAt s p ≡ F.End e → codeNumber (codeFrom s p) ≡ getD s p 0
@@ -83,35 +84,35 @@ module _ (s : List ℕ) where
 -- ---- details
 
 -- the test of two details of type t is a test for equality
-abbrev Fair : List ℕ → List Row → List Row → ℕ → Type 0
-Fair s rows ps t =
-    (a x b y : ℕ) → a ≤ length s → b ≤ length s → infoKnown s rows t a ≡ F.End x → infoKnown s rows t b ≡ F.End y
+abbrev Fair : Terms → List ℕ → List Row → List Row → ℕ → Type 0
+Fair τ s rows ps t =
+    (a x b y : ℕ) → a ≤ length s → b ≤ length s → infoKnown τ s rows t a ≡ F.End x → infoKnown τ s rows t b ≡ F.End y
     → (sameInfo s ps t a x b y ≡ true → detailFrom s rows t a ≡ detailFrom s rows t b)
     × (detailFrom s rows t a ≡ detailFrom s rows t b → sameInfo s ps t a x b y ≡ true)
 
-module _ (s : List ℕ) (rows ps : List Row) (st : Stands s rows) (pl : Placed s rows ps) where
+module _ (τ : Terms) (s : List ℕ) (rows ps : List Row) (st : Stands τ s rows) (pl : Placed τ s rows ps) where
   no-detail : (a x b y : ℕ) → a ≤ length s → b ≤ length s → F.End a ≡ F.End x → F.End b ≡ F.End y → sameBetween s a x b y ≡ true
   no-detail a x b y h g p q =
       let c : a ≡ x = cc in
       let d : b ≡ y = cc in
       let e : x - a ≡ 0 = omega arith in
-      true-between s a x b y (omega arith) (rw e (parts-none s a b h g))
+      true-between s a x b y (omega arith) (rw e (parts-none τ s a b h g))
 
-  fair-class : Fair s rows ps 4
+  fair-class : Fair τ s rows ps 4
   unfolding sameInfo detailFrom nameAtField
   fair-class a x b y h g p q =
-      let u = class-info s rows a x p in
-      let v = class-info s rows b y q in
+      let u = class-info τ s rows a x p in
+      let v = class-info τ s rows b y q in
       let i : u .1 ≡ x - 4 = omega (arith, u .3) in
       let j : v .1 ≡ y - 4 = omega (arith, v .3) in
-      let m : nameAt s a ≡ F.End (x - 4) = rw i at (u .2) in
-      let n : nameAt s b ≡ F.End (y - 4) = rw j at (v .2) in
-      let names = name-same s a b (x - 4) (y - 4) m n in
-      let libraries = same-library s rows ps st pl (x - 4) (y - 4) (u .0) (v .0) in
+      let m : nameAt (τ .setting) s a ≡ F.End (x - 4) = rw i at (u .2) in
+      let n : nameAt (τ .setting) s b ≡ F.End (y - 4) = rw j at (v .2) in
+      let names = name-same τ s a b (x - 4) (y - 4) m n in
+      let libraries = same-library τ s rows ps st pl (x - 4) (y - 4) (u .0) (v .0) in
       let k = nameAtField s rows (x - 4) in
       let l = nameAtField s rows (y - 4) in
-      let c : detailFrom s rows 4 a ≡ class (textFrom s a) k = ap (λ (z : ℕ). class (textFrom s a) (libraryName s rows (numberFrom s z))) (name-after s a (x - 4) m) in
-      let d : detailFrom s rows 4 b ≡ class (textFrom s b) l = ap (λ (z : ℕ). class (textFrom s b) (libraryName s rows (numberFrom s z))) (name-after s b (y - 4) n) in
+      let c : detailFrom s rows 4 a ≡ class (textFrom s a) k = ap (λ (z : ℕ). class (textFrom s a) (libraryName s rows (numberFrom s z))) (name-after (τ .setting) s a (x - 4) m) in
+      let d : detailFrom s rows 4 b ≡ class (textFrom s b) l = ap (λ (z : ℕ). class (textFrom s b) (libraryName s rows (numberFrom s z))) (name-after (τ .setting) s b (y - 4) n) in
       let test = sameText s a b in
       let firsts = eqb (libraryAt s ps (x - 4)) (libraryAt s ps (y - 4)) in (
         (λ t.
@@ -126,36 +127,36 @@ module _ (s : List ℕ) (rows ps : List Row) (st : Stands s rows) (pl : Placed s
             pick-true test firsts (names ∙ true-same (textFrom s a) (textFrom s b) e) (libraries ∙ true-same k l f)),
       )
 
-  fair-primitive : Fair s rows ps 0
+  fair-primitive : Fair τ s rows ps 0
   unfolding sameInfo detailFrom infoAt
   fair-primitive a x b y h g p q =
-      let w = code-same s a b x y (info-plain s rows 0 a x p) (info-plain s rows 0 b y q) in
+      let w = code-same τ s a b x y (info-plain τ s rows 0 a x p) (info-plain τ s rows 0 b y q) in
       ((λ t. ap primitive (w .0 t)), (λ t. w .1 cc))
 
-  fair-primitives : Fair s rows ps 7
+  fair-primitives : Fair τ s rows ps 7
   unfolding sameInfo detailFrom infoAt
   fair-primitives a x b y h g p q =
-      let w = code-same s a b x y (info-plain s rows 7 a x p) (info-plain s rows 7 b y q) in
+      let w = code-same τ s a b x y (info-plain τ s rows 7 a x p) (info-plain τ s rows 7 b y q) in
       ((λ t. ap primitives (w .0 t)), (λ t. w .1 cc))
 
-  fair-system : Fair s rows ps 3
+  fair-system : Fair τ s rows ps 3
   unfolding sameInfo detailFrom infoAt
   fair-system a x b y h g p q =
-      let w = name-same s a b x y (info-plain s rows 3 a x p) (info-plain s rows 3 b y q) in
+      let w = name-same τ s a b x y (info-plain τ s rows 3 a x p) (info-plain τ s rows 3 b y q) in
       ((λ t. ap system (same-eq (textFrom s a) (textFrom s b) (sym w ∙ t))), (λ t. w ∙ true-same (textFrom s a) (textFrom s b) cc))
 
   -- a type without a detail
-  fair-none : (d : Detail (List ℕ) (List ℕ)) (t : ℕ) → ((p : ℕ) → infoAt s t p ≡ F.End p) → ((p : ℕ) → detailFrom s rows t p ≡ d)
-      → ((a x b y : ℕ) → sameInfo s ps t a x b y ≡ sameBetween s a x b y) → Fair s rows ps t
+  fair-none : (d : Detail (List ℕ) (List ℕ)) (t : ℕ) → ((p : ℕ) → infoAt (τ .setting) s t p ≡ F.End p) → ((p : ℕ) → detailFrom s rows t p ≡ d)
+      → ((a x b y : ℕ) → sameInfo s ps t a x b y ≡ sameBetween s a x b y) → Fair τ s rows ps t
   fair-none d t i f k a x b y h g p q = (
     (λ e. f a ∙ sym (f b)),
-    (λ e. k a x b y ∙ no-detail a x b y h g (sym (i a) ∙ info-plain s rows t a x p) (sym (i b) ∙ info-plain s rows t b y q)),
+    (λ e. k a x b y ∙ no-detail a x b y h g (sym (i a) ∙ info-plain τ s rows t a x p) (sym (i b) ∙ info-plain τ s rows t b y q)),
   )
 
-  fair : (t : ℕ) → t ≤ 7 → Fair s rows ps t
+  fair : (t : ℕ) → t ≤ 7 → Fair τ s rows ps t
   unfolding sameInfo detailFrom infoAt
   fair t h =
-      by-type (Fair s rows ps)
+      by-type (Fair τ s rows ps)
       fair-primitive
       (fair-none text 1 (λ p. refl) (λ p. refl) (λ a x b y. refl))
       (fair-none object 2 (λ p. refl) (λ p. refl) (λ a x b y. refl))
@@ -167,27 +168,27 @@ module _ (s : List ℕ) (rows ps : List Row) (st : Stands s rows) (pl : Placed s
       t h
 
 -- n type bytes from t on, and their details from p on
-pub record Infos (s : List ℕ) (rows : List Row) (n t p : ℕ) : Type 0 where
+pub record Infos (τ : Terms) (s : List ℕ) (rows : List Row) (n t p : ℕ) : Type 0 where
   pub types-end : ℕ
   pub typed : times (typeByteAt s) n t ≡ F.End types-end
   pub infos-end : ℕ
-  pub infos : infosAt s rows n t p ≡ F.End infos-end
+  pub infos : infosAt τ s rows n t p ≡ F.End infos-end
   pub begins : t ≤ length s
   pub inside : p ≤ length s
 
 -- the first of them, and the others
-record Info (s : List ℕ) (rows : List Row) (n t p : ℕ) : Type 0 where
+record Info (τ : Terms) (s : List ℕ) (rows : List Row) (n t p : ℕ) : Type 0 where
   type : getD s t 0 ≤ 7
   there : t < length s
   info-end : ℕ
-  info : infoKnown s rows (getD s t 0) p ≡ F.End info-end
-  others : Infos s rows n (t + 1) info-end
+  info : infoKnown τ s rows (getD s t 0) p ≡ F.End info-end
+  others : Infos τ s rows n (t + 1) info-end
 
-next-info : (s : List ℕ) (rows : List Row) (n t p : ℕ) → Infos s rows (suc n) t p → Info s rows n t p
+next-info : (τ : Terms) (s : List ℕ) (rows : List Row) (n t p : ℕ) → Infos τ s rows (suc n) t p → Info τ s rows n t p
 unfolding times infosAt
-next-info s rows n t p w =
+next-info τ s rows n t p w =
     let u = through (times (typeByteAt s) n) (typeByteAt s t) (w .types-end) (w .typed) in
-    let v = through (infosAt s rows n (t + 1)) (infoKnown s rows (getD s t 0) p) (w .infos-end) (w .infos) in
+    let v = through (infosAt τ s rows n (t + 1)) (infoKnown τ s rows (getD s t 0) p) (w .infos-end) (w .infos) in
     let x = type-told s t (u .0) (u .1) in
     record {
       type = x .0;
@@ -201,7 +202,7 @@ next-info s rows n t p w =
             infos-end = w .infos-end;
             infos = v .2;
             begins = omega (arith, x .1);
-            inside = info-known-moves s rows (getD s t 0) p (v .0) (w .inside) (v .1) .1;
+            inside = info-known-moves τ s rows (getD s t 0) p (v .0) (w .inside) (v .1) .1;
           };
     }
 
@@ -215,16 +216,16 @@ apart-at : {x y : Member (List ℕ) (List ℕ)} {ms ns : List (Member (List ℕ)
 apart-at e = (cc, cc)
 
 -- n members of two classes: names from a and b on, type bytes from t and u on, details from p and q on
-module _ (s : List ℕ) (rows ps : List Row) (st : Stands s rows) (pl : Placed s rows ps) where
-  pub members-of : (n a t p b u q e f : ℕ) → times (nameAt s) n a ≡ F.End e → times (nameAt s) n b ≡ F.End f → Infos s rows n t p → Infos s rows n u q
+module _ (τ : Terms) (s : List ℕ) (rows ps : List Row) (st : Stands τ s rows) (pl : Placed τ s rows ps) where
+  pub members-of : (n a t p b u q e f : ℕ) → times (nameAt (τ .setting) s) n a ≡ F.End e → times (nameAt (τ .setting) s) n b ≡ F.End f → Infos τ s rows n t p → Infos τ s rows n u q
       → sameMembersAt s ps n a t p b u q ≡ true → membersFrom s rows n a t p ≡ membersFrom s rows n b u q
   unfolding times sameMembersAt membersFrom
   members-of zero a t p b u q e f g h v w z = refl
   members-of (suc n) a t p b u q e f g h v w z =
-      let x = next-info s rows n t p v in
-      let y = next-info s rows n u q w in
-      let i = through (times (nameAt s) n) (nameAt s a) e g in
-      let j = through (times (nameAt s) n) (nameAt s b) f h in
+      let x = next-info τ s rows n t p v in
+      let y = next-info τ s rows n u q w in
+      let i = through (times (nameAt (τ .setting) s) n) (nameAt (τ .setting) s a) e g in
+      let j = through (times (nameAt (τ .setting) s) n) (nameAt (τ .setting) s b) f h in
       let type = getD s t 0 in
       let m = x .info-end in
       let k = y .info-end in
@@ -234,27 +235,27 @@ module _ (s : List ℕ) (rows ps : List Row) (st : Stands s rows) (pl : Placed s
       let two = pick-of (eqb type (getD s u 0)) (pick same rest false) (one .1) in
       let three = pick-of same rest (two .1) in
       let c : type ≡ getD s u 0 = eqb-true type (getD s u 0) (two .0) in
-      let known : infoKnown s rows type q ≡ F.End k = subst (λ (z : ℕ). infoKnown s rows z q ≡ F.End k) (sym c) (y .info) in
-      let o = info-place s rows type p m (x .info) in
-      let r = info-place s rows type q k known in
-      let d = name-after s a (i .0) (i .1) in
-      let l = name-after s b (j .0) (j .1) in
-      let detail = fair s rows ps st pl type (x .type) p m q k (v .inside) (w .inside) (x .info) known .0 (rw (o, r) at (three .0)) in
-      let name = same-eq (textFrom s a) (textFrom s b) (sym (name-same s a b (i .0) (j .0) (i .1) (j .1)) ∙ one .0) in
+      let known : infoKnown τ s rows type q ≡ F.End k = subst (λ (z : ℕ). infoKnown τ s rows z q ≡ F.End k) (sym c) (y .info) in
+      let o = info-place τ s rows type p m (x .info) in
+      let r = info-place τ s rows type q k known in
+      let d = name-after (τ .setting) s a (i .0) (i .1) in
+      let l = name-after (τ .setting) s b (j .0) (j .1) in
+      let detail = fair τ s rows ps st pl type (x .type) p m q k (v .inside) (w .inside) (x .info) known .0 (rw (o, r) at (three .0)) in
+      let name = same-eq (textFrom s a) (textFrom s b) (sym (name-same τ s a b (i .0) (j .0) (i .1) (j .1)) ∙ one .0) in
       let more = members-of n (i .0) (t + 1) m (j .0) (u + 1) k e f (i .2) (j .2) (x .others) (y .others) (rw (d, l, o, r) at (three .1)) in
       joined name (detail ∙ ap (λ (z : ℕ). detailFrom s rows z q) c)
       (ap₂ (λ (x y : ℕ). membersFrom s rows n x (t + 1) y) d o
-      ∙ (more ∙ sym (ap₂ (λ (x y : ℕ). membersFrom s rows n x (u + 1) y) l (info-place s rows (getD s u 0) q k (y .info)))))
+      ∙ (more ∙ sym (ap₂ (λ (x y : ℕ). membersFrom s rows n x (u + 1) y) l (info-place τ s rows (getD s u 0) q k (y .info)))))
 
-  pub members-same : (n a t p b u q e f : ℕ) → times (nameAt s) n a ≡ F.End e → times (nameAt s) n b ≡ F.End f → Infos s rows n t p → Infos s rows n u q
+  pub members-same : (n a t p b u q e f : ℕ) → times (nameAt (τ .setting) s) n a ≡ F.End e → times (nameAt (τ .setting) s) n b ≡ F.End f → Infos τ s rows n t p → Infos τ s rows n u q
       → membersFrom s rows n a t p ≡ membersFrom s rows n b u q → sameMembersAt s ps n a t p b u q ≡ true
   unfolding times sameMembersAt membersFrom
   members-same zero a t p b u q e f g h v w z = refl
   members-same (suc n) a t p b u q e f g h v w z =
-      let x = next-info s rows n t p v in
-      let y = next-info s rows n u q w in
-      let i = through (times (nameAt s) n) (nameAt s a) e g in
-      let j = through (times (nameAt s) n) (nameAt s b) f h in
+      let x = next-info τ s rows n t p v in
+      let y = next-info τ s rows n u q w in
+      let i = through (times (nameAt (τ .setting) s) n) (nameAt (τ .setting) s a) e g in
+      let j = through (times (nameAt (τ .setting) s) n) (nameAt (τ .setting) s b) f h in
       let type = getD s t 0 in
       let m = x .info-end in
       let k = y .info-end in
@@ -262,20 +263,20 @@ module _ (s : List ℕ) (rows ps : List Row) (st : Stands s rows) (pl : Placed s
       let name : textFrom s a ≡ textFrom s b = ap (λ (x : Member (List ℕ) (List ℕ)). x .name) (both .0) in
       let detail : detailFrom s rows type p ≡ detailFrom s rows (getD s u 0) q = ap (λ (x : Member (List ℕ) (List ℕ)). x .type) (both .0) in
       let c : type ≡ getD s u 0 = sym (type-is s rows type p (x .type)) ∙ (ap typeByte detail ∙ type-is s rows (getD s u 0) q (y .type)) in
-      let known : infoKnown s rows type q ≡ F.End k = subst (λ (z : ℕ). infoKnown s rows z q ≡ F.End k) (sym c) (y .info) in
-      let o = info-place s rows type p m (x .info) in
-      let r = info-place s rows type q k known in
-      let d = name-after s a (i .0) (i .1) in
-      let l = name-after s b (j .0) (j .1) in
+      let known : infoKnown τ s rows type q ≡ F.End k = subst (λ (z : ℕ). infoKnown τ s rows z q ≡ F.End k) (sym c) (y .info) in
+      let o = info-place τ s rows type p m (x .info) in
+      let r = info-place τ s rows type q k known in
+      let d = name-after (τ .setting) s a (i .0) (i .1) in
+      let l = name-after (τ .setting) s b (j .0) (j .1) in
       let same = sameInfo s ps type p (afterInfo s type p) q (afterInfo s type q) in
       let rest = sameMembersAt s ps n (afterText s a) (t + 1) (afterInfo s type p) (afterText s b) (u + 1) (afterInfo s type q) in
       let more : membersFrom s rows n (i .0) (t + 1) m ≡ membersFrom s rows n (j .0) (u + 1) k
       = sym (ap₂ (λ (x y : ℕ). membersFrom s rows n x (t + 1) y) d o)
-      ∙ (both .1 ∙ ap₂ (λ (x y : ℕ). membersFrom s rows n x (u + 1) y) l (info-place s rows (getD s u 0) q k (y .info))) in
+      ∙ (both .1 ∙ ap₂ (λ (x y : ℕ). membersFrom s rows n x (u + 1) y) l (info-place τ s rows (getD s u 0) q k (y .info))) in
       pick-true (sameText s a b) (pick (eqb type (getD s u 0)) (pick same rest false) false)
-      (name-same s a b (i .0) (j .0) (i .1) (j .1) ∙ true-same (textFrom s a) (textFrom s b) name)
+      (name-same τ s a b (i .0) (j .0) (i .1) (j .1) ∙ true-same (textFrom s a) (textFrom s b) name)
       (pick-true (eqb type (getD s u 0)) (pick same rest false) (eq-eqb type (getD s u 0) c)
       (pick-true same rest
       (rw (o, r)
-      (fair s rows ps st pl type (x .type) p m q k (v .inside) (w .inside) (x .info) known .1 (detail ∙ ap (λ (z : ℕ). detailFrom s rows z q) (sym c))))
+      (fair τ s rows ps st pl type (x .type) p m q k (v .inside) (w .inside) (x .info) known .1 (detail ∙ ap (λ (z : ℕ). detailFrom s rows z q) (sym c))))
       (rw (d, l, o, r) (members-same n (i .0) (t + 1) m (j .0) (u + 1) k e f (i .2) (j .2) (x .others) (y .others) more))))

@@ -9,6 +9,7 @@ use native.Mathlib.Decide.{decLt}
 use lib.ListN.{length, getD, List·getD-eq-default}
 use lib.Dec.{eqb}
 use borrow.Author.Tests.{eq-eqb, eqb-true, eqb-false}
+use Rattle.format.specs.Terms.{Terms}
 use Rattle.format.specs.declared.Refusal.the-variants as R
 use Rattle.format.specs.declared.Field.{Field}
 use Rattle.format.specs.declared.Field.the-variants as F
@@ -43,8 +44,8 @@ not-class k n c e f = apart (sym f ∙ (ap isClass (sym e) ∙ c))
 class-nulls : (k : ℕ) → isClass k ≡ true → isNulls k ≡ true → ⊥
 class-nulls k c = class-kind k c (λ k. isNulls k ≡ true → ⊥) apart apart
 
-module _ (s : List ℕ) (rows : List Row) (i : ℕ) (r : Row) where
-  class-there : RowStands s rows i r → isClass (r .kind) ≡ true → ClassStands s rows r
+module _ (τ : Terms) (s : List ℕ) (rows : List Row) (i : ℕ) (r : Row) where
+  class-there : RowStands τ s rows i r → isClass (r .kind) ≡ true → ClassStands τ s rows r
   class-there (the-header z k t) c = not-class (r .kind) 0 c k refl
   class-there (by-id k of l h q) c = not-class (r .kind) 1 c k refl
   class-there (a-class k w) c = w
@@ -60,7 +61,7 @@ module _ (s : List ℕ) (rows : List Row) (i : ℕ) (r : Row) where
   class-there (texts k w h) c = not-class (r .kind) 17 c k refl
   class-there (a-value k h j) c = not-class (r .kind) 32 c k refl
 
-  library-there : RowStands s rows i r → r .kind ≡ 12 → StringStands s (r .offset + 5) (r .end)
+  library-there : RowStands τ s rows i r → r .kind ≡ 12 → StringStands τ s (r .offset + 5) (r .end)
   library-there (the-header z k t) c = absurd (omega arith)
   library-there (by-id k of l h q) c = absurd (omega arith)
   library-there (a-class k w) c = not-class (r .kind) 12 k c refl
@@ -76,7 +77,7 @@ module _ (s : List ℕ) (rows : List Row) (i : ℕ) (r : Row) where
   library-there (texts k w h) c = absurd (omega arith)
   library-there (a-value k h j) c = absurd (omega arith)
 
-  array-there : RowStands s rows i r → r .kind ≡ 7 → ArrayStands s rows r
+  array-there : RowStands τ s rows i r → r .kind ≡ 7 → ArrayStands τ s rows r
   array-there (the-header z k t) c = absurd (omega arith)
   array-there (by-id k of l h q) c = absurd (omega arith)
   array-there (a-class k w) c = not-class (r .kind) 7 k c refl
@@ -92,24 +93,24 @@ module _ (s : List ℕ) (rows : List Row) (i : ℕ) (r : Row) where
   array-there (texts k w h) c = absurd (omega arith)
   array-there (a-value k h j) c = absurd (omega arith)
 
-module _ (s : List ℕ) (rows : List Row) (st : Stands s rows) (i : ℕ) (h : i < length rows) where
-  pub class-at : isClass (getD rows i blank .kind) ≡ true → ClassStands s rows (getD rows i blank)
-  class-at c = class-there s rows i (getD rows i blank) (st .each i h) c
+module _ (τ : Terms) (s : List ℕ) (rows : List Row) (st : Stands τ s rows) (i : ℕ) (h : i < length rows) where
+  pub class-at : isClass (getD rows i blank .kind) ≡ true → ClassStands τ s rows (getD rows i blank)
+  class-at c = class-there τ s rows i (getD rows i blank) (st .each i h) c
 
-  pub library-row : getD rows i blank .kind ≡ 12 → StringStands s (getD rows i blank .offset + 5) (getD rows i blank .end)
-  library-row c = library-there s rows i (getD rows i blank) (st .each i h) c
+  pub library-row : getD rows i blank .kind ≡ 12 → StringStands τ s (getD rows i blank .offset + 5) (getD rows i blank .end)
+  library-row c = library-there τ s rows i (getD rows i blank) (st .each i h) c
 
-  pub array-at : getD rows i blank .kind ≡ 7 → ArrayStands s rows (getD rows i blank)
-  array-at c = array-there s rows i (getD rows i blank) (st .each i h) c
+  pub array-at : getD rows i blank .kind ≡ 7 → ArrayStands τ s rows (getD rows i blank)
+  array-at c = array-there τ s rows i (getD rows i blank) (st .each i h) c
 
 -- ---- two library rows
 
-pub same-name : (s : List ℕ) (a b : Row) → StringStands s (a .offset + 5) (a .end) → StringStands s (b .offset + 5) (b .end)
+pub same-name : (τ : Terms) (s : List ℕ) (a b : Row) → StringStands τ s (a .offset + 5) (a .end) → StringStands τ s (b .offset + 5) (b .end)
     → b .kind ≡ 12 → sameName s a b ≡ sameBytes (textFrom s (a .offset + 5)) (textFrom s (b .offset + 5))
 unfolding sameName
-same-name s a b v w k =
+same-name τ s a b v w k =
     ap (λ (x : ℕ). pick (eqb x 12) (sameText s (a .offset + 5) (b .offset + 5)) false) k
-    ∙ same-texts s (a .offset + 5) (a .end) (b .offset + 5) (b .end) v w
+    ∙ same-texts τ s (a .offset + 5) (a .end) (b .offset + 5) (b .end) v w
 
 other-kind : (s : List ℕ) (a b : Row) → eqb (b .kind) 12 ≡ false → sameName s a b ≡ false
 unfolding sameName
@@ -129,7 +130,7 @@ pub all-append : {P : ℕ → Type 0} {xs ys : List ℕ} → All P xs → All P 
 all-append none b = b
 all-append (both x a) b = both x (all-append a b)
 
-module _ (s : List ℕ) (rows : List Row) where
+module _ (τ : Terms) (s : List ℕ) (rows : List Row) where
   known-told : (end e : ℕ) → knownLibrary s rows end ≡ F.End e → (e ≡ end) × (0 < libraryRow (numberFrom s (end - 4)) rows)
   known-told end e q = go (eqb (libraryRow (numberFrom s (end - 4)) rows) 0) refl q
     where
@@ -163,26 +164,26 @@ module _ (s : List ℕ) (rows : List Row) where
       id-names p (x .0) e (x .1) (x .2)
 
   -- type 4: a name, and then the number of a library
-  pub class-info : (p e : ℕ) → infoKnown s rows 4 p ≡ F.End e
-      → NamesLibrary s rows (e - 4) × (m : ℕ) × (nameAt s p ≡ F.End m) × (e ≡ m + 4) × (e ≤ length s)
+  pub class-info : (p e : ℕ) → infoKnown τ s rows 4 p ≡ F.End e
+      → NamesLibrary s rows (e - 4) × (m : ℕ) × (nameAt (τ .setting) s p ≡ F.End m) × (e ≡ m + 4) × (e ≤ length s)
   unfolding infoKnown infoAt
   class-info p e q =
-      let x = through (knownLibrary s rows) (onEnd (libraryIdAt s) (nameAt s p)) e q in
-      let y = through (libraryIdAt s) (nameAt s p) (x .0) (x .1) in
+      let x = through (knownLibrary s rows) (onEnd (libraryIdAt s) (nameAt (τ .setting) s p)) e q in
+      let y = through (libraryIdAt s) (nameAt (τ .setting) s p) (x .0) (x .1) in
       let w = id-names (y .0) (x .0) e (y .2) (x .2) in
       (w .0, y .0, y .1, w .1, w .2)
 
   -- ---- all fields of a row
 
-  info-field : (type p e : ℕ) → infoKnown s rows type p ≡ F.End e → All (NamesLibrary s rows) (pick (eqb type 4) ((e - 4) ∷ []) [])
+  info-field : (type p e : ℕ) → infoKnown τ s rows type p ≡ F.End e → All (NamesLibrary s rows) (pick (eqb type 4) ((e - 4) ∷ []) [])
   info-field type p e q = picked (λ (l : List ℕ). All (NamesLibrary s rows) l) (eqb type 4) (λ t. both (class-info p e (rw (eqb-true type 4 t) at q) .0) none) (λ t. none)
 
-  pub infos-name : (n types p e : ℕ) → infosAt s rows n types p ≡ F.End e → All (NamesLibrary s rows) (infoFields s n types p)
+  pub infos-name : (n types p e : ℕ) → infosAt τ s rows n types p ≡ F.End e → All (NamesLibrary s rows) (infoFields s n types p)
   unfolding infosAt infoFields
   infos-name zero types p e q = none
   infos-name (suc n) types p e q =
-      let x = through (infosAt s rows n (types + 1)) (infoKnown s rows (getD s types 0) p) e q in
-      let a = info-place s rows (getD s types 0) p (x .0) (x .1) in
+      let x = through (infosAt τ s rows n (types + 1)) (infoKnown τ s rows (getD s types 0) p) e q in
+      let a = info-place τ s rows (getD s types 0) p (x .0) (x .1) in
       rw a (all-append (info-field (getD s types 0) p (x .0) (x .1)) (infos-name n (types + 1) (x .0) e (x .2)))
 
   module _ (r : Row) where
@@ -192,7 +193,7 @@ module _ (s : List ℕ) (rows : List Row) where
         subst (λ (x : ℕ). All (NamesLibrary s rows) (pick (eqb x 5) ((r .end - 4) ∷ []) [])) (sym k) (both (own-names p (r .end) q .0) none)
 
     -- of a row that has the class's words, its slot the place of the type bytes
-    pub class-names : (c : ClassStands s rows r) (q : Row) → q .kind ≡ r .kind → q .end ≡ r .end → q .count ≡ r .count → q .slot ≡ c .types
+    pub class-names : (c : ClassStands τ s rows r) (q : Row) → q .kind ≡ r .kind → q .end ≡ r .end → q .count ≡ r .count → q .slot ≡ c .types
         → All (NamesLibrary s rows) (classFields s q)
     unfolding classFields
     class-names c q k e n t =
@@ -205,7 +206,7 @@ module _ (s : List ℕ) (rows : List Row) where
         (subst (λ (x : ℕ). All (NamesLibrary s rows) (pick (eqb (r .kind) 5) ((x - 4) ∷ []) [])) (sym e) (own-field (c .infos-end) (c .own))) in
         all-append a b
 
-    pub array-names : (a : ArrayStands s rows r) (q : Row) → q .offset ≡ r .offset → All (NamesLibrary s rows) (arrayFields s q)
+    pub array-names : (a : ArrayStands τ s rows r) (q : Row) → q .offset ≡ r .offset → All (NamesLibrary s rows) (arrayFields s q)
     unfolding arrayFields itemType
     array-names a q e =
         let n : numberFrom s (r .offset + 6) ≡ a .rank = sym (u32-says s (r .offset + 6) (a .rank) (r .offset + 10) (a .ranked) .value) in
@@ -213,18 +214,18 @@ module _ (s : List ℕ) (rows : List Row) where
         let i : r .offset + 10 + 4 * numberFrom s (r .offset + 6) ≡ p = rw n in
         subst (λ (o : ℕ). All (NamesLibrary s rows) (fields (o + 10 + 4 * numberFrom s (o + 6)))) (sym e)
         (subst (λ (x : ℕ). All (NamesLibrary s rows) (fields x)) (sym i)
-        (rw (info-place s rows (getD s p 0) (p + 1) (a .info-end) (a .info)) (info-field (getD s p 0) (p + 1) (a .info-end) (a .info))))
+        (rw (info-place τ s rows (getD s p 0) (p + 1) (a .info-end) (a .info)) (info-field (getD s p 0) (p + 1) (a .info-end) (a .info))))
       where
         fields : ℕ → List ℕ
         fields p = pick (eqb (getD s p 0) 4) ((afterInfo s (getD s p 0) (p + 1) - 4) ∷ []) []
 
 -- ---- the place of a class's type bytes, in the stream and in its row
 
-module _ (s : List ℕ) (rows : List Row) (r : Row) (c : ClassStands s rows r) where
-  types-place : TypesThere s r → r .link ≡ c .types
+module _ (τ : Terms) (s : List ℕ) (rows : List Row) (r : Row) (c : ClassStands τ s rows r) where
+  types-place : TypesThere τ s r → r .link ≡ c .types
   types-place t =
       let e : t .name-end ≡ c .name-end = end-same (t .named) (c .named) in
-      end-same (t .names) (ap (λ (p : ℕ). times (nameAt s) (r .count) (p + 4)) e ∙ c .names)
+      end-same (t .names) (ap (λ (p : ℕ). times (nameAt (τ .setting) s) (r .count) (p + 4)) e ∙ c .names)
     where
       end-same : {f : Field} {a b : ℕ} → f ≡ F.End a → f ≡ F.End b → a ≡ b
       end-same p q = cc
@@ -232,9 +233,9 @@ module _ (s : List ℕ) (rows : List Row) (r : Row) (c : ClassStands s rows r) w
   pub class-places : (c .name-end + 4 ≤ c .types) × (c .types + r .count ≤ length s) × (c .types + r .count ≤ c .infos-end) × (c .infos-end ≤ length s)
   class-places =
       let u = u32-says s (c .name-end) (r .count) (c .name-end + 4) (c .counted) in
-      let n = names-there s (r .count) (c .name-end + 4) (c .types) (u .within) (c .names) in
+      let n = names-there τ s (r .count) (c .name-end + 4) (c .types) (u .within) (c .names) in
       let t = types-there s (r .count) (c .types) (c .types + r .count) (n .1) (c .type-bytes) in
-      let i = infos-moves s rows (r .count) (c .types) (c .types + r .count) (c .infos-end) (t .1) (c .infos) in
+      let i = infos-moves τ s rows (r .count) (c .types) (c .types + r .count) (c .infos-end) (t .1) (c .infos) in
       (n .0, t .1, i .0, i .1)
 
 -- where the field at p leads to in placed rows: the first library with the name that it says
@@ -246,13 +247,13 @@ pub record First (s : List ℕ) (rows ps : List Row) (p : ℕ) : Type 0 where
   pub kind : getD rows row blank .kind ≡ 12
   pub name : textFrom s (getD rows row blank .offset + 5) ≡ nameAtField s rows p
 
-module _ (s : List ℕ) (rows ps : List Row) (st : Stands s rows) (pl : Placed s rows ps) where
+module _ (τ : Terms) (s : List ℕ) (rows ps : List Row) (st : Stands τ s rows) (pl : Placed τ s rows ps) where
   pub placed-class : (i : ℕ) (h : i < length rows) (k : isClass (getD rows i blank .kind) ≡ true)
-      → getD ps i blank ≡ withSlot (withId (getD rows i blank) (orderOf rows (suc i))) (class-at s rows st i h k .types)
+      → getD ps i blank ≡ withSlot (withId (getD rows i blank) (orderOf rows (suc i))) (class-at τ s rows st i h k .types)
   placed-class i h k =
       let r = getD rows i blank in
-      let c = class-at s rows st i h k in
-      pl .class i h k ∙ ap (λ (x : ℕ). withSlot (withId r (orderOf rows (suc i))) x) (types-place s rows r c (pl .types i h k))
+      let c = class-at τ s rows st i h k in
+      pl .class i h k ∙ ap (λ (x : ℕ). withSlot (withId r (orderOf rows (suc i))) x) (types-place τ s rows r c (pl .types i h k))
 
   -- ---- the library that a number names, in the placed rows
 
@@ -304,7 +305,7 @@ module _ (s : List ℕ) (rows ps : List Row) (st : Stands s rows) (pl : Placed s
           → sameName s (getD rows j blank) (getD rows i blank) ≡ eqb (getD rows i blank .kind) 12 && sameBytes name (textFrom s (getD rows i blank .offset + 5))
       go i l true e =
           let q = eqb-true (getD rows i blank .kind) 12 e in
-          same-name s (getD rows j blank) (getD rows i blank) (library-row s rows st j h k) (library-row s rows st i l q) q
+          same-name τ s (getD rows j blank) (getD rows i blank) (library-row τ s rows st j h k) (library-row τ s rows st i l q) q
           ∙ sym (ap (λ (b : Bool). b && sameBytes name (textFrom s (getD rows i blank .offset + 5))) e)
       go i l false e = other-kind s (getD rows j blank) (getD rows i blank) e ∙ sym (ap (λ (b : Bool). b && sameBytes name (textFrom s (getD rows i blank .offset + 5))) e)
 
@@ -400,7 +401,7 @@ rows-all P s i (r ∷ rows) h =
         let z : i + suc k ≡ i + 1 + k = omega arith in
         subst (λ (n : ℕ). All P (rowFields s n (getD rows k blank))) z (h (suc k) (omega arith))
 
-module _ (s : List ℕ) (rows ps fs : List Row) (st : Stands s rows) (pl : Placed s rows ps) (fi : Firsts s rows ps fs) where
+module _ (τ : Terms) (s : List ℕ) (rows ps fs : List Row) (st : Stands τ s rows) (pl : Placed τ s rows ps) (fi : Firsts s rows ps fs) where
   row-names : (i : ℕ) → i < length rows → All (NamesLibrary s rows) (rowFields s i (getD fs i blank))
   unfolding rowFields
   row-names i h =
@@ -411,13 +412,13 @@ module _ (s : List ℕ) (rows ps fs : List Row) (st : Stands s rows) (pl : Place
       q = getD fs i blank
 
       kind : q .kind ≡ getD rows i blank .kind
-      kind = firsts-word s rows ps fs fi (λ (r : Row). r .kind) (λ r x. refl) i ∙ placed-kind s rows ps st pl i h
+      kind = firsts-word s rows ps fs fi (λ (r : Row). r .kind) (λ r x. refl) i ∙ placed-kind τ s rows ps st pl i h
 
       classes : isFirst i q ≡ true → All (NamesLibrary s rows) (classFields s q)
       classes e =
           let k = ap isClass (sym kind) ∙ pick-of (isClass (q .kind)) (eqb (q .link) (i + 1)) e .0 in
-          let p = placed-class s rows ps st pl i h k in
-          class-names s rows (getD rows i blank) (class-at s rows st i h k) q kind
+          let p = placed-class τ s rows ps st pl i h k in
+          class-names τ s rows (getD rows i blank) (class-at τ s rows st i h k) q kind
           (firsts-word s rows ps fs fi (λ (r : Row). r .end) (λ r x. refl) i ∙ ap (λ (r : Row). r .end) p)
           (firsts-word s rows ps fs fi (λ (r : Row). r .count) (λ r x. refl) i ∙ ap (λ (r : Row). r .count) p)
           (firsts-word s rows ps fs fi (λ (r : Row). r .slot) (λ r x. refl) i ∙ ap (λ (r : Row). r .slot) p)
@@ -425,7 +426,7 @@ module _ (s : List ℕ) (rows ps fs : List Row) (st : Stands s rows) (pl : Place
       arrays : eqb (q .kind) 7 ≡ true → All (NamesLibrary s rows) (arrayFields s q)
       arrays e =
           let k = sym kind ∙ eqb-true (q .kind) 7 e in
-          array-names s rows (getD rows i blank) (array-at s rows st i h k) q
+          array-names τ s rows (getD rows i blank) (array-at τ s rows st i h k) q
           (firsts-word s rows ps fs fi (λ (r : Row). r .offset) (λ r x. refl) i
           ∙ ap (λ (r : Row). r .offset) (pl .object i h (ap isObject k) (ap isClass k)))
 

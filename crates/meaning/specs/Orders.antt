@@ -9,6 +9,7 @@ use lib.ListN.{length, getD, take, drop}
 use lib.Seq.{take-suc, take-add}
 use lib.Dec.{eqb, leb}
 use borrow.Author.Tests.{eqb-true, eqb-false, eq-eqb, ne-eqb, le-leb, lt-leb, leb-true, leb-false}
+use Rattle.format.specs.Terms.{Terms}
 use Rattle.format.specs.declared.Row.{Row}
 use Rattle.format.specs.Bytes.{pick}
 use Rattle.format.specs.Rows.{blank, isObject, isClass, findFrom}
@@ -284,24 +285,24 @@ find-before p k (r ∷ rows) j h e = go j h e (p r) refl (find-before p (k + 1) 
     go (suc j) h e false q ih = let x = ih j (omega arith) e in (x .0, omega (arith, x .1))
 
 -- the class row of an object of kind 1
-pub class-of-id : (s : List ℕ) (rows : List Row) (i : ℕ) (r : Row) → RowStands s rows i r → r .kind ≡ 1
+pub class-of-id : (τ : Terms) (s : List ℕ) (rows : List Row) (i : ℕ) (r : Row) → RowStands τ s rows i r → r .kind ≡ 1
     → (class : ℕ) × (r .link ≡ suc class) × (class < i) × (isClass (getD rows class blank .kind) ≡ true)
-class-of-id s rows i r (the-header z k t) e = absurd (omega arith)
-class-of-id s rows i r (by-id k class l h c) e = (class, l, h, c)
-class-of-id s rows i r (a-class c x) e = differ (sym c ∙ ap isClass e)
-class-of-id s rows i r (a-string k x) e = absurd (omega arith)
-class-of-id s rows i r (an-array k x) e = absurd (omega arith)
-class-of-id s rows i r (a-primitive k x y z) e = absurd (omega arith)
-class-of-id s rows i r (a-reference k x) e = absurd (omega arith)
-class-of-id s rows i r (nulls n x) e = differ (sym n ∙ ap isNulls e)
-class-of-id s rows i r (the-end k x y) e = absurd (omega arith)
-class-of-id s rows i r (a-library k x) e = absurd (omega arith)
-class-of-id s rows i r (primitives k x y z u) e = absurd (omega arith)
-class-of-id s rows i r (objects k x y) e = absurd (omega arith)
-class-of-id s rows i r (texts k x y) e = absurd (omega arith)
-class-of-id s rows i r (a-value k x y) e = absurd (omega arith)
+class-of-id τ s rows i r (the-header z k t) e = absurd (omega arith)
+class-of-id τ s rows i r (by-id k class l h c) e = (class, l, h, c)
+class-of-id τ s rows i r (a-class c x) e = differ (sym c ∙ ap isClass e)
+class-of-id τ s rows i r (a-string k x) e = absurd (omega arith)
+class-of-id τ s rows i r (an-array k x) e = absurd (omega arith)
+class-of-id τ s rows i r (a-primitive k x y z) e = absurd (omega arith)
+class-of-id τ s rows i r (a-reference k x) e = absurd (omega arith)
+class-of-id τ s rows i r (nulls n x) e = differ (sym n ∙ ap isNulls e)
+class-of-id τ s rows i r (the-end k x y) e = absurd (omega arith)
+class-of-id τ s rows i r (a-library k x) e = absurd (omega arith)
+class-of-id τ s rows i r (primitives k x y z u) e = absurd (omega arith)
+class-of-id τ s rows i r (objects k x y) e = absurd (omega arith)
+class-of-id τ s rows i r (texts k x y) e = absurd (omega arith)
+class-of-id τ s rows i r (a-value k x y) e = absurd (omega arith)
 
-module _ (s : List ℕ) (rows : List Row) where
+module _ (τ : Terms) (s : List ℕ) (rows : List Row) where
   -- the class of row i
   abbrev pub classAt : ℕ → Class
   classAt i = classFrom s rows (getD rows i blank)
@@ -422,10 +423,10 @@ module _ (s : List ℕ) (rows : List Row) where
             rw q (keep (numberIn (sameClass c) es) ∙ (t .number c ∙ sym (number-stays i c (λ e. differ (sym (first-row c i e .2) ∙ q)))))
 
     -- an object of kind 1 is of a class that is known before it
-    pub id-known : (i : ℕ) (r : Row) → i < length rows → RowStands s rows i r → r .kind ≡ 1 → (es : List (ℕ × Class)) → Known i es
+    pub id-known : (i : ℕ) (r : Row) → i < length rows → RowStands τ s rows i r → r .kind ≡ 1 → (es : List (ℕ × Class)) → Known i es
         → 0 < numberIn (sameClass (classFrom s rows (getD rows (r .link - 1) blank))) es
     id-known i r h x k es t =
-        let y = class-of-id s rows i r x k in
+        let y = class-of-id τ s rows i r x k in
         let j : ℕ = y .0 in
         let a : r .link - 1 ≡ j = omega (arith, y .1) in
         let l : j < i = y .2 in
@@ -444,7 +445,7 @@ module _ (s : List ℕ) (rows : List Row) where
         let b : numberIn (sameClass (classAt i)) es ≡ 0 = t .number (classAt i) ∙ number-later i (classAt i) (omega arith) in
         omega arith
 
-    module _ (st : Stands s rows) where
+    module _ (st : Stands τ s rows) where
       -- the classes of the rows before i, each by the order of its first object
       pub known : (i : ℕ) → i ≤ length rows → Known i (progressTo s rows i .classes)
       known zero h = subst (λ (w : Progress). Known 0 (w .classes)) (sym (progress-none s rows)) known-none

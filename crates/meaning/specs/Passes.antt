@@ -9,6 +9,7 @@ use lib.ListN.{length, getD, take, set, length-set, List·getD-eq-default}
 use lib.Seq.{length-take-le, getD-set-same, getD-set-other, set-getD}
 use lib.Dec.{eqb, leb}
 use borrow.Author.Tests.{eqb-true, eqb-false, eq-eqb, ne-eqb, leb-true, leb-false}
+use Rattle.format.specs.Terms.{Terms}
 use Rattle.format.specs.declared.Row.{Row}
 use Rattle.format.specs.Bytes.{pick}
 use Rattle.format.specs.Rows.{blank, isObject, isClass, findFrom, libraryRow, withLink}
@@ -227,10 +228,10 @@ module _ (s : List ℕ) (rows : List Row) (i : ℕ) (r : Row) where
   unfolding placedRow
   placed-other e f = rw (e, f)
 
-pub placed-rows : (s : List ℕ) (rows : List Row) → length rows < 4294967296
-    → ((i : ℕ) → i < length rows → isClass (getD rows i blank .kind) ≡ true → TypesThere s (getD rows i blank))
-    → ((i : ℕ) → i < length rows → getD rows i blank .kind ≡ 32 → ValueThere s rows (getD rows i blank)) → Placed s rows (placed s (numbered rows))
-placed-rows s rows few types values =
+pub placed-rows : (τ : Terms) (s : List ℕ) (rows : List Row) → length rows < 4294967296
+    → ((i : ℕ) → i < length rows → isClass (getD rows i blank .kind) ≡ true → TypesThere τ s (getD rows i blank))
+    → ((i : ℕ) → i < length rows → getD rows i blank .kind ≡ 32 → ValueThere τ s rows (getD rows i blank)) → Placed τ s rows (placed s (numbered rows))
+placed-rows τ s rows few types values =
     record {
       size = P .size ∙ N .size;
       class = λ i l c.

@@ -6,6 +6,7 @@ use mathlib.Core.List.{List, [], _∷_, _++_, append-assoc}
 use native.Mathlib.Omega.{arith}
 use lib.ListN.{length, getD}
 use lib.Dec.{eqb}
+use Rattle.format.specs.Terms.{Terms}
 use Rattle.format.specs.declared.PrimitiveCode.{PrimitiveCode}
 use Rattle.format.specs.declared.Number32.the-variants as N32
 use Rattle.format.specs.declared.Field.the-variants as F
@@ -20,7 +21,7 @@ use Rattle.fields.specs.Parts.{part-to, part-through}
 use Rattle.num.specs.Le.{Bytes}
 use Rattle.types.specs.Keeps.{code-told}
 use Rattle.put.specs.Out.{between, textOut, headOut, byIdOut, headerOut}
-use Rattle.pieces.specs.Copy.{libraryOut, valueOut, valuesOut, typedOut, memberOut, primitiveItemsOut, primitivesOut, keptOut, stringOut}
+use Rattle.pieces.specs.Copy.{anewIn, libraryOut, valueOut, valuesOut, typedOut, memberOut, primitiveItemsOut, primitivesOut, keptOut, stringOut}
 use Rattle.meaning.specs.Bytes.{text-is, number-is, code-is, code-kept}
 use Rattle.meaning.specs.ValueBytes.{value-is, items-are}
 
@@ -46,15 +47,15 @@ end-is s o e k h g =
     let z : e - (o + 1) ≡ 0 = omega arith in
     part-to s o e (omega arith) (omega arith) ∙ rw (k, z)
 
-module _ (s : List ℕ) (byte : Bytes s) (r : Row) where
-  pub member-is : (c : PrimitiveCode) → r .link ≡ codeNumber c → valueAt s c (r .offset) ≡ F.End (r .end)
-      → memberOut s r ≡ enc (value c (valueBy c (contentFrom s c (r .offset))))
+module _ (τ : Terms) (s : List ℕ) (byte : Bytes s) (r : Row) where
+  pub member-is : (c : PrimitiveCode) → r .link ≡ codeNumber c → valueAt (τ .setting) s c (r .offset) ≡ F.End (r .end)
+      → memberOut (anewIn (τ .setting)) s r ≡ enc (value c (valueBy c (contentFrom s c (r .offset))))
   unfolding enc
-  member-is c l q = ap (λ (n : ℕ). valueOut s (eqb n 5) (r .offset) (r .end)) l ∙ value-is s byte c (r .offset) (r .end) q
+  member-is c l q = ap (λ (n : ℕ). valueOut s (eqb n (anewIn (τ .setting))) (r .offset) (r .end)) l ∙ value-is τ s byte c (r .offset) (r .end) q
 
   pub typed-is : getD s (r .offset) 0 ≡ 8 → codeAt s (r .offset + 1) ≡ F.End (r .offset + 2)
-      → valueAt s (codeFrom s (r .offset + 1)) (r .offset + 2) ≡ F.End (r .end)
-      → typedOut s r
+      → valueAt (τ .setting) s (codeFrom s (r .offset + 1)) (r .offset + 2) ≡ F.End (r .end)
+      → typedOut (anewIn (τ .setting)) s r
       ≡ enc (typedPrimitive (codeFrom s (r .offset + 1)) (valueBy (codeFrom s (r .offset + 1)) (contentFrom s (codeFrom s (r .offset + 1)) (r .offset + 2))))
   unfolding typedOut enc
   typed-is k c q =
@@ -63,8 +64,8 @@ module _ (s : List ℕ) (byte : Bytes s) (r : Row) where
       let a : between s o (o + 2) ≡ 8 ∷ codeNumber (codeFrom s (o + 1)) ∷ [] =
       part-to s o (o + 2) (omega arith) (omega arith) ∙ ap₂ (λ (b : ℕ) (l : List ℕ). b ∷ l) k (code-kept s (o + 1) (o + 2) c) in
       ap₂ (λ (x y : List ℕ). x ++ y) a
-      (ap (λ (n : ℕ). valueOut s (eqb n 5) (o + 2) (r .end)) (code-is s (o + 1) (o + 2) c)
-      ∙ value-is s byte (codeFrom s (o + 1)) (o + 2) (r .end) q)
+      (ap (λ (n : ℕ). valueOut s (eqb n (anewIn (τ .setting))) (o + 2) (r .end)) (code-is s (o + 1) (o + 2) c)
+      ∙ value-is τ s byte (codeFrom s (o + 1)) (o + 2) (r .end) q)
 
 -- ---- records that are kept but for their number
 
@@ -93,10 +94,11 @@ module _ (s : List ℕ) (byte : Bytes s) (q r : Row) (o : q .offset ≡ r .offse
       let d : p + 5 + 4 ≡ p + 9 = omega arith in
       rw d at (number-is s byte (p + 5) (r .count) (rw d u))
 
+module _ (τ : Terms) (s : List ℕ) (byte : Bytes s) (q r : Row) (o : q .offset ≡ r .offset) (e : q .end ≡ r .end) where
   module _ (u : u32At s (r .offset + 5) ≡ N32.Value (r .count) (r .offset + 9)) where
     pub primitives-is : q .count ≡ r .count → codeAt s (r .offset + 9) ≡ F.End (r .offset + 10)
-        → itemsAt s (codeFrom s (r .offset + 9)) (r .count) (r .offset + 10) ≡ F.End (r .end)
-        → primitivesOut s q
+        → itemsAt (τ .setting) s (codeFrom s (r .offset + 9)) (r .count) (r .offset + 10) ≡ F.End (r .end)
+        → primitivesOut (anewIn (τ .setting)) s q
         ≡ enc (primitiveArray (q .id) (r .count) (codeFrom s (r .offset + 9)) (valuesBy (codeFrom s (r .offset + 9)) (itemsFrom s (codeFrom s (r .offset + 9)) (r .count) (r .offset + 10))))
     unfolding primitivesOut primitiveItemsOut enc
     primitives-is n c i =
@@ -106,22 +108,24 @@ module _ (s : List ℕ) (byte : Bytes s) (q r : Row) (o : q .offset ≡ r .offse
         let items = itemsBytes (valuesBy code (itemsFrom s code (r .count) (p + 10))) in
         let head : between s (p + 5) (p + 10) ≡ leBytes 4 (r .count) ++ (codeNumber code ∷ []) =
         part-through s (p + 5) (p + 9) (p + 10) (omega arith) (omega arith)
-        ∙ ap₂ (λ (x y : List ℕ). x ++ y) (counted p u) (code-kept s (p + 9) (p + 10) c) in
-        let whole : primitiveItemsOut s q ≡ between s (p + 5) (p + 10) ++ valuesOut s (eqb (getD s (p + 9) 0) 5) (r .count) (p + 10) (r .end) = rw (o, e, n) in
+        ∙ ap₂ (λ (x y : List ℕ). x ++ y) (counted s byte q r o e p u) (code-kept s (p + 9) (p + 10) c) in
+        let whole : primitiveItemsOut (anewIn (τ .setting)) s q ≡ between s (p + 5) (p + 10) ++ valuesOut s (eqb (getD s (p + 9) 0) (anewIn (τ .setting))) (r .count) (p + 10) (r .end) = rw (o, e, n) in
         ap (λ (l : List ℕ). 15 ∷ (leBytes 4 (q .id) ++ l))
         (whole
         ∙ (ap₂ (λ (x y : List ℕ). x ++ y) head
-        (ap (λ (b : ℕ). valuesOut s (eqb b 5) (r .count) (p + 10) (r .end)) (code-is s (p + 9) (p + 10) c)
-        ∙ items-are s byte code (r .count) (p + 10) (r .end) (omega arith) i)
+        (ap (λ (b : ℕ). valuesOut s (eqb b (anewIn (τ .setting))) (r .count) (p + 10) (r .end)) (code-is s (p + 9) (p + 10) c)
+        ∙ items-are τ s byte code (r .count) (p + 10) (r .end) (omega arith) i)
         ∙ append-assoc (leBytes 4 (r .count)) (codeNumber code ∷ []) items))
 
+module _ (s : List ℕ) (byte : Bytes s) (q r : Row) (o : q .offset ≡ r .offset) (e : q .end ≡ r .end) where
+  module _ (u : u32At s (r .offset + 5) ≡ N32.Value (r .count) (r .offset + 9)) where
     slots : r .end ≡ r .offset + 9 → between s (r .offset + 5) (r .end) ≡ leBytes 4 (r .count)
-    slots h = ap (between s (r .offset + 5)) h ∙ counted (r .offset) u
+    slots h = ap (between s (r .offset + 5)) h ∙ counted s byte q r o e (r .offset) u
 
     pub objects-is : q .kind ≡ 16 → r .end ≡ r .offset + 9 → keptOut s q ≡ enc (objectArray (q .id) (r .count))
     unfolding enc
-    objects-is k h = kept-out 16 k ∙ ap (λ (l : List ℕ). 16 ∷ (leBytes 4 (q .id) ++ l)) (slots h)
+    objects-is k h = kept-out s byte q r o e 16 k ∙ ap (λ (l : List ℕ). 16 ∷ (leBytes 4 (q .id) ++ l)) (slots h)
 
     pub texts-is : q .kind ≡ 17 → r .end ≡ r .offset + 9 → keptOut s q ≡ enc (stringArray (q .id) (r .count))
     unfolding enc
-    texts-is k h = kept-out 17 k ∙ ap (λ (l : List ℕ). 17 ∷ (leBytes 4 (q .id) ++ l)) (slots h)
+    texts-is k h = kept-out s byte q r o e 17 k ∙ ap (λ (l : List ℕ). 17 ∷ (leBytes 4 (q .id) ++ l)) (slots h)

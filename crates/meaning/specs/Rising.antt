@@ -8,6 +8,7 @@ use native.Mathlib.Omega.{arith}
 use lib.ListN.{length, getD}
 use lib.Dec.{eqb}
 use borrow.Author.Tests.{eqb-true}
+use Rattle.format.specs.Terms.{Terms}
 use Rattle.format.specs.declared.Field.the-variants as F
 use Rattle.format.specs.declared.Row.{Row}
 use Rattle.format.specs.Bytes.{pick}
@@ -42,25 +43,25 @@ no-field e b h = no-more h
 one-field : (e b p : ℕ) → b ≤ p → p < e → Rising e b (p ∷ [])
 one-field e b p h l = next {b = b} {p = p} h (no-field e (suc p) l)
 
-module _ (s : List ℕ) (rows : List Row) where
+module _ (τ : Terms) (s : List ℕ) (rows : List Row) where
   -- a detail from p to e
-  info-rising : (type p e : ℕ) → p ≤ length s → infoKnown s rows type p ≡ F.End e → Rising e p (pick (eqb type 4) ((e - 4) ∷ []) [])
-  info-rising type p e h q = picked (Rising e p) (eqb type 4) of-class (λ t. let m = info-known-moves s rows type p e h q in no-field e p (omega arith))
+  info-rising : (type p e : ℕ) → p ≤ length s → infoKnown τ s rows type p ≡ F.End e → Rising e p (pick (eqb type 4) ((e - 4) ∷ []) [])
+  info-rising type p e h q = picked (Rising e p) (eqb type 4) of-class (λ t. let m = info-known-moves τ s rows type p e h q in no-field e p (omega arith))
     where
       of-class : eqb type 4 ≡ true → Rising e p ((e - 4) ∷ [])
       of-class t =
-          let c = class-info s rows p e (ap (λ (x : ℕ). infoKnown s rows x p) (sym (eqb-true type 4 t)) ∙ q) in
+          let c = class-info τ s rows p e (ap (λ (x : ℕ). infoKnown τ s rows x p) (sym (eqb-true type 4 t)) ∙ q) in
           let m = c .moves in
           one-field e p (e - 4) (omega arith) (omega arith)
 
-  infos-rising : (n types p e : ℕ) → p ≤ length s → infosAt s rows n types p ≡ F.End e → Rising e p (infoFields s n types p)
+  infos-rising : (n types p e : ℕ) → p ≤ length s → infosAt τ s rows n types p ≡ F.End e → Rising e p (infoFields s n types p)
   unfolding infosAt infoFields
   infos-rising zero types p e h q = let z : p ≡ e = cc in no-field e p (omega arith)
   infos-rising (suc n) types p e h q =
       let type = getD s types 0 in
-      let x = through (infosAt s rows n (types + 1)) (infoKnown s rows type p) e q in
-      let m = info-known-moves s rows type p (x .0) h (x .1) in
-      rw (info-place s rows type p (x .0) (x .1))
+      let x = through (infosAt τ s rows n (types + 1)) (infoKnown τ s rows type p) e q in
+      let m = info-known-moves τ s rows type p (x .0) h (x .1) in
+      rw (info-place τ s rows type p (x .0) (x .1))
       (rising-append e (x .0) p (pick (eqb type 4) ((x .0 - 4) ∷ []) []) (infoFields s n (types + 1) (x .0))
       (info-rising type p (x .0) h (x .1)) (infos-rising n (types + 1) (x .0) e (omega arith) (x .2)))
 
@@ -69,17 +70,17 @@ module _ (s : List ℕ) (rows : List Row) where
     own-rising p (of-system k e) =
         subst (λ (x : ℕ). Rising (r .end) p (pick (eqb x 5) ((r .end - 4) ∷ []) [])) (sym k) (no-field (r .end) p (omega arith))
     own-rising p (of-library k e) =
-        let w = own-names s rows p (r .end) e in
+        let w = own-names τ s rows p (r .end) e in
         let m = w .1 in
         subst (λ (x : ℕ). Rising (r .end) p (pick (eqb x 5) ((r .end - 4) ∷ []) [])) (sym k) (one-field (r .end) p (r .end - 4) (omega arith) (omega arith))
 
     -- of a row that has the class's words, its slot the place of the type bytes
-    class-rising : (c : ClassStands s rows r) → q .kind ≡ r .kind → q .end ≡ r .end → q .count ≡ r .count → q .slot ≡ c .types
+    class-rising : (c : ClassStands τ s rows r) → q .kind ≡ r .kind → q .end ≡ r .end → q .count ≡ r .count → q .slot ≡ c .types
         → Rising (r .end) (r .offset) (classFields s q)
     unfolding classFields
     class-rising c k e n t =
-        let l = class-places s rows r c in
-        let m = name-moves s (r .offset + 5) (c .name-end) (c .named) in
+        let l = class-places τ s rows r c in
+        let m = name-moves (τ .setting) s (r .offset + 5) (c .name-end) (c .named) in
         let infos = infoFields s (r .count) (c .types) (c .types + r .count) in
         let own = pick (eqb (r .kind) 5) ((r .end - 4) ∷ []) [] in
         let a : Rising (r .end) (c .types + r .count) (infos ++ own) =
@@ -92,7 +93,7 @@ module _ (s : List ℕ) (rows : List Row) where
         (subst (λ (x : ℕ). Rising (r .end) (r .offset) (infoFields s x (q .slot) (q .slot + x) ++ own)) (sym n)
         (subst (λ (x : ℕ). Rising (r .end) (r .offset) (infoFields s (r .count) x (x + r .count) ++ own)) (sym t) b)))
 
-    array-rising : (a : ArrayStands s rows r) → q .offset ≡ r .offset → Rising (r .end) (r .offset) (arrayFields s q)
+    array-rising : (a : ArrayStands τ s rows r) → q .offset ≡ r .offset → Rising (r .end) (r .offset) (arrayFields s q)
     unfolding arrayFields itemType
     array-rising a e =
         let n : numberFrom s (r .offset + 6) ≡ a .rank = sym (u32-says s (r .offset + 6) (a .rank) (r .offset + 10) (a .ranked) .value) in
@@ -105,7 +106,7 @@ module _ (s : List ℕ) (rows : List Row) where
         let y : Rising (r .end) (p + 1) (fields ++ []) = rising-append (r .end) (a .info-end) (p + 1) fields [] x (no-field (r .end) (a .info-end) l) in
         subst (λ (o : ℕ). Rising (r .end) (r .offset) (at (o + 10 + 4 * numberFrom s (o + 6)))) (sym e)
         (subst (λ (z : ℕ). Rising (r .end) (r .offset) (at z)) (sym i)
-        (rw (info-place s rows (getD s p 0) (p + 1) (a .info-end) (a .info))
+        (rw (info-place τ s rows (getD s p 0) (p + 1) (a .info-end) (a .info))
         (rising-from (r .end) (r .offset) (p + 1) fields (omega arith) (rw (append-nil fields) at y))))
       where
         at : ℕ → List ℕ
@@ -136,7 +137,7 @@ abbrev edge : List Row → ℕ → ℕ
 edge rows zero = getD rows 0 blank .offset
 edge rows (suc i) = getD rows i blank .end
 
-module _ (s : List ℕ) (rows ps fs : List Row) (st : Stands s rows) (pl : Placed s rows ps) (fi : Firsts s rows ps fs) where
+module _ (τ : Terms) (s : List ℕ) (rows ps fs : List Row) (st : Stands τ s rows) (pl : Placed τ s rows ps) (fi : Firsts s rows ps fs) where
   edge-is : (i : ℕ) → i < length rows → edge rows i ≡ getD rows i blank .offset
   edge-is zero h = refl
   edge-is (suc i) h = sym (st .next i h)
@@ -155,20 +156,20 @@ module _ (s : List ℕ) (rows ps fs : List Row) (st : Stands s rows) (pl : Place
       P = Rising (getD rows i blank .end) (getD rows i blank .offset)
 
       kind : q .kind ≡ getD rows i blank .kind
-      kind = first-kind s rows ps fs st pl fi i h
+      kind = first-kind τ s rows ps fs st pl fi i h
 
       classes : isFirst i q ≡ true → P (classFields s q)
       classes e =
           let k = ap isClass (sym kind) ∙ pick-of (isClass (q .kind)) (eqb (q .link) (i + 1)) e .0 in
-          let w = class-words s rows ps fs st pl fi i h k in
-          class-rising s rows (getD rows i blank) q (class-at s rows st i h k) kind (ap (λ (r : Row). r .end) w) (ap (λ (r : Row). r .count) w)
+          let w = class-words τ s rows ps fs st pl fi i h k in
+          class-rising τ s rows (getD rows i blank) q (class-at τ s rows st i h k) kind (ap (λ (r : Row). r .end) w) (ap (λ (r : Row). r .count) w)
           (ap (λ (r : Row). r .slot) w)
 
       arrays : eqb (q .kind) 7 ≡ true → P (arrayFields s q)
       arrays e =
           let k = sym kind ∙ eqb-true (q .kind) 7 e in
-          array-rising s rows (getD rows i blank) q (array-at s rows st i h k)
-          (ap (λ (r : Row). r .offset) (object-words s rows ps fs st pl fi i h (ap isObject k) (ap isClass k)))
+          array-rising τ s rows (getD rows i blank) q (array-at τ s rows st i h k)
+          (ap (λ (r : Row). r .offset) (object-words τ s rows ps fs st pl fi i h (ap isObject k) (ap isClass k)))
 
   rising : Rising (edge rows (length fs)) (edge rows 0) (fieldsFrom s 0 fs)
   rising =
@@ -187,21 +188,21 @@ module _ (s : List ℕ) (rows ps fs : List Row) (st : Stands s rows) (pl : Place
 
   named-field : (p : ℕ) → NamesLibrary s rows p → Named s rows fs p
   named-field p w =
-      let x = library-first s rows ps st pl p w in
+      let x = library-first τ s rows ps st pl p w in
       let e : libraryAt s fs p ≡ libraryAt s ps p = firsts-library s rows ps fs fi p in
       record {
         aimed = record {
           row = x .row;
           aims = e ∙ (x .same ∙ x .first);
           inside = omega (arith, fi .size, pl .size, x .inside);
-          library = first-kind s rows ps fs st pl fi (x .row) (x .inside) ∙ x .kind;
+          library = first-kind τ s rows ps fs st pl fi (x .row) (x .inside) ∙ x .kind;
         };
         first = e ∙ x .same;
       }
 
   spelled-field : (p : ℕ) → NamesLibrary s rows p → Spelled s rows fs p
   spelled-field p w =
-      let x = library-first s rows ps st pl p w in
+      let x = library-first τ s rows ps st pl p w in
       let j : ℕ = x .row in
       let a : libraryAt s fs p - 1 ≡ j = omega (arith, firsts-library s rows ps fs fi p ∙ (x .same ∙ x .first)) in
       let l = pl .library j (x .inside) (x .kind) in
@@ -218,15 +219,15 @@ module _ (s : List ℕ) (rows ps fs : List Row) (st : Stands s rows) (pl : Place
   pub fields-hold : ((i : ℕ) → i < length rows → getD rows i blank .kind ≡ 12 → getD rows i blank .slot ≡ 0) → Fields s rows fs
   fields-hold fresh =
       record {
-        named = all-so (NamesLibrary s rows) (Named s rows fs) named-field (fieldsFrom s 0 fs) (fields-name s rows ps fs st pl fi);
+        named = all-so (NamesLibrary s rows) (Named s rows fs) named-field (fieldsFrom s 0 fs) (fields-name τ s rows ps fs st pl fi);
         limit = edge rows (length fs);
         small = let a = edge-small (length fs) (omega (arith, fi .size, pl .size)) in let b = st .small in omega arith;
         rising = rising-from (edge rows (length fs)) 0 (edge rows 0) (fieldsFrom s 0 fs) (omega arith) rising;
         fresh = λ j h k.
             let l : j < length rows = omega (arith, fi .size, pl .size) in
-            let kind : getD rows j blank .kind ≡ 12 = sym (first-kind s rows ps fs st pl fi j l) ∙ k in
+            let kind : getD rows j blank .kind ≡ 12 = sym (first-kind τ s rows ps fs st pl fi j l) ∙ k in
             firsts-word s rows ps fs fi (λ (r : Row). r .slot) (λ r y. refl) j ∙ (ap (λ (r : Row). r .slot) (pl .library j l kind) ∙ fresh j l kind);
       }
 
   pub fields-spelled : All (Spelled s rows fs) (fieldsFrom s 0 fs)
-  fields-spelled = all-so (NamesLibrary s rows) (Spelled s rows fs) spelled-field (fieldsFrom s 0 fs) (fields-name s rows ps fs st pl fi)
+  fields-spelled = all-so (NamesLibrary s rows) (Spelled s rows fs) spelled-field (fieldsFrom s 0 fs) (fields-name τ s rows ps fs st pl fi)

@@ -8,6 +8,7 @@ use lib.ListN.{length, getD, take, drop, take-append-drop}
 use lib.Seq.{length-take-le, take-suc, drop-cons}
 use lib.Dec.{eqb}
 use borrow.Author.Tests.{eqb-true}
+use Rattle.format.specs.Terms.{Terms}
 use Rattle.format.specs.declared.Row.{Row}
 use Rattle.format.specs.Bytes.{pick}
 use Rattle.format.specs.Rows.{blank, isObject, isClass}
@@ -81,27 +82,27 @@ module _ (s : List ℕ) where
 
 -- ---- the libraries that a row names
 
-module _ (s : List ℕ) (rows ps fs : List Row) (st : Stands s rows) (pl : Placed s rows ps) (fi : Firsts s rows ps fs) where
+module _ (τ : Terms) (s : List ℕ) (rows ps fs : List Row) (st : Stands τ s rows) (pl : Placed τ s rows ps) (fi : Firsts s rows ps fs) where
   module _ (i : ℕ) (h : i < length rows) where
     -- a class's first row needs its libraries
     pub first-new : isFirst i (getD fs i blank) ≡ isNew s rows i (getD rows i blank)
     first-new =
         either (isClass (getD rows i blank .kind))
-        (λ k. ap (isFirst i) (class-words s rows ps fs st pl fi i h k))
-        (λ k. ap (λ (t : Bool). pick t (eqb (getD fs i blank .link) (i + 1)) false) (ap isClass (first-kind s rows ps fs st pl fi i h) ∙ k)
+        (λ k. ap (isFirst i) (class-words τ s rows ps fs st pl fi i h k))
+        (λ k. ap (λ (t : Bool). pick t (eqb (getD fs i blank .link) (i + 1)) false) (ap isClass (first-kind τ s rows ps fs st pl fi i h) ∙ k)
         ∙ sym (ap (λ (t : Bool). pick t (eqb (classFirst s rows (classFrom s rows (getD rows i blank))) (i + 1)) false) k))
 
     class-names : isClass (getD rows i blank .kind) ≡ true → namesOf s rows (classFields s (getD fs i blank)) ≡ classNeeds (classFrom s rows (getD rows i blank))
     class-names k =
-        let e = class-words s rows ps fs st pl fi i h k in
-        class-need s rows (getD rows i blank) (class-at s rows st i h k) (getD fs i blank)
+        let e = class-words τ s rows ps fs st pl fi i h k in
+        class-need τ s rows (getD rows i blank) (class-at τ s rows st i h k) (getD fs i blank)
         (ap (λ (z : Row). z .kind) e) (ap (λ (z : Row). z .offset) e) (ap (λ (z : Row). z .end) e) (ap (λ (z : Row). z .count) e) (ap (λ (z : Row). z .slot) e)
 
     array-names : getD rows i blank .kind ≡ 7 → namesOf s rows (arrayFields s (getD fs i blank)) ≡ itemNeeds s rows (getD rows i blank)
     unfolding itemNeeds
     array-names k =
-        array-need s rows (getD rows i blank) (array-at s rows st i h k) (getD fs i blank)
-        (ap (λ (z : Row). z .offset) (object-words s rows ps fs st pl fi i h (ap isObject k) (ap isClass k)))
+        array-need τ s rows (getD rows i blank) (array-at τ s rows st i h k) (getD fs i blank)
+        (ap (λ (z : Row). z .offset) (object-words τ s rows ps fs st pl fi i h (ap isObject k) (ap isClass k)))
 
     row-names : namesOf s rows (rowFields s i (getD fs i blank)) ≡ rowNeeds s rows i (getD rows i blank)
     unfolding namesOf
@@ -110,7 +111,7 @@ module _ (s : List ℕ) (rows ps fs : List Row) (st : Stands s rows) (pl : Place
         (λ e. ap (namesOf s rows) (class-row-fields s i q (first-new ∙ e))
         ∙ (class-names (pick-of (isClass (r .kind)) (eqb (classFirst s rows (classFrom s rows r)) (i + 1)) e .0) ∙ sym (class-row-needs s rows i r e)))
         (λ e. ap (namesOf s rows) (other-row-fields s i q (first-new ∙ e))
-        ∙ (ap (λ (k : ℕ). namesOf s rows (pick (eqb k 7) (arrayFields s q) [])) (first-kind s rows ps fs st pl fi i h)
+        ∙ (ap (λ (k : ℕ). namesOf s rows (pick (eqb k 7) (arrayFields s q) [])) (first-kind τ s rows ps fs st pl fi i h)
         ∙ (items (eqb (r .kind) 7) refl ∙ sym (other-row-needs s rows i r e))))
       where
         r : Row
@@ -131,14 +132,13 @@ module _ (s : List ℕ) (rows ps fs : List Row) (st : Stands s rows) (pl : Place
   libraries-before (suc i) h =
       let b : List ℕ = fieldsFrom s 0 (take i fs) in
       let l : i < length fs = omega (arith, fi .size, pl .size) in
-      progress-libraries s rows class-refl class-eq st i h
+      progress-libraries τ s rows class-refl class-eq st i h
       ∙ (ap₂ (λ (n : List (List ℕ)) (t : Libraries). allEntered n t) (sym (row-names i h)) (libraries-before i (omega arith))
       ∙ (sym (libraries-append s rows b (rowFields s i (getD fs i blank))) ∙ ap (librariesFor s rows) (sym (fields-next s fs i l))))
 
   -- ---- row i, whose fields name these libraries
 
-  module _ (F : Fields s rows fs) (i : ℕ) (h : i < length rows) (fields : List ℕ) (needs : List (List ℕ))
-      (f : rowFields s i (getD fs i blank) ≡ fields) (n : rowNeeds s rows i (getD rows i blank) ≡ needs) where
+  module _ (F : Fields s rows fs) (i : ℕ) (h : i < length rows) (fields : List ℕ) (needs : List (List ℕ)) (f : rowFields s i (getD fs i blank) ≡ fields) (n : rowNeeds s rows i (getD rows i blank) ≡ needs) where
     rest : List ℕ
     rest = fieldsFrom s (i + 1) (drop (suc i) fs)
 

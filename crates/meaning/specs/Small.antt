@@ -79,7 +79,7 @@ header-long root =
 
 -- ---- what is written of one row
 
-module _ (s : List ℕ) (short : length s ≤ 16777216) where
+module _ (δ : ℕ) (s : List ℕ) (short : length s ≤ 16777216) where
   part-long : (a n : ℕ) → length (part s a n) ≤ 16777216
   part-long a n = simp (length-take, length-drop) (omega arith)
 
@@ -132,18 +132,18 @@ module _ (s : List ℕ) (short : length s ≤ 16777216) where
   unfolding stringOut
   string-long r = headed 6 (r .id) (textOut s (r .offset + 5)) 16777221 (text-long (r .offset + 5))
 
-  typed-long : (r : Row) → length (typedOut s r) ≤ 33554437
+  typed-long : (r : Row) → length (typedOut δ s r) ≤ 33554437
   unfolding typedOut
   typed-long r =
       let p = r .offset in
-      let t = eqb (getD s (p + 1) 0) 5 in
+      let t = eqb (getD s (p + 1) 0) δ in
       joined (part s p (p + 2 - p)) (valueOut s t (p + 2) (r .end)) 16777216 16777221 (part-long p (p + 2 - p)) (value-long t (p + 2) (r .end))
 
-  primitives-long : (r : Row) → length (primitivesOut s r) ≤ 33554437 + 5 * r .count
+  primitives-long : (r : Row) → length (primitivesOut δ s r) ≤ 33554437 + 5 * r .count
   unfolding primitivesOut primitiveItemsOut
   primitives-long r =
       let p = r .offset in
-      let t = eqb (getD s (p + 9) 0) 5 in
+      let t = eqb (getD s (p + 9) 0) δ in
       let l = part s (p + 5) (p + 10 - (p + 5)) in
       let items = valuesOut s t (r .count) (p + 10) (r .end) in
       let n = 5 * r .count + 16777216 in
@@ -238,35 +238,35 @@ module _ (s : List ℕ) (short : length s ≤ 16777216) where
         let b = by-id-long (r .id) (rowAt rs (r .link) .id) in
         picked (Within (67108892 + 33554456 * r .count)) (isFirst i r) (λ q. omega arith) (λ q. omega arith)
 
-    items-long : (p e : ℕ) (r : Row) → length (itemsOut s rs p e r) ≤ 16777225 + (5 * r .count + 16777216)
+    items-long : (p e : ℕ) (r : Row) → length (itemsOut δ s rs p e r) ≤ 16777225 + (5 * r .count + 16777216)
     unfolding itemsOut
     items-long p e r =
         let type = getD s p 0 in
-        let t = eqb type 0 && eqb (getD s (p + 1) 0) 5 in
+        let t = eqb type 0 && eqb (getD s (p + 1) 0) δ in
         joined (infoOut s rs type (p + 1) e) (valuesOut s t (r .count) e (r .end)) 16777225 (5 * r .count + 16777216) (info-long type (p + 1) e)
         (values-long t (r .count) e (r .end))
 
-    body-long : (p e : ℕ) (r : Row) → length (bodyOut s rs p e r) ≤ 50331662 + 5 * r .count
+    body-long : (p e : ℕ) (r : Row) → length (bodyOut δ s rs p e r) ≤ 50331662 + 5 * r .count
     unfolding bodyOut
     body-long p e r =
         let a = r .offset + 5 in
         let l = part s a (p + 1 - a) in
         let n = 16777225 + (5 * r .count + 16777216) in
-        let b = joined l (itemsOut s rs p e r) 16777216 n (part-long a (p + 1 - a)) (items-long p e r) in
-        let c = headed 7 (r .id) (l ++ itemsOut s rs p e r) (16777216 + n) b in
+        let b = joined l (itemsOut δ s rs p e r) 16777216 n (part-long a (p + 1 - a)) (items-long p e r) in
+        let c = headed 7 (r .id) (l ++ itemsOut δ s rs p e r) (16777216 + n) b in
         omega arith
 
-    array-long : (r : Row) → length (arrayOut s rs r) ≤ 16777226 + (50331662 + 5 * r .count)
+    array-long : (r : Row) → length (arrayOut δ s rs r) ≤ 16777226 + (50331662 + 5 * r .count)
     unfolding arrayOut
     array-long r =
         let p = itemType s r in
         let type = getD s p 0 in
         let e = afterInfo s type (p + 1) in
-        joined (needInfoOut s rs type e) (bodyOut s rs p e r) 16777226 (50331662 + 5 * r .count) (need-info-long type e) (body-long p e r)
+        joined (needInfoOut s rs type e) (bodyOut δ s rs p e r) 16777226 (50331662 + 5 * r .count) (need-info-long type e) (body-long p e r)
 
     -- m members, if the row is a class's
     record-long : (i : ℕ) (r : Row) (m : ℕ) → r .count < 4294967296 → (isClass (r .kind) ≡ true → m ≡ r .count)
-        → length (recordOut s rs i r) ≤ 22000000000 * (1 + m)
+        → length (recordOut δ s rs i r) ≤ 22000000000 * (1 + m)
     unfolding recordOut
     record-long i r m f w =
         picked B (eqb k 0) (λ q. let h = header-long (rowAt rs (r .link) .id) in omega arith)
@@ -279,7 +279,7 @@ module _ (s : List ℕ) (short : length s ≤ 16777216) where
         (λ q. picked B (isNulls k || eqb k 12) (λ q. omega arith)
         (λ q. picked B (eqb k 15) (λ q. let h = primitives-long r in omega arith)
         (λ q. picked B (eqb k 16 || eqb k 17) (λ q. let h = kept-long r in omega arith)
-        (λ q. picked B (eqb k 32) (λ q. let h = value-long (eqb (r .link) 5) (r .offset) (r .end) in omega arith)
+        (λ q. picked B (eqb k 32) (λ q. let h = value-long (eqb (r .link) δ) (r .offset) (r .end) in omega arith)
         (λ q. let h = part-long (r .offset) (r .end - r .offset) in omega arith)))))))))))
       where
         k : ℕ
@@ -295,32 +295,32 @@ module _ (s : List ℕ) (short : length s ≤ 16777216) where
         picked (Within 5) (isPassed r) (λ q. omega arith)
         (λ q. picked (Within 5) (isNulls (r .kind)) (λ q. picked (Within 5) (eqb (r .owner) (w .owner)) (λ q. omega arith) (λ q. h)) (λ q. h))
 
-    row-long : (i : ℕ) (w : Gathered) (r : Row) → r .count < 4294967296 → length (rowOut s rs i w r) ≤ 22000000005 * (1 + membersOf r)
+    row-long : (i : ℕ) (w : Gathered) (r : Row) → r .count < 4294967296 → length (rowOut δ s rs i w r) ≤ 22000000005 * (1 + membersOf r)
     unfolding rowOut
     row-long i w r f =
         let m = membersOf r in
         let h = record-long i r m f (λ q. ap (λ (t : Bool). pick t (r .count) 0) q) in
-        let a = joined (beforeOut w r) (recordOut s rs i r) 5 (22000000000 * (1 + m)) (before-long w r) h in
+        let a = joined (beforeOut w r) (recordOut δ s rs i r) 5 (22000000000 * (1 + m)) (before-long w r) h in
         omega arith
 
     -- ---- the copy
 
     rows-long : (i : ℕ) (w : Gathered) (more : List Row) → ((j : ℕ) → getD more j blank .count < 4294967296)
-        → length (copyFrom s rs i w more) ≤ 22000000005 * (length more + membersIn more) + 5
+        → length (copyFrom δ s rs i w more) ≤ 22000000005 * (length more + membersIn more) + 5
     unfolding copyFrom membersIn
     rows-long i w [] f = let h = run-long (w .count) in omega arith
     rows-long i w (r ∷ more) f =
         let m = 22000000005 * (1 + membersOf r) in
         let n = 22000000005 * (length more + membersIn more) + 5 in
         let others = rows-long (i + 1) (runAfter w r) more (λ j. f (suc j)) in
-        let a = joined (rowOut s rs i w r) (copyFrom s rs (i + 1) (runAfter w r) more) m n (row-long i w r (f 0)) others in
+        let a = joined (rowOut δ s rs i w r) (copyFrom δ s rs (i + 1) (runAfter w r) more) m n (row-long i w r (f 0)) others in
         omega arith
 
 -- the copy of any rows whose words are words
-pub copy-long : (s : List ℕ) (rs : List Row) → length s ≤ 16777216 → ((j : ℕ) → getD rs j blank .count < 4294967296)
-    → length (copyOf s rs) ≤ 22000000005 * (length rs + membersIn rs) + 5
+pub copy-long : (δ : ℕ) (s : List ℕ) (rs : List Row) → length s ≤ 16777216 → ((j : ℕ) → getD rs j blank .count < 4294967296)
+    → length (copyOf δ s rs) ≤ 22000000005 * (length rs + membersIn rs) + 5
 unfolding copyOf
-copy-long s rs h f = rows-long s h rs 0 noneYet rs f
+copy-long δ s rs h f = rows-long δ s h rs 0 noneYet rs f
 
 -- ---- marks change neither the number of rows nor the members of classes
 
@@ -432,10 +432,10 @@ marked-members s rows = kept-marked s rows .members
 
 -- ---- the bound
 
-pub copy-small : (s : List ℕ) (rows : List Row) → length s ≤ 16777216 → length rows ≤ 16777216 → membersIn rows ≤ length s
-    → ((j : ℕ) → getD (marked s rows) j blank .count < 4294967296) → length (copyOf s (marked s rows)) ≤ 18446744073709551615
-copy-small s rows short few h words =
-    let a = copy-long s (marked s rows) short words in
+pub copy-small : (δ : ℕ) (s : List ℕ) (rows : List Row) → length s ≤ 16777216 → length rows ≤ 16777216 → membersIn rows ≤ length s
+    → ((j : ℕ) → getD (marked s rows) j blank .count < 4294967296) → length (copyOf δ s (marked s rows)) ≤ 18446744073709551615
+copy-small δ s rows short few h words =
+    let a = copy-long δ s (marked s rows) short words in
     let b = marked-size s rows in
     let c = marked-members s rows in
     omega arith

@@ -9,6 +9,7 @@ use lib.ListN.{length, getD, drop, drop-of-length-le}
 use lib.Seq.{drop-cons}
 use lib.Dec.{eqb}
 use borrow.Author.Tests.{eqb-true, eqb-false, ne-eqb}
+use Rattle.format.specs.Terms.{Terms}
 use Rattle.format.specs.declared.Row.{Row}
 use Rattle.format.specs.Rows.{blank, isClass}
 use Rattle.format.specs.Contents.{Rec, header, end, enc, encs}
@@ -26,8 +27,8 @@ use Rattle.meaning.specs.Runs.{Match, match-none, nulls-kind, nulls-spea
 
 -- ---- where the header and the end stand
 
-module _ (s : List ℕ) (rows : List Row) (i : ℕ) (r : Row) where
-  pub header-first : RowStands s rows i r → r .kind ≡ 0 → i ≡ 0
+module _ (τ : Terms) (s : List ℕ) (rows : List Row) (i : ℕ) (r : Row) where
+  pub header-first : RowStands τ s rows i r → r .kind ≡ 0 → i ≡ 0
   header-first (the-header z k t) e = z
   header-first (by-id k class l h c) e = absurd (omega arith)
   header-first (a-class c x) e = differ (sym c ∙ ap isClass e)
@@ -43,7 +44,7 @@ module _ (s : List ℕ) (rows : List Row) (i : ℕ) (r : Row) where
   header-first (texts k x y) e = absurd (omega arith)
   header-first (a-value k x y) e = absurd (omega arith)
 
-  pub end-last : RowStands s rows i r → r .kind ≡ 11 → suc i ≡ length rows
+  pub end-last : RowStands τ s rows i r → r .kind ≡ 11 → suc i ≡ length rows
   end-last (the-header z k t) e = absurd (omega arith)
   end-last (by-id k class l h c) e = absurd (omega arith)
   end-last (a-class c x) e = differ (sym c ∙ ap isClass e)
@@ -61,38 +62,38 @@ module _ (s : List ℕ) (rows : List Row) (i : ℕ) (r : Row) where
 
 -- ---- libraries and nulls are written with other rows
 
-module _ (s : List ℕ) (rs : List Row) (i : ℕ) (r : Row) where
-  pub record-library : r .kind ≡ 12 → recordOut s rs i r ≡ []
-  record-library e = record-as s rs i r 12 e
+module _ (δ : ℕ) (s : List ℕ) (rs : List Row) (i : ℕ) (r : Row) where
+  pub record-library : r .kind ≡ 12 → recordOut δ s rs i r ≡ []
+  record-library e = record-as δ s rs i r 12 e
 
-  pub record-nulls : isNulls (r .kind) ≡ true → recordOut s rs i r ≡ []
-  record-nulls e = nulls-kind (r .kind) e (λ (k : ℕ). r .kind ≡ k → recordOut s rs i r ≡ []) (record-as s rs i r 10) (record-as s rs i r 13) (record-as s rs i r 14) refl
+  pub record-nulls : isNulls (r .kind) ≡ true → recordOut δ s rs i r ≡ []
+  record-nulls e = nulls-kind (r .kind) e (λ (k : ℕ). r .kind ≡ k → recordOut δ s rs i r ≡ []) (record-as δ s rs i r 10) (record-as δ s rs i r 13) (record-as δ s rs i r 14) refl
 
 -- ---- the copy
 
 -- marked rows, each of which writes what the row says
-pub record Writes (s : List ℕ) (rows rs : List Row) : Type 0 where
+pub record Writes (δ : ℕ) (s : List ℕ) (rows rs : List Row) : Type 0 where
   pub size : length rs ≡ length rows
   pub kinds : (i : ℕ) → i < length rows → getD rs i blank .kind ≡ getD rows i blank .kind
   pub nulls : (i : ℕ) → i < length rows → isNulls (getD rows i blank .kind) ≡ true → getD rs i blank ≡ getD rows i blank
-  pub first : recordOut s rs 0 (getD rs 0 blank) ≡ enc (header (orderOf rows (getD rows 0 blank .link)) (orderOf rows (getD rows 0 blank .link)))
-  pub last : (i : ℕ) → i < length rows → getD rows i blank .kind ≡ 11 → recordOut s rs i (getD rs i blank) ≡ enc end
+  pub first : recordOut δ s rs 0 (getD rs 0 blank) ≡ enc (header (orderOf rows (getD rows 0 blank .link)) (orderOf rows (getD rows 0 blank .link)))
+  pub last : (i : ℕ) → i < length rows → getD rows i blank .kind ≡ 11 → recordOut δ s rs i (getD rs i blank) ≡ enc end
   pub each : (i : ℕ) → i < length rows → isSilent (getD rows i blank .kind) ≡ false → isNulls (getD rows i blank .kind) ≡ false
-      → recordOut s rs i (getD rs i blank) ≡ encs (recordsOf (progressTo s rows i) (whatFrom s rows (getD rows i blank)))
+      → recordOut δ s rs i (getD rs i blank) ≡ encs (recordsOf (progressTo s rows i) (whatFrom s rows (getD rows i blank)))
 
-module _ (s : List ℕ) (rows rs : List Row) (st : Stands s rows) (wr : Writes s rows rs) where
+module _ (τ : Terms) (δ : ℕ) (s : List ℕ) (rows rs : List Row) (st : Stands τ s rows) (wr : Writes δ s rows rs) where
   -- from row i on, after a run
   abbrev Copied : ℕ → Gathered → Run → Type 0
-  Copied i g w = copyFrom s rs i g (drop i rs) ≡ encs (squeeze w (pack (progressTo s rows i) (nodesFrom s rows (drop i rows)))) ++ enc end
+  Copied i g w = copyFrom δ s rs i g (drop i rs) ≡ encs (squeeze w (pack (progressTo s rows i) (nodesFrom s rows (drop i rows)))) ++ enc end
 
   next-copy : (i : ℕ) → i < length rows → (g : Gathered)
-      → copyFrom s rs i g (drop i rs)
-      ≡ (beforeOut g (getD rs i blank) ++ recordOut s rs i (getD rs i blank)) ++ copyFrom s rs (suc i) (runAfter g (getD rs i blank)) (drop (suc i) rs)
+      → copyFrom δ s rs i g (drop i rs)
+      ≡ (beforeOut g (getD rs i blank) ++ recordOut δ s rs i (getD rs i blank)) ++ copyFrom δ s rs (suc i) (runAfter g (getD rs i blank)) (drop (suc i) rs)
   unfolding copyFrom rowOut
   next-copy i h g =
       let k : i < length rs = omega (arith, wr .size) in
-      ap (copyFrom s rs i g) (drop-cons rs i blank k)
-      ∙ ap (λ (n : ℕ). (beforeOut g (getD rs i blank) ++ recordOut s rs i (getD rs i blank)) ++ copyFrom s rs n (runAfter g (getD rs i blank)) (drop (suc i) rs)) (add-one i)
+      ap (copyFrom δ s rs i g) (drop-cons rs i blank k)
+      ∙ ap (λ (n : ℕ). (beforeOut g (getD rs i blank) ++ recordOut δ s rs i (getD rs i blank)) ++ copyFrom δ s rs n (runAfter g (getD rs i blank)) (drop (suc i) rs)) (add-one i)
 
   next-nodes : (i : ℕ) → i < length rows → nodesFrom s rows (drop i rows) ≡ nodesOf s rows (getD rows i blank) ++ nodesFrom s rows (drop (suc i) rows)
   unfolding nodesFrom
@@ -101,10 +102,10 @@ module _ (s : List ℕ) (rows rs : List Row) (st : Stands s rows) (wr : Writes s
   -- one row more
   turn : (i : ℕ) → i < length rows → (g : Gathered) (w v : Run)
       → encs (squeeze w (pack (progressTo s rows i) (nodesOf s rows (getD rows i blank) ++ nodesFrom s rows (drop (suc i) rows))))
-      ≡ (beforeOut g (getD rs i blank) ++ recordOut s rs i (getD rs i blank)) ++ encs (squeeze v (pack (progressTo s rows (suc i)) (nodesFrom s rows (drop (suc i) rows))))
+      ≡ (beforeOut g (getD rs i blank) ++ recordOut δ s rs i (getD rs i blank)) ++ encs (squeeze v (pack (progressTo s rows (suc i)) (nodesFrom s rows (drop (suc i) rows))))
       → Copied (suc i) (runAfter g (getD rs i blank)) v → Copied i g w
   turn i h g w v e c =
-      let a : List ℕ = beforeOut g (getD rs i blank) ++ recordOut s rs i (getD rs i blank) in
+      let a : List ℕ = beforeOut g (getD rs i blank) ++ recordOut δ s rs i (getD rs i blank) in
       let b : List ℕ = encs (squeeze v (pack (progressTo s rows (suc i)) (nodesFrom s rows (drop (suc i) rows)))) in
       next-copy i h g
       ∙ (ap (λ (x : List ℕ). a ++ x) c
@@ -113,16 +114,16 @@ module _ (s : List ℕ) (rows rs : List Row) (st : Stands s rows) (wr : Writes s
 
   -- a row at which nothing is written and nothing gathered
   passed : (i : ℕ) → i < length rows → (g : Gathered) (w : Run) → isPassed (getD rows i blank) ≡ true → isPassed (getD rs i blank) ≡ true
-      → recordOut s rs i (getD rs i blank) ≡ [] → progressTo s rows (suc i) ≡ progressTo s rows i → Copied (suc i) g w → Copied i g w
+      → recordOut δ s rs i (getD rs i blank) ≡ [] → progressTo s rows (suc i) ≡ progressTo s rows i → Copied (suc i) g w → Copied i g w
   passed i h g w a b e q c =
       let x : Row = getD rs i blank in
       let ns : List Node = nodesFrom s rows (drop (suc i) rows) in
       let f : encs (squeeze w (pack (progressTo s rows i) (nodesOf s rows (getD rows i blank) ++ ns)))
-      ≡ (beforeOut g x ++ recordOut s rs i x) ++ encs (squeeze w (pack (progressTo s rows (suc i)) ns)) =
+      ≡ (beforeOut g x ++ recordOut δ s rs i x) ++ encs (squeeze w (pack (progressTo s rows (suc i)) ns)) =
       ap (λ (m : List Node). encs (squeeze w (pack (progressTo s rows i) (m ++ ns)))) (nodes-passed s rows (getD rows i blank) a)
       ∙ (ap (λ (p : Progress). encs (squeeze w (pack p ns))) (sym q)
       ∙ (ap (λ (l : List ℕ). ([] ++ l) ++ encs (squeeze w (pack (progressTo s rows (suc i)) ns))) (sym e)
-      ∙ ap (λ (l : List ℕ). (l ++ recordOut s rs i x) ++ encs (squeeze w (pack (progressTo s rows (suc i)) ns))) (sym (before-passed g x b)))) in
+      ∙ ap (λ (l : List ℕ). (l ++ recordOut δ s rs i x) ++ encs (squeeze w (pack (progressTo s rows (suc i)) ns))) (sym (before-passed g x b)))) in
       turn i h g w w f (subst (λ (k : Gathered). Copied (suc i) k w) (sym (run-passed g x b)) c)
 
   -- a row of nulls, at least one
@@ -136,13 +137,13 @@ module _ (s : List ℕ) (rows rs : List Row) (st : Stands s rows) (wr : Writes s
       let p : Progress = progressTo s rows i in
       let ns : List Node = nodesFrom s rows (drop (suc i) rows) in
       let q : progressTo s rows (suc i) ≡ p = progress-next s rows i h ∙ after-run s rows p r (nulls-speak (r .kind) e) e in
-      let none : recordOut s rs i (getD rs i blank) ≡ [] = record-nulls s rs i (getD rs i blank) (ap (λ (z : Row). isNulls (z .kind)) same ∙ e) in
-      let before : beforeOut g r ≡ beforeOut g (getD rs i blank) ++ recordOut s rs i (getD rs i blank) =
+      let none : recordOut δ s rs i (getD rs i blank) ≡ [] = record-nulls δ s rs i (getD rs i blank) (ap (λ (z : Row). isNulls (z .kind)) same ∙ e) in
+      let before : beforeOut g r ≡ beforeOut g (getD rs i blank) ++ recordOut δ s rs i (getD rs i blank) =
       ap (beforeOut g) (sym same) ∙ (sym (append-nil (beforeOut g (getD rs i blank))) ∙ ap (λ (l : List ℕ). beforeOut g (getD rs i blank) ++ l) (sym none)) in
       turn i h g w v
       (null-row s rows r g w m e n owns p ns
       ∙ (ap (λ (l : List ℕ). l ++ encs (squeeze v (pack p ns))) before
-      ∙ ap (λ (z : Progress). (beforeOut g (getD rs i blank) ++ recordOut s rs i (getD rs i blank)) ++ encs (squeeze v (pack z ns))) (sym q)))
+      ∙ ap (λ (z : Progress). (beforeOut g (getD rs i blank) ++ recordOut δ s rs i (getD rs i blank)) ++ encs (squeeze v (pack z ns))) (sym q)))
       (c (runAfter g (getD rs i blank)) v (subst (λ (z : Row). Match rows (runAfter g z) v) (sym same) (null-match s rows r g w m e n owns)))
 
   -- a row that says something else
@@ -160,8 +161,8 @@ module _ (s : List ℕ) (rows rs : List Row) (st : Stands s rows) (wr : Writes s
       turn i h g w noRun
       (other-row s rows r g w m x kind a b p ns
       ∙ (ap (λ (l : List ℕ). beforeOut g x ++ (l ++ rest)) (sym (wr .each i h a b))
-      ∙ (sym (append-assoc (beforeOut g x) (recordOut s rs i x) rest)
-      ∙ ap (λ (z : Progress). (beforeOut g x ++ recordOut s rs i x) ++ encs (squeeze noRun (pack z ns))) (sym q))))
+      ∙ (sym (append-assoc (beforeOut g x) (recordOut δ s rs i x) rest)
+      ∙ ap (λ (z : Progress). (beforeOut g x ++ recordOut δ s rs i x) ++ encs (squeeze noRun (pack z ns))) (sym q))))
       (subst (λ (k : Gathered). Copied (suc i) k noRun) (sym (run-other g x (ap isNulls kind ∙ b) other)) (c noneYet noRun (match-none rows)))
 
   -- the last row
@@ -180,10 +181,10 @@ module _ (s : List ℕ) (rows rs : List Row) (st : Stands s rows) (wr : Writes s
       let ns : nodesFrom s rows (drop i rows) ≡ [] =
       next-nodes i inside ∙ (ap (λ (z : List Node). z ++ nodesFrom s rows (drop (suc i) rows)) (nodes-silent s rows r (ap isSilent kind)) ∙ ap (nodesFrom s rows) b) in
       next-copy i inside g
-      ∙ (ap (λ (z : List Row). (beforeOut g x ++ recordOut s rs i x) ++ copyFrom s rs (suc i) (runAfter g x) z) a
-      ∙ (ap (λ (k : Gathered). (beforeOut g x ++ recordOut s rs i x) ++ runOut (k .count)) gone
-      ∙ (append-nil (beforeOut g x ++ recordOut s rs i x)
-      ∙ (ap (λ (z : List ℕ). z ++ recordOut s rs i x) (end-row s rows r g w m x (ap isNulls like) (ap (λ (n : ℕ). eqb n 12) like))
+      ∙ (ap (λ (z : List Row). (beforeOut g x ++ recordOut δ s rs i x) ++ copyFrom δ s rs (suc i) (runAfter g x) z) a
+      ∙ (ap (λ (k : Gathered). (beforeOut g x ++ recordOut δ s rs i x) ++ runOut (k .count)) gone
+      ∙ (append-nil (beforeOut g x ++ recordOut δ s rs i x)
+      ∙ (ap (λ (z : List ℕ). z ++ recordOut δ s rs i x) (end-row s rows r g w m x (ap isNulls like) (ap (λ (n : ℕ). eqb n 12) like))
       ∙ (ap (λ (z : List ℕ). encs (squeeze w []) ++ z) (wr .last i inside kind)
       ∙ ap (λ (z : List Node). encs (squeeze w (pack (progressTo s rows i) z)) ++ enc end) (sym ns))))))
 
@@ -200,7 +201,7 @@ module _ (s : List ℕ) (rows rs : List Row) (st : Stands s rows) (wr : Writes s
       either (eqb (r .kind) 12)
       (λ a.
       let e : r .kind ≡ 12 = eqb-true (r .kind) 12 a in
-      passed i inside g w (passed-library r e) (passed-library x (kind ∙ e)) (record-library s rs i x (kind ∙ e))
+      passed i inside g w (passed-library r e) (passed-library x (kind ∙ e)) (record-library δ s rs i x (kind ∙ e))
       (progress-next s rows i inside ∙ after-silent s rows p r (ap isSilent e)) (c g w m))
       (λ a. either (isNulls (r .kind))
       (λ b.
@@ -208,19 +209,19 @@ module _ (s : List ℕ) (rows rs : List Row) (st : Stands s rows) (wr : Writes s
       either (eqb (r .count) 0)
       (λ d.
       let e : isPassed r ≡ true = rw (a, b, d) in
-      passed i inside g w e (ap isPassed same ∙ e) (record-nulls s rs i x (ap isNulls kind ∙ b))
+      passed i inside g w e (ap isPassed same ∙ e) (record-nulls δ s rs i x (ap isNulls kind ∙ b))
       (progress-next s rows i inside ∙ after-run s rows p r (nulls-speak (r .kind) b) b) (c g w m))
       (λ d. let z = eqb-false (r .count) 0 d in more-nulls i inside g w m b (omega arith) c))
       (λ b.
-      let no-header : eqb (r .kind) 0 ≡ false = ne-eqb (r .kind) 0 (λ e. let z = header-first s rows i r stands e in omega arith) in
-      let no-end : eqb (r .kind) 11 ≡ false = ne-eqb (r .kind) 11 (λ e. let z = end-last s rows i r stands e in omega arith) in
+      let no-header : eqb (r .kind) 0 ≡ false = ne-eqb (r .kind) 0 (λ e. let z = header-first τ s rows i r stands e in omega arith) in
+      let no-end : eqb (r .kind) 11 ≡ false = ne-eqb (r .kind) 11 (λ e. let z = end-last τ s rows i r stands e in omega arith) in
       said i inside g w m (rw (no-header, no-end, a)) b c))
 
   middle : (k i : ℕ) → i + suc k ≡ length rows → 0 < i → (g : Gathered) (w : Run) → Match rows g w → Copied i g w
   middle zero i h o g w m = ended i (omega arith) g w m
   middle (suc k) i h o g w m = step i o (omega arith) g w m (middle k (suc i) (omega arith) (omega arith))
 
-  pub copied : copyOf s rs ≡ tidyOf (says s rows)
+  pub copied : copyOf δ s rs ≡ tidyOf (says s rows)
   unfolding copyOf tidyOf tidyRecords says encs runOut runOf
   copied =
       let r : Row = getD rows 0 blank in
@@ -237,11 +238,11 @@ module _ (s : List ℕ) (rows rs : List Row) (st : Stands s rows) (wr : Writes s
       progress-next s rows 0 some ∙ (after-silent s rows (progressTo s rows 0) r (ap isSilent (st .first)) ∙ progress-none s rows) in
       let all : List Rec = squeeze noRun (pack nothing (nodesFrom s rows rows)) in
       next-copy 0 some noneYet
-      ∙ (ap (λ (z : List ℕ). (z ++ recordOut s rs 0 x) ++ copyFrom s rs 1 (runAfter noneYet x) (drop 1 rs)) before
-      ∙ (ap (λ (k : Gathered). recordOut s rs 0 x ++ copyFrom s rs 1 k (drop 1 rs)) gone
-      ∙ (ap (λ (z : List ℕ). recordOut s rs 0 x ++ z) (middle (length rows - 2) 1 (omega arith) (omega arith) noneYet noRun (match-none rows))
-      ∙ (ap (λ (p : Progress). recordOut s rs 0 x ++ (encs (squeeze noRun (pack p (nodesFrom s rows (drop 1 rows)))) ++ enc end)) after
-      ∙ (ap (λ (ns : List Node). recordOut s rs 0 x ++ (encs (squeeze noRun (pack nothing ns)) ++ enc end)) (sym nodes)
+      ∙ (ap (λ (z : List ℕ). (z ++ recordOut δ s rs 0 x) ++ copyFrom δ s rs 1 (runAfter noneYet x) (drop 1 rs)) before
+      ∙ (ap (λ (k : Gathered). recordOut δ s rs 0 x ++ copyFrom δ s rs 1 k (drop 1 rs)) gone
+      ∙ (ap (λ (z : List ℕ). recordOut δ s rs 0 x ++ z) (middle (length rows - 2) 1 (omega arith) (omega arith) noneYet noRun (match-none rows))
+      ∙ (ap (λ (p : Progress). recordOut δ s rs 0 x ++ (encs (squeeze noRun (pack p (nodesFrom s rows (drop 1 rows)))) ++ enc end)) after
+      ∙ (ap (λ (ns : List Node). recordOut δ s rs 0 x ++ (encs (squeeze noRun (pack nothing ns)) ++ enc end)) (sym nodes)
       ∙ (ap (λ (z : List ℕ). z ++ (encs all ++ enc end)) (wr .first)
       ∙ (ap (λ (z : List ℕ). enc (header root root) ++ (encs all ++ z)) (sym (append-nil (enc end)))
       ∙ ap (λ (z : List ℕ). enc (header root root) ++ z) (sym (encs-append all (end ∷ []))))))))))

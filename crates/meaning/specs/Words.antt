@@ -7,6 +7,7 @@ use mathlib.Core.List.{List}
 use native.Mathlib.Omega.{arith}
 use lib.ListN.{length, getD}
 use lib.Dec.{eqb}
+use Rattle.format.specs.Terms.{Terms}
 use Rattle.format.specs.declared.Row.{Row}
 use Rattle.format.specs.Rows.{blank, isObject, isClass, withLink}
 use Rattle.format.specs.Says.{orderOf, classFrom}
@@ -20,28 +21,28 @@ use Rattle.meaning.specs.Names.{class-at, placed-class, placed-kind, fir
 use Rattle.meaning.specs.Equal.{class-first}
 use Rattle.meaning.specs.Needs.{Like}
 
-module _ (s : List ℕ) (rows ps fs : List Row) (st : Stands s rows) (pl : Placed s rows ps) (fi : Firsts s rows ps fs) where
+module _ (τ : Terms) (s : List ℕ) (rows ps fs : List Row) (st : Stands τ s rows) (pl : Placed τ s rows ps) (fi : Firsts s rows ps fs) where
   -- ---- before libraries are numbered
 
   module _ (i : ℕ) (h : i < length rows) where
     pub first-kind : getD fs i blank .kind ≡ getD rows i blank .kind
-    first-kind = firsts-word s rows ps fs fi (λ (r : Row). r .kind) (λ r x. refl) i ∙ placed-kind s rows ps st pl i h
+    first-kind = firsts-word s rows ps fs fi (λ (r : Row). r .kind) (λ r x. refl) i ∙ placed-kind τ s rows ps st pl i h
 
     inside : i < length ps
     inside = omega (arith, pl .size)
 
     not-first : isClass (getD rows i blank .kind) ≡ false → getD fs i blank ≡ getD ps i blank
-    not-first c = fi .other i inside (ap isClass (placed-kind s rows ps st pl i h) ∙ c)
+    not-first c = fi .other i inside (ap isClass (placed-kind τ s rows ps st pl i h) ∙ c)
 
     pub class-words : (k : isClass (getD rows i blank .kind) ≡ true)
         → getD fs i blank
-        ≡ withLink (withSlot (withId (getD rows i blank) (orderOf rows (suc i))) (class-at s rows st i h k .types))
+        ≡ withLink (withSlot (withId (getD rows i blank) (orderOf rows (suc i))) (class-at τ s rows st i h k .types))
         (classFirst s rows (classFrom s rows (getD rows i blank)))
     class-words k =
-        let r : Row = withSlot (withId (getD rows i blank) (orderOf rows (suc i))) (class-at s rows st i h k .types) in
-        fi .class i inside (ap isClass (placed-kind s rows ps st pl i h) ∙ k)
-        ∙ (ap (λ (p : Row). withLink p (firstClass s ps (getD ps i blank))) (placed-class s rows ps st pl i h k)
-        ∙ ap (withLink r) (class-first s rows ps st pl i h k .same))
+        let r : Row = withSlot (withId (getD rows i blank) (orderOf rows (suc i))) (class-at τ s rows st i h k .types) in
+        fi .class i inside (ap isClass (placed-kind τ s rows ps st pl i h) ∙ k)
+        ∙ (ap (λ (p : Row). withLink p (firstClass s ps (getD ps i blank))) (placed-class τ s rows ps st pl i h k)
+        ∙ ap (withLink r) (class-first τ s rows ps st pl i h k .same))
 
     pub object-words : isObject (getD rows i blank .kind) ≡ true → isClass (getD rows i blank .kind) ≡ false
         → getD fs i blank ≡ withId (getD rows i blank) (orderOf rows (suc i))
@@ -85,7 +86,7 @@ module _ (s : List ℕ) (rows ps fs : List Row) (st : Stands s rows) (pl : Place
     pub first-id : (i : ℕ) → i < length rows → isClass (getD rows i blank .kind) ≡ true
         → rowAt ms (classFirst s rows (classFrom s rows (getD rows i blank))) .id ≡ orderOf rows (classFirst s rows (classFrom s rows (getD rows i blank)))
     first-id i h k =
-        let w = class-first s rows ps st pl i h k in
+        let w = class-first τ s rows ps st pl i h k in
         let b = w .before in
         target-id (classFirst s rows (classFrom s rows (getD rows i blank)))
         (record { row = w .row; link-is = w .first; inside = omega arith; object = class-is-object (getD rows (w .row) blank .kind) (w .kind) })

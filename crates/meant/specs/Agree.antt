@@ -7,6 +7,7 @@ use native.Mathlib.Omega.{arith}
 use lib.ListN.{length, getD, take, drop}
 use lib.Dec.{eqb}
 use borrow.Author.Tests.{eqb-true, eq-eqb}
+use Rattle.format.specs.Terms.{Terms}
 use Rattle.format.specs.declared.SlotType.{SlotType}
 use Rattle.format.specs.declared.Row.{Row}
 use Rattle.format.specs.Bytes.{pick}
@@ -65,15 +66,15 @@ class-either k r ts (aLibrary j ∷ es) fs a b e = class-either k r ts es fs a b
 
 -- ---- what is known by both
 
-module _ (s : List ℕ) (table : List Row) (name : ℕ → List ℕ) (of : ℕ → Class) where
+module _ (τ : Terms) (s : List ℕ) (table : List Row) (name : ℕ → List ℕ) (of : ℕ → Class) where
   -- the class of the object k, which has the row before r
   pub record Same (k r : ℕ) (ts : List SlotType) : Type 0 where
-    pub class-is : classAt s table r ≡ of k
+    pub class-is : classAt τ s table r ≡ of k
     pub slots-are : slotsOf (of k .members) ≡ ts
 
   -- after so many rows, with this known and these records left
   pub record Agrees (row : ℕ) (es : List Entry) (rs : List Rec) : Type 0 where
-    pub fresh : (i : ℕ) → known i es ≡ false → findFrom (ofLibrary s table i) 0 (take row table) ≡ 0
+    pub fresh : (i : ℕ) → known i es ≡ false → findFrom (ofLibrary τ s table i) 0 (take row table) ≡ 0
     pub names : (l : ℕ) → known l es ≡ true → libraryName s table l ≡ name l
     pub name-later : (i : ℕ) → known i es ≡ false → name i ≡ found [] i (librariesOf rs)
     pub classes : (k r : ℕ) (ts : List SlotType) → classOf k es ≡ classed r ts → Same k r ts
@@ -85,14 +86,14 @@ module _ (s : List ℕ) (table : List Row) (name : ℕ → List ℕ) (of : ℕ �
     unfolding librariesOf classesOf
     agrees-same n a b =
         record {
-          fresh = λ i h. fresh-more s table is w row e i (rw n) (g .fresh i h);
+          fresh = λ i h. fresh-more τ s table is w row e i (rw n) (g .fresh i h);
           names = g .names;
           name-later = λ i h. g .name-later i h ∙ ap (λ (l : List (ℕ × List ℕ)). found [] i (l ++ librariesOf rs)) a;
           classes = g .classes;
           class-later = λ i h. g .class-later i h ∙ ap (λ (l : List (ℕ × Class)). found noClass i (l ++ classesOf name rs)) b;
         }
 
-    agrees-entry : (x : Entry) → ((i : ℕ) → known i (x ∷ []) ≡ false → ofLibrary s table i w ≡ false)
+    agrees-entry : (x : Entry) → ((i : ℕ) → known i (x ∷ []) ≡ false → ofLibrary τ s table i w ≡ false)
         → ((l : ℕ) → known l (x ∷ []) ≡ true → libraryName s table l ≡ name l)
         → ((i : ℕ) → known i (x ∷ []) ≡ false → found [] i (libraryOf r ++ librariesOf rs) ≡ found [] i (librariesOf rs))
         → ((k c : ℕ) (ts : List SlotType) → classOf k (x ∷ []) ≡ classed c ts → Same k c ts)
@@ -103,7 +104,7 @@ module _ (s : List ℕ) (table : List Row) (name : ℕ → List ℕ) (of : ℕ �
         record {
           fresh = λ i h.
               let u = unknown-both i es (x ∷ []) h in
-              fresh-more s table is w row e i (a i (u .1)) (g .fresh i (u .0));
+              fresh-more τ s table is w row e i (a i (u .1)) (g .fresh i (u .0));
           names = λ l h. known-either l es (x ∷ []) (g .names l) (b l) h;
           name-later = λ i h.
               let u = unknown-both i es (x ∷ []) h in
@@ -142,7 +143,7 @@ module _ (s : List ℕ) (table : List Row) (name : ℕ → List ℕ) (of : ℕ �
             ∙ (ap (λ (l : List (ℕ × Class)). found noClass j (l ++ classesOf name rs)) b
             ∙ ap (λ (t : Bool). pick t c (found noClass j (classesOf name rs))) (eq-eqb j j refl))
 
-        at-it : classAt s table (suc row) ≡ c
+        at-it : classAt τ s table (suc row) ≡ c
         at-it =
             let z : suc row - 1 ≡ row = omega arith in
             ap (λ (k : ℕ). classFrom s table (getD table k blank)) z ∙ (ap (classFrom s table) (item-there table is w row e blank) ∙ q)
@@ -161,7 +162,7 @@ module _ (s : List ℕ) (table : List Row) (name : ℕ → List ℕ) (of : ℕ �
         → textFrom s (w .offset + 5) ≡ n → Agrees (suc row) (es ++ (aLibrary j ∷ [])) rs
     unfolding found librariesOf libraryName
     agrees-library j n k q f a b t =
-        agrees-entry (aLibrary j) (λ i h. other-library s table is w row e i j k q h) (λ l h. mine l (eqb j l) refl h)
+        agrees-entry (aLibrary j) (λ i h. other-library τ s table is w row e i j k q h) (λ l h. mine l (eqb j l) refl h)
         (λ i h. ap (λ (l : List (ℕ × List ℕ)). found [] i (l ++ librariesOf rs)) a ∙ skipped i (eqb j i) h) (λ k c ts h. no-class h)
         (λ i h. ap (λ (l : List (ℕ × Class)). found noClass i (l ++ classesOf name rs)) b)
       where
@@ -178,7 +179,7 @@ module _ (s : List ℕ) (table : List Row) (name : ℕ → List ℕ) (of : ℕ �
         at-it : libraryName s table j ≡ n
         at-it =
             let z : suc row - 1 ≡ row = omega arith in
-            rw (library-row s table is w row e j k q (g .fresh j f), z, item-there table is w row e blank) t
+            rw (library-row τ s table is w row e j k q (g .fresh j f), z, item-there table is w row e blank) t
 
         mine : (l : ℕ) (t : Bool) → eqb j l ≡ t → pick t true false ≡ true → libraryName s table l ≡ name l
         mine l true p h = subst (λ (l : ℕ). libraryName s table l ≡ name l) (eqb-true j l p) (at-it ∙ sym named-it)
@@ -187,7 +188,7 @@ module _ (s : List ℕ) (table : List Row) (name : ℕ → List ℕ) (of : ℕ �
   -- ---- the names that a record uses
 
   module _ {row : ℕ} {es : List Entry} {rs : List Rec} (g : Agrees row es rs) where
-    pub detail-same : (d : Detail Prefixed ℕ) → GoodDetail es d → named (libraryName s table) d ≡ named name d
+    pub detail-same : (d : Detail Prefixed ℕ) → GoodDetail τ es d → named (libraryName s table) d ≡ named name d
     detail-same (primitive c) h = refl
     detail-same text h = refl
     detail-same object h = refl
@@ -197,11 +198,11 @@ module _ (s : List ℕ) (table : List Row) (name : ℕ → List ℕ) (of : ℕ �
     detail-same texts h = refl
     detail-same (primitives c) h = refl
 
-    members-same : {ms : List (Member Prefixed ℕ)} → Members es ms → namedAll (libraryName s table) ms ≡ namedAll name ms
+    members-same : {ms : List (Member Prefixed ℕ)} → Members τ es ms → namedAll (libraryName s table) ms ≡ namedAll name ms
     members-same no-more = refl
     members-same (member {m = m} n h hs) = rw (detail-same (m .type) h, members-same hs)
 
-    pub class-same : (n : List ℕ) (from : From) (ms : List (Member Prefixed ℕ)) → Members es ms → classOfAll (libraryName s table) n from ms ≡ classOfAll name n from ms
+    pub class-same : (n : List ℕ) (from : From) (ms : List (Member Prefixed ℕ)) → Members τ es ms → classOfAll (libraryName s table) n from ms ≡ classOfAll name n from ms
     class-same n from ms h = rw (members-same h)
 
 pub length-typed : (ms : List (Member Prefixed ℕ)) → length ms ≡ length (typesOf ms)

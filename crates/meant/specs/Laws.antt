@@ -7,6 +7,7 @@ use mathlib.Core.List.{List, [], _∷_, _++_, map}
 use native.Mathlib.Omega.{arith}
 use lib.ListN.{length, drop, replicate, length-drop, length-replicate}
 use lib.Dec.{eqb}
+use Rattle.format.specs.Terms.{Terms}
 use Rattle.format.specs.declared.PrimitiveCode.{PrimitiveCode}
 use Rattle.format.specs.declared.SlotType.{SlotType}
 use Rattle.format.specs.declared.SlotType.the-variants as S
@@ -57,7 +58,7 @@ module _ (name : ℕ → List ℕ) (of : ℕ → Class) (order : ℕ → ℕ) wh
 abbrev rowFor : ℕ → Rec → ℕ → ℕ → ℕ → ℕ → ℕ → Row
 rowFor at r id own slot link count = rowOf (kindOf r) at r id own slot link count
 
-module _ (s : List ℕ) (raw : List Row) (name : ℕ → List ℕ) (of : ℕ → Class) (order : ℕ → ℕ) (ordered : (i : ℕ) → orderOf (linked raw) (objectRow i raw) ≡ order i) where
+module _ (τ : Terms) (s : List ℕ) (raw : List Row) (name : ℕ → List ℕ) (of : ℕ → Class) (order : ℕ → ℕ) (ordered : (i : ℕ) → orderOf (linked raw) (objectRow i raw) ≡ order i) where
   -- the rows with their links
   abbrev table : List Row
   table = linked raw
@@ -66,7 +67,7 @@ module _ (s : List ℕ) (raw : List Row) (name : ℕ → List ℕ) (of : ℕ →
   withOwn r = withLink r (linkOf raw r)
 
   abbrev Knows : ℕ → List Entry → List Rec → Type 0
-  Knows row es rs = Agrees s table name of row es rs
+  Knows row es rs = Agrees τ s table name of row es rs
 
   -- a cursor of the reading: its rows and bytes stand there, and what is known agrees
   record At (at row : ℕ) (es : List Entry) (rs : List Rec) (is : List Row) : Type 0 where
@@ -93,7 +94,7 @@ module _ (s : List ℕ) (raw : List Row) (name : ℕ → List ℕ) (of : ℕ →
 
   module _ {at row : ℕ} {es es₁ : List Entry} {r : Rec} {rs : List Rec} {is : List Row} (id own slot link count : ℕ) where
     -- what follows may use where the record stands
-    record-opens : {at₁ : ℕ} {it : Row} {os gs : List Open} → it ≡ rowFor at r id own slot link count → CountIs r count → GoodRec r → at₁ ≡ at + size r
+    record-opens : {at₁ : ℕ} {it : Row} {os gs : List Open} → it ≡ rowFor at r id own slot link count → CountIs r count → GoodRec τ r → at₁ ≡ at + size r
         → (At at row es (r ∷ rs) (rowFor at r id own slot link count ∷ is) → Step os gs row r (rowFor at r id own slot link count) es₁ rs)
         → (At at row es (r ∷ rs) (rowFor at r id own slot link count ∷ is) → Ok gs at₁ (suc row) es₁ rs is) → Ok os at row es (r ∷ rs) (it ∷ is)
     unfolding walk encs
@@ -110,7 +111,7 @@ module _ (s : List ℕ) (raw : List Row) (name : ℕ → List ℕ) (of : ℕ →
             let f = row-linked (linkOf raw x) (row-of r at id own slot link count c) in
             let a = nodes-more table (map withOwn is) y row (w .rows-there) s in
             let b : nodesOf s table y ≡ nodesBy (sense r) (ownerIn os) (slotIn os) =
-            row-said s table y of order (encs rs) at r (w .bytes-there) f g (u .link-is) ∙ u .said in
+            row-said τ s table y of order (encs rs) at r (w .bytes-there) f g (u .link-is) ∙ u .said in
             let v : At at₁ (suc row) es₁ rs is =
             record {
               rows-there = items-after table (map withOwn is) y row (w .rows-there);
@@ -123,7 +124,7 @@ module _ (s : List ℕ) (raw : List Row) (name : ℕ → List ℕ) (of : ℕ →
             a ∙ (ap (λ (l : List Node). l ++ nodesFrom s table (drop (suc row) table)) b
             ∙ ap (λ (l : List Node). nodesBy (sense r) (ownerIn os) (slotIn os) ++ l) d)
 
-    record-ok : {at₁ : ℕ} {it : Row} {os gs : List Open} → it ≡ rowFor at r id own slot link count → CountIs r count → GoodRec r → at₁ ≡ at + size r
+    record-ok : {at₁ : ℕ} {it : Row} {os gs : List Open} → it ≡ rowFor at r id own slot link count → CountIs r count → GoodRec τ r → at₁ ≡ at + size r
         → (At at row es (r ∷ rs) (rowFor at r id own slot link count ∷ is) → Step os gs row r (rowFor at r id own slot link count) es₁ rs)
         → Ok gs at₁ (suc row) es₁ rs is → Ok os at row es (r ∷ rs) (it ∷ is)
     record-ok q c g e t k = record-opens q c g e t (λ w. k)
@@ -132,18 +133,18 @@ module _ (s : List ℕ) (raw : List Row) (name : ℕ → List ℕ) (of : ℕ →
 
   module _ {at row : ℕ} {es : List Entry} {r : Rec} {rs : List Rec} {x : Row} {is : List Row} (w : At at row es (r ∷ rs) (x ∷ is)) where
     known-same : eqb (x .kind) 12 ≡ false → libraryOf r ≡ [] → ownClass name r ≡ [] → Knows (suc row) es rs
-    known-same = agrees-same s table name of (map withOwn is) (withOwn x) row (w .rows-there) (w .agrees)
+    known-same = agrees-same τ s table name of (map withOwn is) (withOwn x) row (w .rows-there) (w .agrees)
 
     known-another : (i : ℕ) → eqb (x .kind) 12 ≡ false → libraryOf r ≡ [] → ownClass name r ≡ [] → Knows (suc row) (es ++ (another i ∷ [])) rs
-    known-another = agrees-another s table name of (map withOwn is) (withOwn x) row (w .rows-there) (w .agrees)
+    known-another = agrees-another τ s table name of (map withOwn is) (withOwn x) row (w .rows-there) (w .agrees)
 
     known-class : (i : ℕ) (ts : List SlotType) (c : Class) → eqb (x .kind) 12 ≡ false → libraryOf r ≡ [] → ownClass name r ≡ (i, c) ∷ [] → used i es ≡ false
         → classFrom s table (withOwn x) ≡ c → slotsOf (c .members) ≡ ts → Knows (suc row) (es ++ (aClass i (suc row) ts ∷ [])) rs
-    known-class = agrees-class s table name of (map withOwn is) (withOwn x) row (w .rows-there) (w .agrees)
+    known-class = agrees-class τ s table name of (map withOwn is) (withOwn x) row (w .rows-there) (w .agrees)
 
     known-library : (i : ℕ) (n : List ℕ) → x .kind ≡ 12 → x .id ≡ i → known i es ≡ false → libraryOf r ≡ (i, n) ∷ [] → ownClass name r ≡ []
         → textFrom s (x .offset + 5) ≡ n → Knows (suc row) (es ++ (aLibrary i ∷ [])) rs
-    known-library = agrees-library s table name of (map withOwn is) (withOwn x) row (w .rows-there) (w .agrees)
+    known-library = agrees-library τ s table name of (map withOwn is) (withOwn x) row (w .rows-there) (w .agrees)
 
   -- ---- records in a slot, or at top level
 
@@ -170,18 +171,18 @@ module _ (s : List ℕ) (raw : List Row) (name : ℕ → List ℕ) (of : ℕ →
       }
 
   module _ {at row own slot : ℕ} {es : List Entry} {rs : List Rec} {it : Row} {is : List Row} {os : List Open} (p : Stands os own slot) where
-    string-ok : {i : ℕ} {x : Prefixed} → Name x → it ≡ rowOf 6 at (string i x) i own slot 0 0
+    string-ok : {i : ℕ} {x : Prefixed} → Name τ x → it ≡ rowOf 6 at (string i x) i own slot 0 0
         → Ok (close (fill 1 os)) (at + size (string i x)) (suc row) (es ++ (another i ∷ [])) rs is → Ok os at row es (string i x ∷ rs) (it ∷ is)
     string-ok {i} {x} n q k = record-ok i own slot 0 0 q tt n refl (λ w. step p tt refl refl (known-another w i refl refl refl)) k
 
     -- of the code that its owner's class has for its slot
-    value-ok : {b : PrimitiveCode} {v : Prefixed} → Value b v → codeIn (ownerClass s table own .members) slot ≡ b → it ≡ rowOf 32 at (value b v) 0 own slot 0 0
+    value-ok : {b : PrimitiveCode} {v : Prefixed} → Value τ b v → codeIn (ownerClass τ s table own .members) slot ≡ b → it ≡ rowOf 32 at (value b v) 0 own slot 0 0
         → Ok (close (fill 1 os)) (at + size (value b v)) (suc row) es rs is → Ok os at row es (value b v ∷ rs) (it ∷ is)
     value-ok {b} {v} g e q k =
         record-ok 0 own slot 0 0 q tt g refl
-        (λ w. step p (value-code s table (withOwn (rowOf 32 at (value b v) 0 own slot 0 0)) b e) refl refl (known-same w refl refl refl)) k
+        (λ w. step p (value-code τ s table (withOwn (rowOf 32 at (value b v) 0 own slot 0 0)) b e) refl refl (known-same w refl refl refl)) k
 
-    typed-primitive-ok : {b : PrimitiveCode} {v : Prefixed} → Value b v → it ≡ rowOf 8 at (typedPrimitive b v) 0 own slot 0 0
+    typed-primitive-ok : {b : PrimitiveCode} {v : Prefixed} → Value τ b v → it ≡ rowOf 8 at (typedPrimitive b v) 0 own slot 0 0
         → Ok (close (fill 1 os)) (at + size (typedPrimitive b v)) (suc row) es rs is → Ok os at row es (typedPrimitive b v ∷ rs) (it ∷ is)
     typed-primitive-ok g q k = record-ok 0 own slot 0 0 q tt g refl (λ w. step p tt refl refl (known-same w refl refl refl)) k
 
@@ -205,14 +206,14 @@ module _ (s : List ℕ) (raw : List Row) (name : ℕ → List ℕ) (of : ℕ →
   -- ---- records in no slot
 
   module _ {at row : ℕ} {es : List Entry} {rs : List Rec} {it : Row} {is : List Row} {os : List Open} where
-    library-ok : {i : ℕ} {n : Prefixed} → known i es ≡ false → Name n → it ≡ rowOf 12 at (library i n) i 0 0 0 0
+    library-ok : {i : ℕ} {n : Prefixed} → known i es ≡ false → Name τ n → it ≡ rowOf 12 at (library i n) i 0 0 0 0
         → Ok os (at + size (library i n)) (suc row) (es ++ (aLibrary i ∷ [])) rs is → Ok os at row es (library i n ∷ rs) (it ∷ is)
     unfolding encs
     library-ok {i} {n} f g q k =
         record-ok i 0 0 0 0 q tt g refl
         (λ w.
         let x = withOwn (rowOf 12 at (library i n) i 0 0 0 0) in
-        let t = library-said s table x at (encs rs) i n g (w .bytes-there) refl in
+        let t = library-said τ s table x at (encs rs) i n g (w .bytes-there) refl in
         record { link-is = tt; said = refl; left-open = refl; agrees = known-library w i (n .text) refl refl f refl refl t }) k
 
   end-ok : {at row : ℕ} {es : List Entry} {it : Row} → it ≡ rowOf 11 at end 0 0 0 0 0 → Ok [] at row es (end ∷ []) (it ∷ [])
@@ -235,27 +236,27 @@ module _ (s : List ℕ) (raw : List Row) (name : ℕ → List ℕ) (of : ℕ →
 
   -- an object of this class has the codes of its slots
   row-codes : {at row : ℕ} {es : List Entry} {r : Rec} {rs : List Rec} {x : Row} {is : List Row} → At at row es (r ∷ rs) (x ∷ is) → (c : Class) (ts : List SlotType)
-      → classFrom s table (classRowOf table (withOwn x)) ≡ c → slotsOf (c .members) ≡ ts → Codes s table (suc row) 0 ts
+      → classFrom s table (classRowOf table (withOwn x)) ≡ c → slotsOf (c .members) ≡ ts → Codes τ s table (suc row) 0 ts
   row-codes {row = row} {x = x} {is = is} w c ts e f =
-      class-codes s table (suc row) c ts (row-class s table (map withOwn is) (withOwn x) row (w .rows-there) ∙ e) f
+      class-codes τ s table (suc row) c ts (row-class τ s table (map withOwn is) (withOwn x) row (w .rows-there) ∙ e) f
 
   -- a class of a library that is known
-  library-same : {row l : ℕ} {n : Prefixed} {ms : List (Member Prefixed ℕ)} {es : List Entry} {rs : List Rec} → Knows row es rs → ClassInfo es n ms → LibraryId l es
+  library-same : {row l : ℕ} {n : Prefixed} {ms : List (Member Prefixed ℕ)} {es : List Entry} {rs : List Rec} → Knows row es rs → ClassInfo τ es n ms → LibraryId l es
       → classOfAll (libraryName s table) (n .text) (theLibrary (libraryName s table l)) ms ≡ classOfAll name (n .text) (theLibrary (name l)) ms
   library-same {l = l} {n = n} {ms = ms} a g b =
       ap (λ (y : List ℕ). classOfAll (libraryName s table) (n .text) (theLibrary y) ms) (a .names l (b .there))
-      ∙ class-same s table name of a (n .text) (theLibrary (name l)) ms (g .members)
+      ∙ class-same τ s table name of a (n .text) (theLibrary (name l)) ms (g .members)
 
   -- the class in the row of a record of kind 4 or 5
-  module _ {at row own slot i : ℕ} {n : Prefixed} {ms : List (Member Prefixed ℕ)} {es : List Entry} {rs : List Rec} {is : List Row} (g : ClassInfo es n ms) where
+  module _ {at row own slot i : ℕ} {n : Prefixed} {ms : List (Member Prefixed ℕ)} {es : List Entry} {rs : List Rec} {is : List Row} (g : ClassInfo τ es n ms) where
     system-from : At at row es (systemClass i n ms ∷ rs) (rowOf 4 at (systemClass i n ms) i own slot 0 (length ms) ∷ is)
         → classFrom s table (withOwn (rowOf 4 at (systemClass i n ms) i own slot 0 (length ms))) ≡ classOfAll name (n .text) theSystem ms
     unfolding encs
     system-from w =
         let x = rowOf 4 at (systemClass i n ms) i own slot 0 (length ms) in
         let h = row-linked (linkOf raw x) (row-of (systemClass i n ms) at i own slot 0 (length ms) refl) in
-        system-class-from s table (withOwn x) at (encs rs) i n ms (g .named) (own-members (g .members)) (w .bytes-there) h
-        ∙ class-same s table name of (w .agrees) (n .text) theSystem ms (g .members)
+        system-class-from τ s table (withOwn x) at (encs rs) i n ms (g .named) (own-members τ (g .members)) (w .bytes-there) h
+        ∙ class-same τ s table name of (w .agrees) (n .text) theSystem ms (g .members)
 
     library-from : {l : ℕ} → LibraryId l es → At at row es (libraryClass i n ms l ∷ rs) (rowOf 5 at (libraryClass i n ms l) i own slot 0 (length ms) ∷ is)
         → classFrom s table (withOwn (rowOf 5 at (libraryClass i n ms l) i own slot 0 (length ms))) ≡ classOfAll name (n .text) (theLibrary (name l)) ms
@@ -263,41 +264,41 @@ module _ (s : List ℕ) (raw : List Row) (name : ℕ → List ℕ) (of : ℕ →
     library-from {l} b w =
         let x = rowOf 5 at (libraryClass i n ms l) i own slot 0 (length ms) in
         let h = row-linked (linkOf raw x) (row-of (libraryClass i n ms l) at i own slot 0 (length ms) refl) in
-        library-class-from s table (withOwn x) at (encs rs) i n ms (g .named) (own-members (g .members)) l (positive-bits l (b .sign)) (w .bytes-there) h
+        library-class-from τ s table (withOwn x) at (encs rs) i n ms (g .named) (own-members τ (g .members)) l (positive-bits l (b .sign)) (w .bytes-there) h
         ∙ library-same (w .agrees) g b
 
   module _ {at row own slot : ℕ} {es : List Entry} {rs : List Rec} {it : Row} {is : List Row} {os : List Open} (p : Stands os own slot) where
-    system-class-ok : {i : ℕ} {n : Prefixed} {ms : List (Member Prefixed ℕ)} → ClassId i es → ClassInfo es n ms → it ≡ rowOf 4 at (systemClass i n ms) i own slot 0 (length ms)
-        → (Codes s table (suc row) 0 (typesOf ms)
+    system-class-ok : {i : ℕ} {n : Prefixed} {ms : List (Member Prefixed ℕ)} → ClassId i es → ClassInfo τ es n ms → it ≡ rowOf 4 at (systemClass i n ms) i own slot 0 (length ms)
+        → (Codes τ s table (suc row) 0 (typesOf ms)
         → Ok (close (opened (orderOf table (suc row)) 0 (length (typesOf ms)) ∷ fill 1 os)) (at + size (systemClass i n ms)) (suc row)
         (es ++ (aClass i (suc row) (typesOf ms) ∷ [])) rs is)
         → Ok os at row es (systemClass i n ms ∷ rs) (it ∷ is)
     unfolding encs
     system-class-ok {i} {n} {ms} a g q k =
         let c = classOfAll name (n .text) theSystem ms in
-        record-opens i own slot 0 (length ms) q refl (g .named, own-members (g .members)) refl
-        (λ w. step p tt (ap (λ (d : Class). opens (anObject d) (length ms)) (class-same s table name of (w .agrees) (n .text) theSystem ms (g .members)))
+        record-opens i own slot 0 (length ms) q refl (g .named, own-members τ (g .members)) refl
+        (λ w. step p tt (ap (λ (d : Class). opens (anObject d) (length ms)) (class-same τ s table name of (w .agrees) (n .text) theSystem ms (g .members)))
         (open-more (suc (orderOf table row)) (orderOf table (suc row)) (fill 1 os) (order-next w refl) (length-typed ms))
         (known-class w i (typesOf ms) c refl refl refl (a .fresh) (system-from g w) (slots-same name ms)))
         (λ w. k (row-codes w c (typesOf ms) (system-from g w) (slots-same name ms)))
 
-    library-class-ok : {i l : ℕ} {n : Prefixed} {ms : List (Member Prefixed ℕ)} → ClassId i es → ClassInfo es n ms → LibraryId l es
+    library-class-ok : {i l : ℕ} {n : Prefixed} {ms : List (Member Prefixed ℕ)} → ClassId i es → ClassInfo τ es n ms → LibraryId l es
         → it ≡ rowOf 5 at (libraryClass i n ms l) i own slot 0 (length ms)
-        → (Codes s table (suc row) 0 (typesOf ms)
+        → (Codes τ s table (suc row) 0 (typesOf ms)
         → Ok (close (opened (orderOf table (suc row)) 0 (length (typesOf ms)) ∷ fill 1 os)) (at + size (libraryClass i n ms l)) (suc row)
         (es ++ (aClass i (suc row) (typesOf ms) ∷ [])) rs is)
         → Ok os at row es (libraryClass i n ms l ∷ rs) (it ∷ is)
     unfolding encs
     library-class-ok {i} {l} {n} {ms} a g b q k =
         let c = classOfAll name (n .text) (theLibrary (name l)) ms in
-        record-opens i own slot 0 (length ms) q refl (g .named, own-members (g .members), positive-bits l (b .sign)) refl
+        record-opens i own slot 0 (length ms) q refl (g .named, own-members τ (g .members), positive-bits l (b .sign)) refl
         (λ w. step p tt (ap (λ (d : Class). opens (anObject d) (length ms)) (library-same (w .agrees) g b))
         (open-more (suc (orderOf table row)) (orderOf table (suc row)) (fill 1 os) (order-next w refl) (length-typed ms))
         (known-class w i (typesOf ms) c refl refl refl (a .fresh) (library-from g b w) (slots-same name ms)))
         (λ w. k (row-codes w c (typesOf ms) (library-from g b w) (slots-same name ms)))
 
     class-by-id-ok : {i j r : ℕ} {ts : List SlotType} → classOf j es ≡ classed r ts → it ≡ rowOf 1 at (classById i j) i own slot r (length ts)
-        → (Codes s table (suc row) 0 ts
+        → (Codes τ s table (suc row) 0 ts
         → Ok (close (opened (orderOf table (suc row)) 0 (length ts) ∷ fill 1 os)) (at + size (classById i j)) (suc row) (es ++ (another i ∷ [])) rs is)
         → Ok os at row es (classById i j ∷ rs) (it ∷ is)
     unfolding linkOf
@@ -314,7 +315,7 @@ module _ (s : List ℕ) (raw : List Row) (name : ℕ → List ℕ) (of : ℕ →
   -- ---- arrays
 
   module _ {at row : ℕ} {es : List Entry} {rs : List Rec} {it : Row} {is : List Row} where
-    array-ok : {kind i n : ℕ} {r : Rec} {ts : List SlotType} → Array es r kind i n ts → it ≡ rowOf kind at r i 0 0 0 n
+    array-ok : {kind i n : ℕ} {r : Rec} {ts : List SlotType} → Array τ es r kind i n ts → it ≡ rowOf kind at r i 0 0 0 n
         → Ok (close (opened (orderOf table (suc row)) 0 (length ts) ∷ [])) (at + size r) (suc row) (es ++ (another i ∷ [])) rs is → Ok [] at row es (r ∷ rs) (it ∷ is)
     array-ok {i = i} {n = n} (of-objects h) q k =
         let l : n ≡ length (replicate n S.Object) = rw length-replicate in
@@ -330,11 +331,11 @@ module _ (s : List ℕ) (raw : List Row) (name : ℕ → List ℕ) (of : ℕ →
         record-ok i 0 0 0 n q refl g refl (λ w. step top-stands tt refl refl (known-another w i refl refl refl)) k
     array-ok {i = i} {n = n} {ts = ts} (of-any {type = type} {ns = ns} {d = d} g e h f z) q k =
         let l : itemSlots ns d ≡ length ts = rw (f, z, length-replicate) (sym e) in
-        record-ok i 0 0 0 n q e (g, own-detail es d h, no-items d (product ns) f) refl
-        (λ w. step top-stands tt (ap (λ (x : Detail (List ℕ) (List ℕ)). opens (anArray type ns x []) (itemSlots ns d)) (detail-same s table name of (w .agrees) d h))
+        record-ok i 0 0 0 n q e (g, own-detail τ es d h, no-items τ d (product ns) f) refl
+        (λ w. step top-stands tt (ap (λ (x : Detail (List ℕ) (List ℕ)). opens (anArray type ns x []) (itemSlots ns d)) (detail-same τ s table name of (w .agrees) d h))
         (open-more (suc (orderOf table row)) (orderOf table (suc row)) [] (order-next w refl) l) (known-another w i refl refl refl)) k
     array-ok {i = i} {n = n} (of-values {b = b} {vs = vs} g e h) q k =
-        record-ok i 0 0 0 n q e (g, tt, subst (λ (m : ℕ). Values b m vs) e h) refl (λ w. step top-stands tt refl refl (known-another w i refl refl refl)) k
+        record-ok i 0 0 0 n q e (g, tt, subst (λ (m : ℕ). Values τ b m vs) e h) refl (λ w. step top-stands tt refl refl (known-another w i refl refl refl)) k
 
   -- ---- along a derivation
 
@@ -353,17 +354,17 @@ module _ (s : List ℕ) (raw : List Row) (name : ℕ → List ℕ) (of : ℕ →
         subst (λ (j : ℕ). Ok (close (opened o (n + k) j ∷ os)) at row es rs is) z h
 
   mutual
-    object-ok : {room own slot : ℕ} {c c₁ : Cur} (os : List Open) → Object room own slot c c₁ → Stands os own slot → OkIn (close (fill 1 os)) c₁ → OkIn os c
+    object-ok : {room own slot : ℕ} {c c₁ : Cur} (os : List Open) → Object τ room own slot c c₁ → Stands os own slot → OkIn (close (fill 1 os)) c₁ → OkIn os c
     object-ok os (system-class a b q d) p k = system-class-ok p a b q (λ g. body-ok (fill 1 os) d g k)
     object-ok os (library-class a b l q d) p k = library-class-ok p a b l q (λ g. body-ok (fill 1 os) d g k)
     object-ok os (class-by-id a b f q d) p k = class-by-id-ok p f q (λ g. body-ok (fill 1 os) d g k)
 
-    body-ok : {room row : ℕ} {ts : List SlotType} {c c₁ : Cur} (os : List Open) → Body room row ts c c₁ → Codes s table row 0 ts → OkIn (close os) c₁
+    body-ok : {room row : ℕ} {ts : List SlotType} {c c₁ : Cur} (os : List Open) → Body τ room row ts c c₁ → Codes τ s table row 0 ts → OkIn (close os) c₁
         → OkIn (close (opened (orderOf table row) 0 (length ts) ∷ os)) c
     body-ok os hollow g k = k
     body-ok os (filled d) g k = slots-ok os d g k
 
-    slots-ok : {room own slot : ℕ} {ts : List SlotType} {c c₁ : Cur} (os : List Open) → Slots room own slot ts c c₁ → Codes s table own slot ts → OkIn (close os) c₁
+    slots-ok : {room own slot : ℕ} {ts : List SlotType} {c c₁ : Cur} (os : List Open) → Slots τ room own slot ts c c₁ → Codes τ s table own slot ts → OkIn (close os) c₁
         → OkIn (close (opened (orderOf table own) slot (length ts) ∷ os)) c
     slots-ok os full g k = k
     slots-ok os (member-value {own = own} {slot = slot} {ts = ts} a q d) g k =
@@ -379,21 +380,21 @@ module _ (s : List ℕ) (raw : List Row) (name : ℕ → List ℕ) (of : ℕ →
     slots-ok os (a-null {own = own} {slot = slot} {ts = ts} e q d) g k =
         null-ok slot-stands q (one-filled (orderOf table own) slot (length ts) os (slots-ok os d (g .1) k))
     slots-ok os (a-run {own = own} {slot = slot} {k = n} {t = t} {ts = ts} {us = us} e a b f u q d) g k =
-        run-ok slot-stands q (some-filled (orderOf table own) slot n (t ∷ ts) us os u (slots-ok os d (run-codes s table own slot n (t ∷ ts) u g) k))
+        run-ok slot-stands q (some-filled (orderOf table own) slot n (t ∷ ts) us os u (slots-ok os d (run-codes τ s table own slot n (t ∷ ts) u g) k))
     slots-ok os (a-long-run {own = own} {slot = slot} {k = n} {t = t} {ts = ts} {us = us} e a b f u q d) g k =
-        long-run-ok slot-stands q (some-filled (orderOf table own) slot n (t ∷ ts) us os u (slots-ok os d (run-codes s table own slot n (t ∷ ts) u g) k))
+        long-run-ok slot-stands q (some-filled (orderOf table own) slot n (t ∷ ts) us os u (slots-ok os d (run-codes τ s table own slot n (t ∷ ts) u g) k))
     slots-ok os (a-library t a b n q d) g k = library-ok b n q (slots-ok os d g k)
 
-  objects-ok : {c : Cur} → Objects c → OkIn [] c
+  objects-ok : {c : Cur} → Objects τ c → OkIn [] c
   objects-ok (the-end q) = end-ok q
   objects-ok (one-object a d) = object-ok [] a top-stands (objects-ok d)
   objects-ok (one-string a b q d) = string-ok top-stands b q (objects-ok d)
-  objects-ok (one-array a b q d f) = array-ok b q (body-ok [] d (array-codes s table _ b) (objects-ok f))
+  objects-ok (one-array a b q d f) = array-ok b q (body-ok [] d (array-codes τ s table _ b) (objects-ok f))
   objects-ok (one-library a b n q d) = library-ok b n q (objects-ok d)
 
 -- ---- the whole stream
 
-module _ (s : List ℕ) (root h : ℕ) (rs : List Rec) (is : List Row) where
+module _ (τ : Terms) (s : List ℕ) (root h : ℕ) (rs : List Rec) (is : List Row) where
   abbrev first : Row
   first = rowOf 0 0 (header root h) root 0 0 0 0
 
@@ -403,12 +404,12 @@ module _ (s : List ℕ) (root h : ℕ) (rs : List Rec) (is : List Row) where
   abbrev whole : List Row
   whole = linked raw
 
-  order-is : Objects (cur 17 1 [] rs is) → (i : ℕ) → orderOf whole (objectRow i raw) ≡ orderBy rs i
+  order-is : Objects τ (cur 17 1 [] rs is) → (i : ℕ) → orderOf whole (objectRow i raw) ≡ orderBy rs i
   unfolding orderBy
-  order-is d i = sym (ap (orderAfter 0 i) (objects-shown d .ids) ∙ order-found raw i)
+  order-is d i = sym (ap (orderAfter 0 i) (objects-shown τ d .ids) ∙ order-found raw i)
 
   -- after the header
-  begins : s ≡ enc (header root h) ++ encs rs → (d : Objects (cur 17 1 [] rs is)) → At s raw (nameBy rs) (classBy rs) (orderBy rs) (order-is d) 17 1 [] rs is
+  begins : s ≡ enc (header root h) ++ encs rs → (d : Objects τ (cur 17 1 [] rs is)) → At τ s raw (nameBy rs) (classBy rs) (orderBy rs) (order-is d) 17 1 [] rs is
   unfolding linked findFrom nameBy classBy
   begins e d =
       record {
@@ -435,14 +436,14 @@ module _ (s : List ℕ) (root h : ℕ) (rs : List Rec) (is : List Row) where
   unfolding says linked linkOf
   root-is = refl
 
-  linked-meant : s ≡ enc (header root h) ++ encs rs → Objects (cur 17 1 [] rs is) → says s whole ≡ meant root rs
+  linked-meant : s ≡ enc (header root h) ++ encs rs → Objects τ (cur 17 1 [] rs is) → says s whole ≡ meant root rs
   unfolding says meant
   linked-meant e d =
       let ns = walk (nameBy rs) (classBy rs) (orderBy rs) 0 [] rs in
       let a : says s whole .root ≡ orderBy rs root = root-is ∙ order-is d root in
       let b : nodesFrom s whole whole ≡ ns =
       first-says
-      ∙ (objects-ok s raw (nameBy rs) (classBy rs) (orderBy rs) (order-is d) d .leads (begins e d)
+      ∙ (objects-ok τ s raw (nameBy rs) (classBy rs) (orderBy rs) (order-is d) d .leads (begins e d)
       ∙ ap (λ (n : ℕ). walk (nameBy rs) (classBy rs) (orderBy rs) n [] rs) none-before) in
       ap (λ (k : ℕ). model k (nodesFrom s whole whole)) a ∙ ap (λ (l : List Node). model (orderBy rs root) l) b
     where
@@ -450,5 +451,5 @@ module _ (s : List ℕ) (root h : ℕ) (rs : List Rec) (is : List Row) where
       model k l = record { root = k; nodes = l }
 
 -- what a stream says, by its rows, is what the records of its reading mean
-pub says-meant : {s : List ℕ} {rows : List Row} (w : Reading s rows) → says s rows ≡ meantBy w
-says-meant {s} w = ap (says s) (rows-are w) ∙ linked-meant s (w .root) (w .header-id) (w .rs) (w .is) (w .bytes-are) (w .objects-are)
+pub says-meant : (τ : Terms) {s : List ℕ} {rows : List Row} (w : Reading τ s rows) → says s rows ≡ meantBy w
+says-meant τ {s} w = ap (says s) (rows-are τ w) ∙ linked-meant τ s (w .root) (w .header-id) (w .rs) (w .is) (w .bytes-are) (w .objects-are)

@@ -5,10 +5,10 @@ use mathlib.Core.List.{List}
 use lib.ListN.{getD}
 use lib.Dec.{ltb, leb, eqb}
 use Rattle.format.specs.declared.Row.{Row}
+use Rattle.format.specs.declared.Span.{Span}
 use Rattle.format.specs.Bytes.{pick}
 use Rattle.format.specs.Rows.{roomOf}
-use Rattle.peeking.specs.declared.Span.{Span}
-use Rattle.peeking.specs.Peeking.{onward, byteAt, fourAt, spanAt, afterString}
+use Rattle.peeking.specs.Peeking.{onward, byteAt, fourAt, stringSpan, afterString}
 
 -- ---- rows
 
@@ -68,7 +68,7 @@ afterStrings zero s at = at
 afterStrings (suc n) s at = afterStrings n s (afterString s at)
 
 unfoldable pub memberName : List ℕ → Row → ℕ → Span
-memberName s r k = spanAt s (afterStrings k s (namesAt s r))
+memberName s r k = stringSpan s (afterStrings k s (namesAt s r))
 
 -- the place after the detail of a type
 unfoldable pub afterDetail : List ℕ → ℕ → ℕ → ℕ
@@ -97,4 +97,4 @@ unfoldable pub libraryOf : List ℕ → Row → ℕ
 libraryOf s r = pick (ltb (r .end) 4) 0 (fourAt s (r .end - 4))
 
 unfoldable pub className : List ℕ → Row → Span
-className s r = spanAt s (onward s (r .offset) 5)
+className s r = stringSpan s (onward s (r .offset) 5)

@@ -2,7 +2,7 @@
 // the stream where the class's row points. Every stream, table and row is taken; a row that is not there has words of 0.
 use format::Reader;
 use format::Row;
-use peeking::Span;
+use format::Span;
 use peeking::on;
 ghost use mathlib.Core.Path.{_≡_};
 ghost use Rattle.members.specs.Members.{wordOf, rowIn, namedRow, depthOf, slotsFilled, lastOf, hasMembers, fieldsRow, namesAt};

@@ -1,5 +1,5 @@
 // Writes what a row is in the tidy copy: strings, primitive values and arrays of them with new prefixes and records that are kept here, classes by the
-// crate `writing`, kind 7 by `arrays_out`; and the choice by kind.
+// crate `writing`, kind 7 by `arrays_out`; and the choice by kind. `anew` is the code whose values are written anew.
 use format::ObjectNo;
 use format::Row;
 ghost use Prim.Native.Nat.{_+_, _-_, _≤_, _<_};
@@ -30,11 +30,11 @@ fn put_string(out: &mut [u8], s: &[u8], r: Row) -> usize
 }
 
 // MemberPrimitiveTyped (2.5.1): kind and code are kept, then the value.
-fn put_typed(out: &mut [u8], s: &[u8], r: Row) -> usize
-    ensures { λ q. ⌜ Filled (typedOut (now (s .entry)) r) (now (out .entry)) (now (out .exit)) q ⌝ }
+fn put_typed(out: &mut [u8], s: &[u8], r: Row, anew: u32) -> usize
+    ensures { λ q. ⌜ Filled (typedOut anew (now (s .entry)) r) (now (out .entry)) (now (out .exit)) q ⌝ }
 {
     let at = r.offset as usize;
-    let prefixed = codes::byte_at(s, at + 1) == 5;
+    let prefixed = (codes::byte_at(s, at + 1) as u32) == anew;
     let a = put::put_part(out, s, at, at + 2);
     let from = put::least(a, out.len());
     let b = values_out::put_value(&mut out[from..], s, prefixed, at + 2, r.end as usize);
@@ -42,11 +42,11 @@ fn put_typed(out: &mut [u8], s: &[u8], r: Row) -> usize
 }
 
 // An array of primitive values after its ObjectId: length and code are kept, then the items.
-fn put_primitive_items(out: &mut [u8], s: &[u8], r: Row) -> usize
-    ensures { λ q. ⌜ Filled (primitiveItemsOut (now (s .entry)) r) (now (out .entry)) (now (out .exit)) q ⌝ }
+fn put_primitive_items(out: &mut [u8], s: &[u8], r: Row, anew: u32) -> usize
+    ensures { λ q. ⌜ Filled (primitiveItemsOut anew (now (s .entry)) r) (now (out .entry)) (now (out .exit)) q ⌝ }
 {
     let at = r.offset as usize;
-    let prefixed = codes::byte_at(s, at + 9) == 5;
+    let prefixed = (codes::byte_at(s, at + 9) as u32) == anew;
     let a = put::put_part(out, s, at + 5, at + 10);
     let from = put::least(a, out.len());
     let b = values_out::put_values(
@@ -61,26 +61,34 @@ fn put_primitive_items(out: &mut [u8], s: &[u8], r: Row) -> usize
 }
 
 // ArraySinglePrimitive (2.4.3.3).
-fn put_primitives(out: &mut [u8], s: &[u8], r: Row) -> usize
-    ensures { λ q. ⌜ Filled (primitivesOut (now (s .entry)) r) (now (out .entry)) (now (out .exit)) q ⌝ }
+fn put_primitives(out: &mut [u8], s: &[u8], r: Row, anew: u32) -> usize
+    ensures { λ q. ⌜ Filled (primitivesOut anew (now (s .entry)) r) (now (out .entry)) (now (out .exit)) q ⌝ }
 {
     let a = heads::put_object_head(out, 15, ObjectNo(r.id));
     let from = put::least(a, out.len());
-    let b = put_primitive_items(&mut out[from..], s, r);
+    let b = put_primitive_items(&mut out[from..], s, r, anew);
     put::add_up(a, b)
 }
 
 // A member value (MemberPrimitiveUnTyped, 2.5.2). The link of its row is the number of its code.
-fn put_member(out: &mut [u8], s: &[u8], r: Row) -> usize
-    ensures { λ q. ⌜ Filled (memberOut (now (s .entry)) r) (now (out .entry)) (now (out .exit)) q ⌝ }
+fn put_member(out: &mut [u8], s: &[u8], r: Row, anew: u32) -> usize
+    ensures { λ q. ⌜ Filled (memberOut anew (now (s .entry)) r) (now (out .entry)) (now (out .exit)) q ⌝ }
 {
-    values_out::put_value(out, s, r.link == 5, r.offset as usize, r.end as usize)
+    values_out::put_value(out, s, r.link == anew, r.offset as usize, r.end as usize)
 }
 
 // Row i, which is r. Libraries and nulls are written with other rows. MessageEnd (2.6.3) keeps its byte.
-pub fn put_record(out: &mut [u8], s: &[u8], table: &[u32], n: usize, i: usize, r: Row) -> usize
+pub fn put_record(
+    out: &mut [u8],
+    s: &[u8],
+    table: &[u32],
+    n: usize,
+    i: usize,
+    r: Row,
+    anew: u32,
+) -> usize
     requires { ⌜ (n ≤ roomOf (now table)) × (n < 4294967296) × (i < 4294967296) ⌝ }
-    ensures { λ q. ⌜ Filled (recordOut (now (s .entry)) (rowsOf n (now (table .entry))) i r) (now (out .entry)) (now (out .exit)) q ⌝ }
+    ensures { λ q. ⌜ Filled (recordOut anew (now (s .entry)) (rowsOf n (now (table .entry))) i r) (now (out .entry)) (now (out .exit)) q ⌝ }
 {
     let kind = r.kind;
     match kind {
@@ -96,8 +104,8 @@ pub fn put_record(out: &mut [u8], s: &[u8], table: &[u32], n: usize, i: usize, r
         4 => writing::put_object(out, s, table, n, i, r),
         5 => writing::put_object(out, s, table, n, i, r),
         6 => put_string(out, s, r),
-        7 => arrays_out::put_array(out, s, table, n, r),
-        8 => put_typed(out, s, r),
+        7 => arrays_out::put_array(out, s, table, n, r, anew),
+        8 => put_typed(out, s, r, anew),
         9 => {
             let t = marks::row_named(table, n, r.link);
             heads::put_reference(out, ObjectNo(t.id))
@@ -106,10 +114,10 @@ pub fn put_record(out: &mut [u8], s: &[u8], table: &[u32], n: usize, i: usize, r
         12 => 0,
         13 => 0,
         14 => 0,
-        15 => put_primitives(out, s, r),
+        15 => put_primitives(out, s, r, anew),
         16 => put_kept(out, s, r),
         17 => put_kept(out, s, r),
-        32 => put_member(out, s, r),
+        32 => put_member(out, s, r, anew),
         _ => put::put_part(out, s, r.offset as usize, r.end as usize),
     }
 }

@@ -7,6 +7,7 @@ use native.Mathlib.Omega.{arith}
 use lib.ListN.{length, getD}
 use lib.Dec.{eqb}
 use borrow.Author.Tests.{eqb-true, eqb-false}
+use Rattle.format.specs.Terms.{Terms}
 use Rattle.format.specs.declared.Row.{Row}
 use Rattle.format.specs.Rows.{blank, linkOf}
 use Rattle.format.specs.Records.{plain}
@@ -51,13 +52,13 @@ module _ (s : List ℕ) (rows : List Row) (r : Row) (one : r .kind ≡ 10 → r 
 
 -- ---- the rows of a list that is taken
 
-null-counts : {s : List ℕ} {before : List Row} {r : Row} → Stood s before r → r .kind ≡ 10 → r .count ≡ 1
-null-counts {s} {before} {r} w k =
-    row-said (as-record w (λ x. omega arith)) (λ n end. n ≡ 1) (plain 0 (r .offset + 1) 1) (null-heading s before (r .kind) (r .offset) k) refl
+null-counts : (τ : Terms) {s : List ℕ} {before : List Row} {r : Row} → Stood τ s before r → r .kind ≡ 10 → r .count ≡ 1
+null-counts τ {s} {before} {r} w k =
+    row-said τ (as-record τ w (λ x. omega arith)) (λ n end. n ≡ 1) (plain 0 (r .offset + 1) 1) (null-heading τ s before (r .kind) (r .offset) k) refl
 
-one-null : (s : List ℕ) (room : ℕ) (rows : List Row) → Taken s room rows → (i : ℕ) → i < length rows → getD rows i blank .kind ≡ 10
+one-null : (τ : Terms) (s : List ℕ) (room : ℕ) (rows : List Row) → Taken τ s room rows → (i : ℕ) → i < length rows → getD rows i blank .kind ≡ 10
     → getD rows i blank .count ≡ 1
-one-null s room rows w i h k =
+one-null τ s room rows w i h k =
     let raw = w .raw in
     let f = linkOf raw in
     let e : rows ≡ relinked f raw = w .same ∙ linked-is raw in
@@ -65,8 +66,8 @@ one-null s room rows w i h k =
     let n = ap length (w .same) in
     ap (λ (rows : List Row). getD rows i blank .count) e
     ∙ (same-count f raw i
-    ∙ null-counts (w .stands .each i (omega arith)) (sym (same-kind f raw i) ∙ (sym (ap (λ (rows : List Row). getD rows i blank .kind) e) ∙ k)))
+    ∙ null-counts τ (w .stands .each i (omega arith)) (sym (same-kind f raw i) ∙ (sym (ap (λ (rows : List Row). getD rows i blank .kind) e) ∙ k)))
 
-pub filled-found : (s : List ℕ) (room : ℕ) (rows : List Row) → readOf s room ≡ accepted rows → (i : ℕ) → i < length rows
+pub filled-found : (τ : Terms) (s : List ℕ) (room : ℕ) (rows : List Row) → readOf τ s room ≡ accepted rows → (i : ℕ) → i < length rows
     → isSilent (getD rows i blank .kind) ≡ false → length (nodesOf s rows (getD rows i blank)) ≡ slotsFilled (getD rows i blank)
-filled-found s room rows a i h e = row-filled s rows (getD rows i blank) (one-null s room rows (accepted-stands s room rows a) i h) e
+filled-found τ s room rows a i h e = row-filled s rows (getD rows i blank) (one-null τ s room rows (accepted-stands τ s room rows a) i h) e

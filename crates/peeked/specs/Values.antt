@@ -1,20 +1,21 @@
--- Where the format reads a value in a stream within its limit, programs for people find the same place after it.
-use Prim.Native.Nat.{ℕ, _+_, _≤_, _<_}
+-- Where the format reads a value, in strict or lenient, programs for people find the same place after it.
+use Prim.Native.Nat.{ℕ, _+_, _≤_}
 use mathlib.Core.Path.{_≡_, refl, sym, ap, _∙_}
 use mathlib.Core.List.{List}
 use native.Mathlib.Omega.{arith}
 use lib.ListN.{length, getD}
 use lib.Dec.{ltb, leb, eqb}
 use borrow.Author.Tests.{ltb-true, leb-true, eqb-false}
+use Rattle.format.specs.declared.Setting.{Setting}
 use Rattle.format.specs.declared.Refusal.the-variants as R
 use Rattle.format.specs.declared.PrimitiveCode.{PrimitiveCode}
 use Rattle.format.specs.declared.PrimitiveCode.the-variants as C
-use Rattle.format.specs.declared.Setting.the-variants as Q
 use Rattle.format.specs.declared.Prefix.{Prefix}
 use Rattle.format.specs.declared.Prefix.the-variants as P
 use Rattle.format.specs.declared.Number64.{Number64}
 use Rattle.format.specs.declared.Number64.the-variants as N64
 use Rattle.format.specs.declared.Field.the-variants as F
+use Rattle.format.specs.declared.Span.{Span}
 use Rattle.format.specs.Bytes.{pick}
 use Rattle.format.specs.Numbers.{u64At}
 use Rattle.format.specs.Prefix.{prefixAt}
@@ -23,7 +24,6 @@ use Rattle.format.specs.Types.{codeNumber}
 use Rattle.format.specs.Values.{bytesAt, booleanAt, scalarAt, charAt, decimal, decimalText, decimalFrom, decimalAt, dateTime, dateTimeOf, dateTimeAt, valueAt}
 use Rattle.fields.specs.Judged.{picked, told, other, no-end, judgedAt, judged-taken}
 use Rattle.num.specs.Read.{u64-says}
-use Rattle.peeking.specs.declared.Span.{Span}
 use Rattle.peeking.specs.Peeking.{onward, byteAt, afterString, charSize, fixedSize, afterValue}
 use Rattle.peeking.specs.Laws.{onward-in}
 use Rattle.peeked.specs.Strings.{prefix-found}
@@ -88,35 +88,35 @@ char-on s p e q =
 
 -- ---- Decimal
 
-decimal-told : (s : List ℕ) (p e : ℕ) (r : Prefix) → length s < 268435456 → prefixAt Q.Strict s p ≡ r → decimalFrom s r ≡ F.End e → afterString s p ≡ e
+decimal-told : (σ : Setting) (s : List ℕ) (p e : ℕ) (r : Prefix) → prefixAt σ s p ≡ r → decimalFrom s r ≡ F.End e → afterString s p ≡ e
 unfolding decimalText judgedAt afterString
-decimal-told s p e (P.Length n next) h u q =
+decimal-told σ s p e (P.Length n next) u q =
     let t = judged-taken decimal R.BadValue s next n e q in
     let ends : e ≡ next + n = t .ends in
     let room : next + n ≤ length s = t .room in
-    ap (λ (x : Span). x .to) (prefix-found s p n next (omega arith) room u) ∙ sym ends
-decimal-told s p e (P.Fault f) h u q = absurd (no-end f e q)
+    ap (λ (x : Span). x .to) (prefix-found σ s p n next room u) ∙ sym ends
+decimal-told σ s p e (P.Fault f) u q = absurd (no-end f e q)
 
-decimal-on : (s : List ℕ) (p e : ℕ) → length s < 268435456 → decimalAt s p ≡ F.End e → afterString s p ≡ e
+decimal-on : (σ : Setting) (s : List ℕ) (p e : ℕ) → decimalAt σ s p ≡ F.End e → afterString s p ≡ e
 unfolding decimalAt
-decimal-on s p e h q = decimal-told s p e (prefixAt Q.Strict s p) h refl q
+decimal-on σ s p e q = decimal-told σ s p e (prefixAt σ s p) refl q
 
 -- ---- a value by its code
 
-pub value-found : (s : List ℕ) (code : PrimitiveCode) (p e : ℕ) → length s < 268435456 → valueAt s code p ≡ F.End e → afterValue s p (codeNumber code) ≡ e
+pub value-found : (σ : Setting) (s : List ℕ) (code : PrimitiveCode) (p e : ℕ) → valueAt σ s code p ≡ F.End e → afterValue s p (codeNumber code) ≡ e
 unfolding valueAt afterValue fixedSize
-value-found s C.Boolean p e h q = boolean-on s p e q
-value-found s C.Byte p e h q = bytes-on s p 1 e q
-value-found s C.Char p e h q = char-on s p e q
-value-found s C.Decimal p e h q = decimal-on s p e h q
-value-found s C.Double p e h q = bytes-on s p 8 e q
-value-found s C.Int16 p e h q = bytes-on s p 2 e q
-value-found s C.Int32 p e h q = bytes-on s p 4 e q
-value-found s C.Int64 p e h q = bytes-on s p 8 e q
-value-found s C.SByte p e h q = bytes-on s p 1 e q
-value-found s C.Single p e h q = bytes-on s p 4 e q
-value-found s C.TimeSpan p e h q = bytes-on s p 8 e q
-value-found s C.DateTime p e h q = date-on s p e q
-value-found s C.UInt16 p e h q = bytes-on s p 2 e q
-value-found s C.UInt32 p e h q = bytes-on s p 4 e q
-value-found s C.UInt64 p e h q = bytes-on s p 8 e q
+value-found σ s C.Boolean p e q = boolean-on s p e q
+value-found σ s C.Byte p e q = bytes-on s p 1 e q
+value-found σ s C.Char p e q = char-on s p e q
+value-found σ s C.Decimal p e q = decimal-on σ s p e q
+value-found σ s C.Double p e q = bytes-on s p 8 e q
+value-found σ s C.Int16 p e q = bytes-on s p 2 e q
+value-found σ s C.Int32 p e q = bytes-on s p 4 e q
+value-found σ s C.Int64 p e q = bytes-on s p 8 e q
+value-found σ s C.SByte p e q = bytes-on s p 1 e q
+value-found σ s C.Single p e q = bytes-on s p 4 e q
+value-found σ s C.TimeSpan p e q = bytes-on s p 8 e q
+value-found σ s C.DateTime p e q = date-on s p e q
+value-found σ s C.UInt16 p e q = bytes-on s p 2 e q
+value-found σ s C.UInt32 p e q = bytes-on s p 4 e q
+value-found σ s C.UInt64 p e q = bytes-on s p 8 e q

@@ -4,6 +4,7 @@ use mathlib.Core.Path.{_≡_, refl, sym, _∙_}
 use mathlib.Core.Bool.{Bool, true, false}
 use mathlib.Core.List.{List, [], _∷_}
 use native.Mathlib.Omega.{arith}
+use native.Mathlib.Nat.{add-zero}
 use native.Mathlib.Numerals.{add-one}
 use lib.ListN.{length, getD, drop, length-drop, drop-of-length-le, List·getD-eq-default}
 use lib.Seq.{drop-cons}
@@ -11,8 +12,8 @@ use lib.Dec.{leb}
 use borrow.Author.Needs.{needs}
 use borrow.Author.Tests.{lt-ltb, le-ltb, le-leb, lt-leb, eq-eqb, ne-eqb, leb-true}
 use Rattle.format.specs.Bytes.{pick}
-use Rattle.peeking.specs.declared.Span.{Span}
-use Rattle.peeking.specs.Peeking.{onward, byteAt, groupsSay, spanFrom, spanBy, spanAt, afterString, isPlain, hiddenBy, hiddenAt, plainCount, plainEnd, charSize, fixedSize, afterValue}
+use Rattle.format.specs.Text.{spanAt}
+use Rattle.peeking.specs.Peeking.{onward, byteAt, stringSpan, afterString, isPlain, hiddenBy, hiddenAt, plainCount, plainEnd, charSize, fixedSize, afterValue}
 
 -- closes a return whose definition picks its case by tests
 pub ruleset auto = (needs, lt-ltb, le-ltb, le-leb, lt-leb, eq-eqb, ne-eqb)
@@ -49,25 +50,10 @@ byte-past s at h = sym (List·getD-eq-default s 0 {n = at} h)
 
 -- ---- the texts of strings
 
-module _ (s : List ℕ) (at n : ℕ) (r : Span) where
-  pub span-one : (a : ℕ) → r ≡ spanFrom s at 1 n → n ≡ groupsSay a 0 0 0 → a ≡ byteAt s at → a < 128 → r ≡ spanAt s at
-  unfolding spanAt spanBy
-  span-one a e g f h = rw (← f, lt-ltb a 128 h, ← g) e
-
-  pub span-two : (a b : ℕ) → r ≡ spanFrom s at 2 n → n ≡ groupsSay a b 0 0 → a ≡ byteAt s at → b ≡ byteAt s (onward s at 1)
-      → 128 ≤ a → b < 128 → r ≡ spanAt s at
-  unfolding spanAt spanBy
-  span-two a b e g f1 f2 h1 h2 = rw (← f1, ← f2, le-ltb a 128 h1, lt-ltb b 128 h2, ← g) e
-
-  pub span-three : (a b c : ℕ) → r ≡ spanFrom s at 3 n → n ≡ groupsSay a b c 0 → a ≡ byteAt s at → b ≡ byteAt s (onward s at 1)
-      → c ≡ byteAt s (onward s at 2) → 128 ≤ a → 128 ≤ b → c < 128 → r ≡ spanAt s at
-  unfolding spanAt spanBy
-  span-three a b c e g f1 f2 f3 h1 h2 h3 = rw (← f1, ← f2, ← f3, le-ltb a 128 h1, le-ltb b 128 h2, lt-ltb c 128 h3, ← g) e
-
-  pub span-four : (a b c d : ℕ) → r ≡ spanFrom s at 4 n → n ≡ groupsSay a b c d → a ≡ byteAt s at → b ≡ byteAt s (onward s at 1)
-      → c ≡ byteAt s (onward s at 2) → d ≡ byteAt s (onward s at 3) → 128 ≤ a → 128 ≤ b → 128 ≤ c → r ≡ spanAt s at
-  unfolding spanAt spanBy
-  span-four a b c d e g f1 f2 f3 f4 h1 h2 h3 = rw (← f1, ← f2, ← f3, ← f4, le-ltb a 128 h1, le-ltb b 128 h2, le-ltb c 128 h3, ← g) e
+-- at a place of the stream, what was judged before is found
+pub span-in : (s : List ℕ) (at : ℕ) → at ≤ length s → spanAt s at ≡ stringSpan s at
+unfolding stringSpan
+span-in s at h = rw (← onward-in s at 0 (omega arith), add-zero)
 
 -- ---- plain bytes
 

@@ -1,12 +1,13 @@
 -- What stands at a place of a stream: every place is taken, and past the end stand zeros and empty texts. Of a stream whose fields are good it
 -- is what the format's own definitions find there.
-use Prim.Native.Nat.{ℕ, suc, _+_, _*_, _%_}
+use Prim.Native.Nat.{ℕ, suc, _+_, _*_}
 use mathlib.Core.Bool.{Bool, true, false, _||_}
 use mathlib.Core.List.{List, [], _∷_}
 use lib.ListN.{length, getD, drop}
 use lib.Dec.{ltb, leb, eqb}
+use Rattle.format.specs.declared.Span.{Span}
 use Rattle.format.specs.Bytes.{pick}
-use Rattle.peeking.specs.declared.Span.{Span}
+use Rattle.format.specs.Text.{spanAt}
 
 -- the place n bytes on, never past the end
 unfoldable pub onward : List ℕ → ℕ → ℕ → ℕ
@@ -32,27 +33,12 @@ eightAt s at = fourAt s at + 4294967296 * fourAt s (onward s at 4)
 
 -- ---- the texts of strings
 
--- what the bytes of a prefix say: seven bits a byte, the low group first
-abbrev pub groupsSay : ℕ → ℕ → ℕ → ℕ → ℕ
-groupsSay a b c d = a % 128 + 128 * (b % 128) + 16384 * (c % 128) + 2097152 * (d % 128)
-
--- n bytes after a prefix of k bytes
-unfoldable pub spanFrom : List ℕ → ℕ → ℕ → ℕ → Span
-spanFrom s at k n = record { from = onward s at k; to = onward s (onward s at k) n }
-
--- the text of a string whose prefix begins with these four bytes, and ends at the first below 128
-unfoldable pub spanBy : List ℕ → ℕ → ℕ → ℕ → ℕ → ℕ → Span
-spanBy s at a b c d =
-    pick (ltb a 128) (spanFrom s at 1 (groupsSay a 0 0 0))
-    (pick (ltb b 128) (spanFrom s at 2 (groupsSay a b 0 0))
-    (pick (ltb c 128) (spanFrom s at 3 (groupsSay a b c 0)) (spanFrom s at 4 (groupsSay a b c d))))
-
--- the text of a string
-unfoldable pub spanAt : List ℕ → ℕ → Span
-spanAt s at = spanBy s at (byteAt s at) (byteAt s (onward s at 1)) (byteAt s (onward s at 2)) (byteAt s (onward s at 3))
+-- the text of a string, whatever form its prefix has; an empty text where it is not all there
+unfoldable pub stringSpan : List ℕ → ℕ → Span
+stringSpan s at = spanAt s (onward s at 0)
 
 unfoldable pub afterString : List ℕ → ℕ → ℕ
-afterString s at = spanAt s at .to
+afterString s at = stringSpan s at .to
 
 -- no control character and no backslash
 unfoldable pub isPlain : ℕ → Bool

@@ -1,8 +1,9 @@
 // What stands at a place of a stream, for programs that show lists: bytes, numbers, the texts of strings, where lengths and values end. Every stream
 // and every place is taken; past the end stand zeros and empty texts.
-ghost use Prim.Native.Nat.{_+_, _-_, _*_, _%_};
+use format::Span;
+ghost use Prim.Native.Nat.{_+_, _-_, _*_};
 ghost use mathlib.Core.Path.{_≡_};
-ghost use Rattle.peeking.specs.Peeking.{onward, byteAt, twoAt, fourAt, eightAt, groupsSay, spanFrom, spanAt, afterString};
+ghost use Rattle.peeking.specs.Peeking.{onward, byteAt, twoAt, fourAt, eightAt, stringSpan, afterString};
 ghost use Rattle.peeking.specs.Peeking.{afterLengths, charSize, fixedSize, afterValue, isPlain, hiddenBy, hiddenAt, plainEnd};
 
 // ---- places
@@ -89,54 +90,11 @@ pub fn u64_at(s: &[u8], at: usize) -> u64
 
 // ---- the texts of strings
 
-// Where a text begins and ends.
-pub struct Span {
-    pub from: usize,
-    pub to: usize,
-}
-
-// The low seven bits.
-fn group(b: u8) -> usize
-    ensures { λ r. ⌜ r ≡ b % 128 ⌝ }
-{
-    (b % 128) as usize
-}
-
-// What the bytes of a prefix say, the low group first; a byte that is not there is 0.
-fn groups(a: u8, b: u8, c: u8, d: u8) -> usize
-    ensures { λ r. ⌜ r ≡ groupsSay a b c d ⌝ }
-{
-    group(a) + 128 * group(b) + 16384 * group(c) + 2097152 * group(d)
-}
-
-// The text after a prefix of so many bytes.
-fn text_after(s: &[u8], at: usize, prefix: usize, n: usize) -> Span
-    ensures { λ r. ⌜ r ≡ spanFrom (now (s .entry)) at prefix n ⌝ }
-{
-    let from = on(s, at, prefix);
-    Span {
-        from: from,
-        to: on(s, from, n),
-    }
-}
-
-// The text of a prefixed string. No text of a stream within its limit has a prefix of five bytes.
+// Where the text of a prefixed string begins and ends, whatever form its prefix has; an empty text where it is not all there.
 pub fn string_at(s: &[u8], at: usize) -> Span
-    ensures { λ r. ⌜ r ≡ spanAt (now (s .entry)) at ⌝ }
+    ensures { λ r. ⌜ r ≡ stringSpan (now (s .entry)) at ⌝ }
 {
-    let a = byte_at(s, at);
-    if a < 128 {
-        return text_after(s, at, 1, groups(a, 0, 0, 0));
-    }
-    let b = byte_at(s, on(s, at, 1));
-    if b < 128 {
-        return text_after(s, at, 2, groups(a, b, 0, 0));
-    }
-    let c = byte_at(s, on(s, at, 2));
-    if c < 128 {
-        return text_after(s, at, 3, groups(a, b, c, 0));
-    }
-    text_after(s, at, 4, groups(a, b, c, byte_at(s, on(s, at, 3))))
+    spans::span_at(s, on(s, at, 0))
 }
 
 // The place after a prefixed string.

@@ -5,6 +5,8 @@ use mathlib.Core.Bool.{Bool, true, false, _||_, _&&_}
 use mathlib.Core.List.{List, [], _∷_, _++_}
 use lib.ListN.{getD}
 use lib.Dec.{eqb}
+use Rattle.format.specs.declared.Setting.{Setting}
+use Rattle.format.specs.declared.Setting.the-variants as Q
 use Rattle.format.specs.declared.Row.{Row}
 use Rattle.format.specs.Bytes.{pick}
 use Rattle.format.specs.Numbers.{leBytes}
@@ -84,7 +86,13 @@ objectOut s rs i r =
 
 -- ---- values
 
--- a primitive value from p to e: a Decimal is a text, any other is kept
+-- Values of one code, δ, are written anew, with the shortest prefix of their text; all others are kept. In lenient that is the code of Decimals; in strict
+-- a Decimal has the shortest prefix already and is kept too, and 0 is the number of no code.
+abbrev pub anewIn : Setting → ℕ
+anewIn Q.Strict = 0
+anewIn Q.Lenient = 5
+
+-- a primitive value from p to e: written anew it is a text, else it is kept
 abbrev pub valueOut : List ℕ → Bool → ℕ → ℕ → List ℕ
 valueOut s prefixed p e = pick prefixed (textOut s p) (between s p e)
 
@@ -93,36 +101,36 @@ abbrev pub valuesOut : List ℕ → Bool → ℕ → ℕ → ℕ → List ℕ
 valuesOut s prefixed n p e = pick prefixed (textsOut s n p) (between s p e)
 
 -- MemberPrimitiveTyped: its kind and its code, then its value
-unfoldable pub typedOut : List ℕ → Row → List ℕ
-typedOut s r = between s (r .offset) (r .offset + 2) ++ valueOut s (eqb (getD s (r .offset + 1) 0) 5) (r .offset + 2) (r .end)
+unfoldable pub typedOut : ℕ → List ℕ → Row → List ℕ
+typedOut δ s r = between s (r .offset) (r .offset + 2) ++ valueOut s (eqb (getD s (r .offset + 1) 0) δ) (r .offset + 2) (r .end)
 
 -- a member value, whose row has the number of its code as link
-abbrev pub memberOut : List ℕ → Row → List ℕ
-memberOut s r = valueOut s (eqb (r .link) 5) (r .offset) (r .end)
+abbrev pub memberOut : ℕ → List ℕ → Row → List ℕ
+memberOut δ s r = valueOut s (eqb (r .link) δ) (r .offset) (r .end)
 
 -- ---- arrays
 
 -- from the item type at p on, its detail ending at e
-unfoldable pub itemsOut : List ℕ → List Row → ℕ → ℕ → Row → List ℕ
-itemsOut s rs p e r =
-    infoOut s rs (getD s p 0) (p + 1) e ++ valuesOut s (eqb (getD s p 0) 0 && eqb (getD s (p + 1) 0) 5) (r .count) e (r .end)
+unfoldable pub itemsOut : ℕ → List ℕ → List Row → ℕ → ℕ → Row → List ℕ
+itemsOut δ s rs p e r =
+    infoOut s rs (getD s p 0) (p + 1) e ++ valuesOut s (eqb (getD s p 0) 0 && eqb (getD s (p + 1) 0) δ) (r .count) e (r .end)
 
-unfoldable pub bodyOut : List ℕ → List Row → ℕ → ℕ → Row → List ℕ
-bodyOut s rs p e r = headOut 7 (r .id) ++ (between s (r .offset + 5) (p + 1) ++ itemsOut s rs p e r)
+unfoldable pub bodyOut : ℕ → List ℕ → List Row → ℕ → ℕ → Row → List ℕ
+bodyOut δ s rs p e r = headOut 7 (r .id) ++ (between s (r .offset + 5) (p + 1) ++ itemsOut δ s rs p e r)
 
-unfoldable pub arrayOut : List ℕ → List Row → Row → List ℕ
-arrayOut s rs r =
+unfoldable pub arrayOut : ℕ → List ℕ → List Row → Row → List ℕ
+arrayOut δ s rs r =
     let p = itemType s r in
     let e = afterInfo s (getD s p 0) (p + 1) in
-    needInfoOut s rs (getD s p 0) e ++ bodyOut s rs p e r
+    needInfoOut s rs (getD s p 0) e ++ bodyOut δ s rs p e r
 
 -- ArraySinglePrimitive: its length and its code are kept, then its items
-unfoldable pub primitiveItemsOut : List ℕ → Row → List ℕ
-primitiveItemsOut s r =
-    between s (r .offset + 5) (r .offset + 10) ++ valuesOut s (eqb (getD s (r .offset + 9) 0) 5) (r .count) (r .offset + 10) (r .end)
+unfoldable pub primitiveItemsOut : ℕ → List ℕ → Row → List ℕ
+primitiveItemsOut δ s r =
+    between s (r .offset + 5) (r .offset + 10) ++ valuesOut s (eqb (getD s (r .offset + 9) 0) δ) (r .count) (r .offset + 10) (r .end)
 
-unfoldable pub primitivesOut : List ℕ → Row → List ℕ
-primitivesOut s r = headOut 15 (r .id) ++ primitiveItemsOut s r
+unfoldable pub primitivesOut : ℕ → List ℕ → Row → List ℕ
+primitivesOut δ s r = headOut 15 (r .id) ++ primitiveItemsOut δ s r
 
 -- ---- a row
 
@@ -134,19 +142,19 @@ unfoldable pub stringOut : List ℕ → Row → List ℕ
 stringOut s r = headOut 6 (r .id) ++ textOut s (r .offset + 5)
 
 -- libraries and nulls are written with other rows; the end record is kept
-unfoldable pub recordOut : List ℕ → List Row → ℕ → Row → List ℕ
-recordOut s rs i r =
+unfoldable pub recordOut : ℕ → List ℕ → List Row → ℕ → Row → List ℕ
+recordOut δ s rs i r =
     pick (eqb (r .kind) 0) (headerOut (rowAt rs (r .link) .id))
     (pick (eqb (r .kind) 1) (byIdOut (r .id) (rowAt rs (rowAt rs (r .link) .link) .id))
     (pick (isClass (r .kind)) (objectOut s rs i r)
     (pick (eqb (r .kind) 6) (stringOut s r)
-    (pick (eqb (r .kind) 7) (arrayOut s rs r)
-    (pick (eqb (r .kind) 8) (typedOut s r)
+    (pick (eqb (r .kind) 7) (arrayOut δ s rs r)
+    (pick (eqb (r .kind) 8) (typedOut δ s r)
     (pick (eqb (r .kind) 9) (headOut 9 (rowAt rs (r .link) .id))
     (pick (isNulls (r .kind) || eqb (r .kind) 12) []
-    (pick (eqb (r .kind) 15) (primitivesOut s r)
+    (pick (eqb (r .kind) 15) (primitivesOut δ s r)
     (pick (eqb (r .kind) 16 || eqb (r .kind) 17) (keptOut s r)
-    (pick (eqb (r .kind) 32) (memberOut s r)
+    (pick (eqb (r .kind) 32) (memberOut δ s r)
     (between s (r .offset) (r .end))))))))))))
 
 -- ---- null runs
@@ -173,13 +181,13 @@ runAfter w r = pick (isPassed r) w (pick (isNulls (r .kind)) (moreOf w r) noneYe
 
 -- ---- the copy
 
-unfoldable pub rowOut : List ℕ → List Row → ℕ → Gathered → Row → List ℕ
-rowOut s rs i w r = beforeOut w r ++ recordOut s rs i r
+unfoldable pub rowOut : ℕ → List ℕ → List Row → ℕ → Gathered → Row → List ℕ
+rowOut δ s rs i w r = beforeOut w r ++ recordOut δ s rs i r
 
 -- the rows from i on, after a run
-unfoldable pub copyFrom : List ℕ → List Row → ℕ → Gathered → List Row → List ℕ
-copyFrom s rs i w [] = runOut (w .count)
-copyFrom s rs i w (r ∷ more) = rowOut s rs i w r ++ copyFrom s rs (i + 1) (runAfter w r) more
+unfoldable pub copyFrom : ℕ → List ℕ → List Row → ℕ → Gathered → List Row → List ℕ
+copyFrom δ s rs i w [] = runOut (w .count)
+copyFrom δ s rs i w (r ∷ more) = rowOut δ s rs i w r ++ copyFrom δ s rs (i + 1) (runAfter w r) more
 
-unfoldable pub copyOf : List ℕ → List Row → List ℕ
-copyOf s rs = copyFrom s rs 0 noneYet rs
+unfoldable pub copyOf : ℕ → List ℕ → List Row → List ℕ
+copyOf δ s rs = copyFrom δ s rs 0 noneYet rs

@@ -136,7 +136,7 @@ module _ (s : List ℕ) (rs : List Row) where
     infos-end = let o : c - i ≡ 0 = omega arith in rw o
 
 -- ---- one clause for each kind of row
-module _ (s : List ℕ) (rs : List Row) (i : ℕ) (r : Row) where
+module _ (δ : ℕ) (s : List ℕ) (rs : List Row) (i : ℕ) (r : Row) where
   -- what is written of a row if its kind is k
   abbrev pub recordAs : ℕ → List ℕ
   recordAs k =
@@ -144,15 +144,15 @@ module _ (s : List ℕ) (rs : List Row) (i : ℕ) (r : Row) where
       (pick (eqb k 1) (byIdOut (r .id) (rowAt rs (rowAt rs (r .link) .link) .id))
       (pick (isClass k) (objectOut s rs i r)
       (pick (eqb k 6) (stringOut s r)
-      (pick (eqb k 7) (arrayOut s rs r)
-      (pick (eqb k 8) (typedOut s r)
+      (pick (eqb k 7) (arrayOut δ s rs r)
+      (pick (eqb k 8) (typedOut δ s r)
       (pick (eqb k 9) (headOut 9 (rowAt rs (r .link) .id))
       (pick (isNulls k || eqb k 12) []
-      (pick (eqb k 15) (primitivesOut s r)
+      (pick (eqb k 15) (primitivesOut δ s r)
       (pick (eqb k 16 || eqb k 17) (keptOut s r)
-      (pick (eqb k 32) (memberOut s r)
+      (pick (eqb k 32) (memberOut δ s r)
       (between s (r .offset) (r .end))))))))))))
 
-  pub record-as : (k : ℕ) → r .kind ≡ k → recordOut s rs i r ≡ recordAs k
+  pub record-as : (k : ℕ) → r .kind ≡ k → recordOut δ s rs i r ≡ recordAs k
   unfolding recordOut
   record-as k e = ap recordAs e

@@ -7,6 +7,7 @@ use mathlib.Core.List.{List, [], _++_}
 use native.Mathlib.Omega.{arith}
 use lib.ListN.{length, getD}
 use lib.Dec.{eqb}
+use Rattle.format.specs.Terms.{Terms}
 use Rattle.format.specs.declared.Refusal.the-variants as R
 use Rattle.format.specs.declared.Field.{Field}
 use Rattle.format.specs.declared.Field.the-variants as F
@@ -83,40 +84,40 @@ same : (r : Field) → onEnd F.End r ≡ r
 same (F.End e) = refl
 same (F.Fault f) = refl
 
-module _ (s : List ℕ) (rows : List Row) (p : ℕ) where
+module _ (τ : Terms) (s : List ℕ) (rows : List Row) (p : ℕ) where
   -- type 4: a name, and then a library that is known
-  class-detail : infoKnown s rows 4 p ≡ onEnd (ownLibraryAt s rows) (nameAt s p)
+  class-detail : infoKnown τ s rows 4 p ≡ onEnd (ownLibraryAt s rows) (nameAt (τ .setting) s p)
   unfolding infoKnown infoAt ownLibraryAt
-  class-detail = go (nameAt s p)
+  class-detail = go (nameAt (τ .setting) s p)
     where
       go : (r : Field) → onEnd (knownLibrary s rows) (onEnd (libraryIdAt s) r) ≡ onEnd (λ m. onEnd (knownLibrary s rows) (libraryIdAt s m)) r
       go (F.End m) = refl
       go (F.Fault f) = refl
 
   module _ (e : ℕ) where
-    pub detail-there : (d : Detail Prefixed ℕ) → GoodDetail (envOf s rows) d → Stand s (infoBytes d) p e → infoKnown s rows (typeByte d) p ≡ F.End e
+    pub detail-there : (d : Detail Prefixed ℕ) → GoodDetail τ (envOf s rows) d → Stand s (infoBytes d) p e → infoKnown τ s rows (typeByte d) p ≡ F.End e
     unfolding infoKnown infoAt
     detail-there (primitive c) g w = same (codeAt s p) ∙ code-there s c p e w
     detail-there text g w = let k = stand-size w in ap F.End (omega arith)
     detail-there object g w = let k = stand-size w in ap F.End (omega arith)
-    detail-there (system n) g w = same (nameAt s p) ∙ name-there s n p e g w
+    detail-there (system n) g w = same (nameAt (τ .setting) s p) ∙ name-there τ s n p e g w
     detail-there (class n l) g w =
         let x = stand-split (bytesIn n) (leBytes 4 l) w in
-        class-detail ∙ rw (name-there s n p (x .0) (g .0) (x .1)) (library-there s rows (x .0) e l (g .1) (x .2))
+        class-detail ∙ rw (name-there τ s n p (x .0) (g .0) (x .1)) (library-there s rows (x .0) e l (g .1) (x .2))
     detail-there objects g w = let k = stand-size w in ap F.End (omega arith)
     detail-there texts g w = let k = stand-size w in ap F.End (omega arith)
     detail-there (primitives c) g w = same (codeAt s p) ∙ code-there s c p e w
 
     -- and it is the detail that is read there
-    pub detail-in : (d : Detail Prefixed ℕ) → GoodDetail (envOf s rows) d → Stand s (infoBytes d) p e → detailIn s (typeByte d) p ≡ d
+    pub detail-in : (d : Detail Prefixed ℕ) → GoodDetail τ (envOf s rows) d → Stand s (infoBytes d) p e → detailIn s (typeByte d) p ≡ d
     unfolding detailIn
     detail-in (primitive c) g w = ap primitive (code-from s c p e w)
     detail-in text g w = refl
     detail-in object g w = refl
-    detail-in (system n) g w = ap system (name-in s n p e g w)
+    detail-in (system n) g w = ap system (name-in τ s n p e g w)
     detail-in (class n l) g w =
         let x = stand-split (bytesIn n) (leBytes 4 l) w in
-        rw (name-in s n p (x .0) (g .0) (x .1), name-after s n p (x .0) (g .0) (x .1), number-from s l (x .0) e (positive-bits l (g .1 .sign)) (x .2))
+        rw (name-in τ s n p (x .0) (g .0) (x .1), name-after τ s n p (x .0) (g .0) (x .1), number-from s l (x .0) e (positive-bits l (g .1 .sign)) (x .2))
     detail-in objects g w = refl
     detail-in texts g w = refl
     detail-in (primitives c) g w = ap primitives (code-from s c p e w)
@@ -131,7 +132,7 @@ byte-small objects = omega arith
 byte-small texts = omega arith
 byte-small (primitives c) = omega arith
 
-module _ (s : List ℕ) (p : ℕ) where
+module _ (τ : Terms) (s : List ℕ) (p : ℕ) where
   pub detail-byte : (b : ℕ) → b ≤ 7 → typeByte (detailIn s b p) ≡ b
   unfolding detailIn
   detail-byte b h = by-type (λ (b : ℕ). typeByte (detailIn s b p) ≡ b) refl refl refl refl refl refl refl refl b h
@@ -143,18 +144,18 @@ module _ (s : List ℕ) (p : ℕ) where
   module _ (rows : List Row) (e : ℕ) where
     -- a detail that ends is written there
     pub record Detailed (b : ℕ) : Type 0 where
-      pub good : GoodDetail (envOf s rows) (detailIn s b p)
+      pub good : GoodDetail τ (envOf s rows) (detailIn s b p)
       pub stands : Stand s (infoBytes (detailIn s b p)) p e
 
-    pub detail-back : (b : ℕ) → b ≤ 7 → Bytes s → p ≤ length s → infoKnown s rows b p ≡ F.End e → Detailed b
+    pub detail-back : (b : ℕ) → b ≤ 7 → Bytes s → p ≤ length s → infoKnown τ s rows b p ≡ F.End e → Detailed b
     unfolding infoKnown infoAt detailIn
     detail-back b h byte i q =
-        by-type (λ (b : ℕ). infoKnown s rows b p ≡ F.End e → Detailed b)
+        by-type (λ (b : ℕ). infoKnown τ s rows b p ≡ F.End e → Detailed b)
         (λ q. record { good = tt; stands = code-back s p e (sym (same (codeAt s p)) ∙ q) })
         (λ q. record { good = tt; stands = none q })
         (λ q. record { good = tt; stands = none q })
-        (λ q. let x = name-back s p e byte (sym (same (nameAt s p)) ∙ q) in record { good = x .0; stands = x .1 })
-        (λ q. class-back (through (ownLibraryAt s rows) (nameAt s p) e (sym (class-detail s rows p) ∙ q)))
+        (λ q. let x = name-back τ s p e byte (sym (same (nameAt (τ .setting) s p)) ∙ q) in record { good = x .0; stands = x .1 })
+        (λ q. class-back (through (ownLibraryAt s rows) (nameAt (τ .setting) s p) e (sym (class-detail τ s rows p) ∙ q)))
         (λ q. record { good = tt; stands = none q })
         (λ q. record { good = tt; stands = none q })
         (λ q. record { good = tt; stands = code-back s p e (sym (same (codeAt s p)) ∙ q) })
@@ -165,9 +166,9 @@ module _ (s : List ℕ) (p : ℕ) where
         none : F.End p ≡ F.End e → Stand s [] p e
         none q = let z : p ≡ e = cc in rw (← z) (stand-none i)
 
-        class-back : (m : ℕ) × (nameAt s p ≡ F.End m) × (ownLibraryAt s rows m ≡ F.End e) → Detailed 4
+        class-back : (m : ℕ) × (nameAt (τ .setting) s p ≡ F.End m) × (ownLibraryAt s rows m ≡ F.End e) → Detailed 4
         class-back x =
-            let n = name-back s p (x .0) byte (x .1) in
+            let n = name-back τ s p (x .0) byte (x .1) in
             let l = library-back s rows (x .0) e byte (x .2) in
             let f : numberFrom s (afterText s p) ≡ numberFrom s (x .0) = ap (numberFrom s) (n .2) in
             record {

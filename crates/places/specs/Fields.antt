@@ -7,6 +7,7 @@ use mathlib.Core.List.{List, [], _∷_}
 use native.Mathlib.Omega.{arith}
 use lib.ListN.{length, getD, drop}
 use borrow.Author.Tests.{leb-false, lt-leb}
+use Rattle.format.specs.Terms.{Terms}
 use Rattle.format.specs.declared.Refusal.the-variants as R
 use Rattle.format.specs.declared.PrimitiveCode.{PrimitiveCode}
 use Rattle.format.specs.declared.Coded.the-variants as D
@@ -81,35 +82,35 @@ below-negative n e = leb-false 2147483648 n e
 abbrev pub prefixedAt : List ℕ → ℕ → Prefixed
 prefixedAt s p = record { width = spanAt s p .from - p; text = textFrom s p }
 
-module _ (s : List ℕ) (t : Prefixed) (p e : ℕ) (n : Name t) (w : Stand s (bytesIn t) p e) where
-  pub string-there : stringAt s p ≡ T.Part (p + t .width) e
+module _ (τ : Terms) (s : List ℕ) (t : Prefixed) (p e : ℕ) (n : Name τ t) (w : Stand s (bytesIn t) p e) where
+  pub string-there : stringAt (τ .setting) s p ≡ T.Part (p + t .width) e
   unfolding textAt judgedAt
   string-there =
-      let c = counted-there wellFormed R.BadText s p e t (n .prefix) (n .characters .short) (utf8-exactly (t .text) .1 (n .characters .good)) w in
-      string-part s p (length (t .text)) (p + t .width) e (c .says) (c .ends)
+      let c = counted-there τ wellFormed R.BadText s p e t (n .prefix) (n .characters .short) (utf8-exactly (t .text) .1 (n .characters .good)) w in
+      string-part (τ .setting) s p (length (t .text)) (p + t .width) e (c .says) (c .ends)
 
-  pub name-there : nameAt s p ≡ F.End e
-  name-there = name-end s p (p + t .width) e string-there
+  pub name-there : nameAt (τ .setting) s p ≡ F.End e
+  name-there = name-end (τ .setting) s p (p + t .width) e string-there
 
   pub name-text : textFrom s p ≡ t .text
-  name-text = string-text s p (p + t .width) e string-there ∙ stand-same (behind s t p e w)
+  name-text = string-text (τ .setting) s p (p + t .width) e string-there ∙ stand-same (behind s t p e w)
 
   pub name-after : afterText s p ≡ e
-  name-after = string-after s p (p + t .width) e string-there
+  name-after = string-after (τ .setting) s p (p + t .width) e string-there
 
   pub name-in : prefixedAt s p ≡ t
-  name-in = prefixed t (spanAt s p .from - p) (textFrom s p) (rw (string-span s p (p + t .width) e string-there) (omega arith)) name-text
+  name-in = prefixed t (spanAt s p .from - p) (textFrom s p) (rw (string-span (τ .setting) s p (p + t .width) e string-there) (omega arith)) name-text
 
-pub name-back : (s : List ℕ) (p e : ℕ) → Bytes s → nameAt s p ≡ F.End e
-    → Name (prefixedAt s p) × Stand s (bytesIn (prefixedAt s p)) p e × (afterText s p ≡ e)
-name-back s p e b q =
-    let w = name-told s p e q in
+pub name-back : (τ : Terms) (s : List ℕ) (p e : ℕ) → Bytes s → nameAt (τ .setting) s p ≡ F.End e
+    → Name τ (prefixedAt s p) × Stand s (bytesIn (prefixedAt s p)) p e × (afterText s p ≡ e)
+name-back τ s p e b q =
+    let w = name-told (τ .setting) s p e q in
     let a = w .0 in
-    let c = string-told s p a e (w .1) in
-    let y = counted-back wellFormed R.BadText s p e (c .0) a b (c .1) in
-    let g : Name (writtenAt s p a e) =
+    let c = string-told (τ .setting) s p a e (w .1) in
+    let y = counted-back τ wellFormed R.BadText s p e (c .0) a b (c .1) in
+    let g : Name τ (writtenAt s p a e) =
     record { characters = record { good = utf8-exactly (part s a (e - a)) .0 (y .good); short = y .short }; prefix = y .width } in
-    rw (string-span s p a e (w .1)) (g, y .stands, string-after s p a e (w .1))
+    rw (string-span (τ .setting) s p a e (w .1)) (g, y .stands, string-after (τ .setting) s p a e (w .1))
 
 -- ---- codes
 

@@ -9,6 +9,7 @@ use native.Mathlib.Decide.{decLt}
 use lib.ListN.{length}
 use lib.Dec.{eqb}
 use borrow.Author.Tests.{eqb-false}
+use Rattle.format.specs.Terms.{Terms}
 use Rattle.format.specs.declared.PrimitiveCode.{PrimitiveCode}
 use Rattle.format.specs.declared.Field.the-variants as F
 use Rattle.format.specs.Bytes.{pick}
@@ -30,45 +31,45 @@ unfolding bytesAt
 two-steps s p a b = let y : p + a + b ≡ p + (a + b) = omega arith in rw y
 
 -- numbers in one step are numbers one by one
-numbers-each : (s : List ℕ) (c : PrimitiveCode) (n p : ℕ) → 0 < sizeOf c → p ≤ length s → times (valueAt s c) n p ≡ bytesAt s p (sizeOf c * n)
+numbers-each : (τ : Terms) (s : List ℕ) (c : PrimitiveCode) (n p : ℕ) → 0 < sizeOf c → p ≤ length s → times (valueAt (τ .setting) s c) n p ≡ bytesAt s p (sizeOf c * n)
 unfolding times
-numbers-each s c zero p h i =
+numbers-each τ s c zero p h i =
     let z : sizeOf c * 0 ≡ 0 = omega arith in
     let y : p + 0 ≡ p = omega arith in
     rw z (ap F.End (sym y) ∙ sym (bytes-end s p 0 (omega arith)))
-numbers-each s c (suc n) p h i = go (decLt (length s) (p + sizeOf c)) (numbers-each s c n (p + sizeOf c) h)
+numbers-each τ s c (suc n) p h i = go (decLt (length s) (p + sizeOf c)) (numbers-each τ s c n (p + sizeOf c) h)
   where
-    go : Dec (length s < p + sizeOf c) → (p + sizeOf c ≤ length s → times (valueAt s c) n (p + sizeOf c) ≡ bytesAt s (p + sizeOf c) (sizeOf c * n))
-        → times (valueAt s c) (suc n) p ≡ bytesAt s p (sizeOf c * suc n)
+    go : Dec (length s < p + sizeOf c) → (p + sizeOf c ≤ length s → times (valueAt (τ .setting) s c) n (p + sizeOf c) ≡ bytesAt s (p + sizeOf c) (sizeOf c * n))
+        → times (valueAt (τ .setting) s c) (suc n) p ≡ bytesAt s p (sizeOf c * suc n)
     go (yes l) again =
-        rw (value-bytes s c p h, bytes-short s p (sizeOf c) l, pieces (sizeOf c) n) (sym (bytes-short s p (sizeOf c + sizeOf c * n) (omega arith)))
+        rw (value-bytes τ s c p h, bytes-short s p (sizeOf c) l, pieces (sizeOf c) n) (sym (bytes-short s p (sizeOf c + sizeOf c * n) (omega arith)))
     go (no l) again =
-        rw (value-bytes s c p h, bytes-end s p (sizeOf c) (omega arith), pieces (sizeOf c) n)
+        rw (value-bytes τ s c p h, bytes-end s p (sizeOf c) (omega arith), pieces (sizeOf c) n)
         (again (omega arith) ∙ two-steps s p (sizeOf c) (sizeOf c * n))
 
-items-each : (s : List ℕ) (c : PrimitiveCode) (n p : ℕ) → p ≤ length s → itemsAt s c n p ≡ times (valueAt s c) n p
+items-each : (τ : Terms) (s : List ℕ) (c : PrimitiveCode) (n p : ℕ) → p ≤ length s → itemsAt (τ .setting) s c n p ≡ times (valueAt (τ .setting) s c) n p
 unfolding itemsAt
-items-each s c n p i = go (eqb (sizeOf c) 0) refl
+items-each τ s c n p i = go (eqb (sizeOf c) 0) refl
   where
-    go : (t : Bool) → eqb (sizeOf c) 0 ≡ t → pick t (times (valueAt s c) n p) (bytesAt s p (sizeOf c * n)) ≡ times (valueAt s c) n p
+    go : (t : Bool) → eqb (sizeOf c) 0 ≡ t → pick t (times (valueAt (τ .setting) s c) n p) (bytesAt s p (sizeOf c * n)) ≡ times (valueAt (τ .setting) s c) n p
     go true t = refl
     go false t =
         let f = eqb-false (sizeOf c) 0 t in
-        sym (numbers-each s c n p (omega arith) i)
+        sym (numbers-each τ s c n p (omega arith) i)
 
 -- ---- what is written is read
 
-each-there : (s : List ℕ) (c : PrimitiveCode) (n : ℕ) (vs : List Prefixed) (p e : ℕ) → Values c n vs → Stand s (itemsBytes vs) p e → times (valueAt s c) n p ≡ F.End e
+each-there : (τ : Terms) (s : List ℕ) (c : PrimitiveCode) (n : ℕ) (vs : List Prefixed) (p e : ℕ) → Values τ c n vs → Stand s (itemsBytes vs) p e → times (valueAt (τ .setting) s c) n p ≡ F.End e
 unfolding times
-each-there s c n vs p e none w =
+each-there τ s c n vs p e none w =
     let k = stand-size w in
     ap F.End (omega arith)
-each-there s c n vs p e (more {n = k} {v = v} {vs = us} g gs) w =
+each-there τ s c n vs p e (more {n = k} {v = v} {vs = us} g gs) w =
     let x = stand-split (bytesIn v) (itemsBytes us) w in
-    rw (value-there s c v p (x .0) g (x .1)) (each-there s c k us (x .0) e gs (x .2))
+    rw (value-there τ s c v p (x .0) g (x .1)) (each-there τ s c k us (x .0) e gs (x .2))
 
-pub items-there : (s : List ℕ) (c : PrimitiveCode) (n : ℕ) (vs : List Prefixed) (p e : ℕ) → Values c n vs → Stand s (itemsBytes vs) p e → itemsAt s c n p ≡ F.End e
-items-there s c n vs p e g w = items-each s c n p (omega (arith, w .onward, w .room)) ∙ each-there s c n vs p e g w
+pub items-there : (τ : Terms) (s : List ℕ) (c : PrimitiveCode) (n : ℕ) (vs : List Prefixed) (p e : ℕ) → Values τ c n vs → Stand s (itemsBytes vs) p e → itemsAt (τ .setting) s c n p ≡ F.End e
+items-there τ s c n vs p e g w = items-each τ s c n p (omega (arith, w .onward, w .room)) ∙ each-there τ s c n vs p e g w
 
 -- ---- what is read is written so
 
@@ -83,31 +84,31 @@ unfolding itemsIn itemsFrom
 items-from s c zero p = refl
 items-from s c (suc n) p = ap (λ (ts : List (List ℕ)). contentFrom s c p ∷ ts) (items-from s c n (valueSpan s c p .to))
 
-each-back : (s : List ℕ) (c : PrimitiveCode) (n p e : ℕ) → Bytes s → p ≤ length s → times (valueAt s c) n p ≡ F.End e
-    → Values c n (itemsIn s c n p) × Stand s (itemsBytes (itemsIn s c n p)) p e
+each-back : (τ : Terms) (s : List ℕ) (c : PrimitiveCode) (n p e : ℕ) → Bytes s → p ≤ length s → times (valueAt (τ .setting) s c) n p ≡ F.End e
+    → Values τ c n (itemsIn s c n p) × Stand s (itemsBytes (itemsIn s c n p)) p e
 unfolding times itemsIn
-each-back s c zero p e b h q =
+each-back τ s c zero p e b h q =
     let a : p ≡ e = cc in
     rw (← a) (none, stand-none h)
-each-back s c (suc n) p e b h q =
-    let x = through (times (valueAt s c) n) (valueAt s c p) e q in
-    let m = value-moves s c p (x .0) (x .1) in
-    let v = value-back s c p (x .0) b (x .1) in
-    let y = each-back s c n (x .0) e b (m .1) (x .2) in
-    subst (λ (m : ℕ). Values c (suc n) (valueIn s c p ∷ itemsIn s c n m) × Stand s (itemsBytes (valueIn s c p ∷ itemsIn s c n m)) p e) (sym (v .2))
+each-back τ s c (suc n) p e b h q =
+    let x = through (times (valueAt (τ .setting) s c) n) (valueAt (τ .setting) s c p) e q in
+    let m = value-moves (τ .setting) s c p (x .0) (x .1) in
+    let v = value-back τ s c p (x .0) b (x .1) in
+    let y = each-back τ s c n (x .0) e b (m .1) (x .2) in
+    subst (λ (m : ℕ). Values τ c (suc n) (valueIn s c p ∷ itemsIn s c n m) × Stand s (itemsBytes (valueIn s c p ∷ itemsIn s c n m)) p e) (sym (v .2))
     (more (v .0) (y .0), stand-then (v .1) (y .1))
 
-pub items-back : (s : List ℕ) (c : PrimitiveCode) (n p e : ℕ) → Bytes s → p ≤ length s → itemsAt s c n p ≡ F.End e
-    → Values c n (itemsIn s c n p) × Stand s (itemsBytes (itemsIn s c n p)) p e
-items-back s c n p e b h q = each-back s c n p e b h (sym (items-each s c n p h) ∙ q)
+pub items-back : (τ : Terms) (s : List ℕ) (c : PrimitiveCode) (n p e : ℕ) → Bytes s → p ≤ length s → itemsAt (τ .setting) s c n p ≡ F.End e
+    → Values τ c n (itemsIn s c n p) × Stand s (itemsBytes (itemsIn s c n p)) p e
+items-back τ s c n p e b h q = each-back τ s c n p e b h (sym (items-each τ s c n p h) ∙ q)
 
 -- ---- what is written is what is read
 
-pub items-in : (s : List ℕ) (c : PrimitiveCode) (n : ℕ) (vs : List Prefixed) (p e : ℕ) → Values c n vs → Stand s (itemsBytes vs) p e → itemsIn s c n p ≡ vs
+pub items-in : (τ : Terms) (s : List ℕ) (c : PrimitiveCode) (n : ℕ) (vs : List Prefixed) (p e : ℕ) → Values τ c n vs → Stand s (itemsBytes vs) p e → itemsIn s c n p ≡ vs
 unfolding itemsIn
-items-in s c n vs p e none w = refl
-items-in s c n vs p e (more {n = k} {v = v} {vs = us} g gs) w =
+items-in τ s c n vs p e none w = refl
+items-in τ s c n vs p e (more {n = k} {v = v} {vs = us} g gs) w =
     let x = stand-split (bytesIn v) (itemsBytes us) w in
-    let a : valueSpan s c p .to ≡ x .0 = rw (value-span s c v p (x .0) g (x .1)) in
-    ap (λ (u : Prefixed). u ∷ itemsIn s c k (valueSpan s c p .to)) (value-in s c v p (x .0) g (x .1))
-    ∙ ap (λ (us : List Prefixed). v ∷ us) (ap (itemsIn s c k) a ∙ items-in s c k us (x .0) e gs (x .2))
+    let a : valueSpan s c p .to ≡ x .0 = rw (value-span τ s c v p (x .0) g (x .1)) in
+    ap (λ (u : Prefixed). u ∷ itemsIn s c k (valueSpan s c p .to)) (value-in τ s c v p (x .0) g (x .1))
+    ∙ ap (λ (us : List Prefixed). v ∷ us) (ap (itemsIn s c k) a ∙ items-in τ s c k us (x .0) e gs (x .2))

@@ -6,6 +6,7 @@ use mathlib.Core.List.{List, [], _∷_}
 use native.Mathlib.Omega.{arith}
 use lib.ListN.{length, getD}
 use borrow.Author.Tests.{lt-ltb}
+use Rattle.format.specs.Terms.{Terms}
 use Rattle.format.specs.declared.SlotType.{SlotType}
 use Rattle.format.specs.declared.Field.the-variants as F
 use Rattle.format.specs.declared.Row.{Row}
@@ -39,18 +40,18 @@ length-members s zero names types infos = refl
 length-members s (suc n) names types infos = ap suc (length-members s n (afterText s names) (types + 1) (afterInfo s (getD s types 0) infos))
 
 -- good members that stand at these places, and the places after them
-pub record MembersAt (es : List Entry) (s : List ℕ) (ms : List (Member Prefixed ℕ)) (names types infos a b c : ℕ) : Type 0 where
-  pub good : Members es ms
+pub record MembersAt (τ : Terms) (es : List Entry) (s : List ℕ) (ms : List (Member Prefixed ℕ)) (names types infos a b c : ℕ) : Type 0 where
+  pub good : Members τ es ms
   pub names-stand : Stand s (namesBytes ms) names a
   pub types-stand : Stand s (typesBytes ms) types b
   pub infos-stand : Stand s (infosBytes ms) infos c
 
-module _ (s : List ℕ) (rows : List Row) where
+module _ (τ : Terms) (s : List ℕ) (rows : List Row) where
   -- ---- what ends is written so
 
   pub members-back : (n names types infos a b c : ℕ) → Bytes s → names ≤ length s → types ≤ length s → infos ≤ length s
-      → times (nameAt s) n names ≡ F.End a → times (typeByteAt s) n types ≡ F.End b → infosAt s rows n types infos ≡ F.End c
-      → MembersAt (envOf s rows) s (membersIn s n names types infos) names types infos a b c
+      → times (nameAt (τ .setting) s) n names ≡ F.End a → times (typeByteAt s) n types ≡ F.End b → infosAt τ s rows n types infos ≡ F.End c
+      → MembersAt τ (envOf s rows) s (membersIn s n names types infos) names types infos a b c
   unfolding times infosAt membersIn
   members-back zero names types infos a b c byte h i j q r u =
       let x : names ≡ a = cc in
@@ -58,26 +59,26 @@ module _ (s : List ℕ) (rows : List Row) where
       let z : infos ≡ c = cc in
       rw (← x, ← y, ← z) (record { good = no-more; names-stand = stand-none h; types-stand = stand-none i; infos-stand = stand-none j })
   members-back (suc n) names types infos a b c byte h i j q r u =
-      let x = through (times (nameAt s) n) (nameAt s names) a q in
+      let x = through (times (nameAt (τ .setting) s) n) (nameAt (τ .setting) s names) a q in
       let y = through (times (typeByteAt s) n) (typeByteAt s types) b r in
-      let z = through (infosAt s rows n (types + 1)) (infoKnown s rows (getD s types 0) infos) c u in
+      let z = through (infosAt τ s rows n (types + 1)) (infoKnown τ s rows (getD s types 0) infos) c u in
       let t = type-told s types (y .0) (y .1) in
-      let v = name-moves s names (x .0) (x .1) in
-      let w = info-known-moves s rows (getD s types 0) infos (z .0) j (z .1) in
+      let v = name-moves (τ .setting) s names (x .0) (x .1) in
+      let w = info-known-moves τ s rows (getD s types 0) infos (z .0) j (z .1) in
       step (x .0) (z .0) (x .1) (z .1) (t .0) (t .1)
       (members-back n (x .0) (types + 1) (z .0) a b c byte (v .1) (omega arith) (w .1) (x .2) (rw (t .2) at (y .2)) (z .2))
     where
-      step : (m k : ℕ) → nameAt s names ≡ F.End m → infoKnown s rows (getD s types 0) infos ≡ F.End k → getD s types 0 ≤ 7 → types < length s
-          → MembersAt (envOf s rows) s (membersIn s n m (types + 1) k) m (types + 1) k a b c
-          → MembersAt (envOf s rows) s (membersIn s (suc n) names types infos) names types infos a b c
+      step : (m k : ℕ) → nameAt (τ .setting) s names ≡ F.End m → infoKnown τ s rows (getD s types 0) infos ≡ F.End k → getD s types 0 ≤ 7 → types < length s
+          → MembersAt τ (envOf s rows) s (membersIn s n m (types + 1) k) m (types + 1) k a b c
+          → MembersAt τ (envOf s rows) s (membersIn s (suc n) names types infos) names types infos a b c
       step m k q u g l more =
-          let x = name-back s names m byte q in
-          let d = detail-back s infos rows k (getD s types 0) g byte j u in
-          let f : typeByte (detailIn s (getD s types 0) infos) ≡ getD s types 0 = detail-byte s infos (getD s types 0) g in
+          let x = name-back τ s names m byte q in
+          let d = detail-back τ s infos rows k (getD s types 0) g byte j u in
+          let f : typeByte (detailIn s (getD s types 0) infos) ≡ getD s types 0 = detail-byte τ s infos (getD s types 0) g in
           let here : Member Prefixed ℕ = record { name = prefixedAt s names; type = detailIn s (getD s types 0) infos } in
-          let y = info-after s (getD s types 0) infos k (info-plain s rows (getD s types 0) infos k u) in
-          subst (λ (v : ℕ). MembersAt (envOf s rows) s (here ∷ membersIn s n v (types + 1) (afterInfo s (getD s types 0) infos)) names types infos a b c) (sym (x .2))
-          (subst (λ (v : ℕ). MembersAt (envOf s rows) s (here ∷ membersIn s n m (types + 1) v) names types infos a b c) (sym y)
+          let y = info-after (τ .setting) s (getD s types 0) infos k (info-plain τ s rows (getD s types 0) infos k u) in
+          subst (λ (v : ℕ). MembersAt τ (envOf s rows) s (here ∷ membersIn s n v (types + 1) (afterInfo s (getD s types 0) infos)) names types infos a b c) (sym (x .2))
+          (subst (λ (v : ℕ). MembersAt τ (envOf s rows) s (here ∷ membersIn s n m (types + 1) v) names types infos a b c) (sym y)
           (record {
             good = member (x .0) (d .good) (more .good);
             names-stand = stand-then (x .1) (more .names-stand);
@@ -89,12 +90,12 @@ module _ (s : List ℕ) (rows : List Row) where
 
   -- where good members end, and that they are those read at these places
   pub record MembersEnd (ms : List (Member Prefixed ℕ)) (names types infos a b c : ℕ) : Type 0 where
-    pub names-end : times (nameAt s) (length ms) names ≡ F.End a
+    pub names-end : times (nameAt (τ .setting) s) (length ms) names ≡ F.End a
     pub types-end : times (typeByteAt s) (length ms) types ≡ F.End b
-    pub infos-end : infosAt s rows (length ms) types infos ≡ F.End c
+    pub infos-end : infosAt τ s rows (length ms) types infos ≡ F.End c
     pub same : membersIn s (length ms) names types infos ≡ ms
 
-  pub members-there : (ms : List (Member Prefixed ℕ)) (names types infos a b c : ℕ) → Members (envOf s rows) ms
+  pub members-there : (ms : List (Member Prefixed ℕ)) (names types infos a b c : ℕ) → Members τ (envOf s rows) ms
       → Stand s (namesBytes ms) names a → Stand s (typesBytes ms) types b → Stand s (infosBytes ms) infos c
       → MembersEnd ms names types infos a b c
   unfolding times infosAt membersIn
@@ -112,33 +113,33 @@ module _ (s : List ℕ) (rows : List Row) where
           → MembersEnd rest i (types + 1) k a b c → MembersEnd (m ∷ rest) names types infos a b c
       step i k u w ends =
           let f : getD s types 0 ≡ typeByte (m .type) = stand-here y in
-          let n = name-there s (m .name) names i g u in
-          let q = detail-there s rows infos k (m .type) d w in
-          let a = info-after s (typeByte (m .type)) infos k (info-plain s rows (typeByte (m .type)) infos k q) in
+          let n = name-there τ s (m .name) names i g u in
+          let q = detail-there τ s rows infos k (m .type) d w in
+          let a = info-after (τ .setting) s (typeByte (m .type)) infos k (info-plain τ s rows (typeByte (m .type)) infos k q) in
           let t : typeByteAt s types ≡ F.End (types + 1) = type-end s types (stand-inside y) (rw f (byte-small (m .type))) in
           record {
             names-end = rw n (ends .names-end);
             types-end = rw t (ends .types-end);
             infos-end = rw (f, q) (ends .infos-end);
-            same = rw (f, name-in s (m .name) names i g u, detail-in s rows infos k (m .type) d w, name-after s (m .name) names i g u, a, ends .same);
+            same = rw (f, name-in τ s (m .name) names i g u, detail-in τ s rows infos k (m .type) d w, name-after τ s (m .name) names i g u, a, ends .same);
           }
 
   -- ---- the types of an object's slots
 
-  pub slots-are : (n names types infos b c : ℕ) → 0 < types → times (typeByteAt s) n types ≡ F.End b → infosAt s rows n types infos ≡ F.End c
+  pub slots-are : (n names types infos b c : ℕ) → 0 < types → times (typeByteAt s) n types ≡ F.End b → infosAt τ s rows n types infos ≡ F.End c
       → slotsFrom s (typedAt s types infos) n ≡ typesOf (membersIn s n names types infos)
   unfolding times infosAt membersIn slotsFrom typedAt
   slots-are zero names types infos b c h q r = refl
   slots-are (suc n) names types infos b c h q r =
       let y = through (times (typeByteAt s) n) (typeByteAt s types) b q in
-      let z = through (infosAt s rows n (types + 1)) (infoKnown s rows (getD s types 0) infos) c r in
+      let z = through (infosAt τ s rows n (types + 1)) (infoKnown τ s rows (getD s types 0) infos) c r in
       let t = type-told s types (y .0) (y .1) in
       step (z .0) (z .1) (t .0) (t .1) (slots-are n (afterText s names) (types + 1) (z .0) b c (omega arith) (rw (t .2) at (y .2)) (z .2))
     where
-      step : (k : ℕ) → infoKnown s rows (getD s types 0) infos ≡ F.End k → getD s types 0 ≤ 7 → types < length s
+      step : (k : ℕ) → infoKnown τ s rows (getD s types 0) infos ≡ F.End k → getD s types 0 ≤ 7 → types < length s
           → slotsFrom s (typedAt s (types + 1) k) n ≡ typesOf (membersIn s n (afterText s names) (types + 1) k)
           → slotsFrom s (typedAt s types infos) (suc n) ≡ typesOf (membersIn s (suc n) names types infos)
       step k u g l more =
-          let i = info-after s (getD s types 0) infos k (info-plain s rows (getD s types 0) infos k u) in
-          rw (moved-on s (typedAt s types infos) (λ z. omega arith), lt-ltb types (length s) l, i, detail-slot s infos (getD s types 0) g)
+          let i = info-after (τ .setting) s (getD s types 0) infos k (info-plain τ s rows (getD s types 0) infos k u) in
+          rw (moved-on s (typedAt s types infos) (λ z. omega arith), lt-ltb types (length s) l, i, detail-slot τ s infos (getD s types 0) g)
           (ap (λ (ts : List SlotType). slotFor (detailIn s (getD s types 0) infos) ∷ ts) more)

@@ -6,6 +6,7 @@ use mathlib.Core.Bool.{Bool, true}
 use mathlib.Core.List.{List}
 use native.Mathlib.Omega.{arith}
 use lib.ListN.{length, drop}
+use Rattle.format.specs.Terms.{Terms}
 use Rattle.format.specs.declared.Refusal.{Refusal}
 use Rattle.format.specs.declared.Setting.the-variants as Q
 use Rattle.format.specs.Bytes.{part}
@@ -37,9 +38,9 @@ behind s t p e w =
     let k : x .0 ≡ p + t .width = stand-size (x .1) ∙ ap (λ (n : ℕ). p + n) (length-prefixOf (t .width) (length (t .text))) in
     rw k at (x .2)
 
-module _ (test : List ℕ → Bool) (refusal : Refusal) (s : List ℕ) (p e : ℕ) where
-  pub counted-there : (t : Prefixed) → Width Q.Strict (t .width) (length (t .text)) → length (t .text) < 2147483648 → test (t .text) ≡ true
-      → Stand s (bytesIn t) p e → Counted test refusal s p (length (t .text)) (p + t .width) e
+module _ (τ : Terms) (test : List ℕ → Bool) (refusal : Refusal) (s : List ℕ) (p e : ℕ) where
+  pub counted-there : (t : Prefixed) → Width (τ .setting) (t .width) (length (t .text)) → length (t .text) < 2147483648 → test (t .text) ≡ true
+      → Stand s (bytesIn t) p e → Counted (τ .setting) test refusal s p (length (t .text)) (p + t .width) e
   counted-there t g h i w =
       let x = stand-split (prefixOf (t .width) (length (t .text))) (t .text) w in
       let m = x .0 in
@@ -48,25 +49,25 @@ module _ (test : List ℕ → Bool) (refusal : Refusal) (s : List ℕ) (p e : �
       let z : e - m ≡ length (t .text) = omega arith in
       let same : part s m (length (t .text)) ≡ t .text = rw z at (stand-same (x .2)) in
       let d = judged-end test refusal s m (length (t .text)) e (record { ends = j; room = omega (arith, x .2 .room); good = rw same i }) in
-      record { says = width-written Q.Strict (t .width) (length (t .text)) s (drop m s) p g h (x .1 .bytes); ends = rw k at d }
+      record { says = width-written (τ .setting) (t .width) (length (t .text)) s (drop m s) p g h (x .1 .bytes); ends = rw k at d }
 
   -- where it was judged before, the total reader finds it
-  pub counted-span : (n a : ℕ) → Counted test refusal s p n a e → spanAt s p ≡ record { from = a; to = e }
+  pub counted-span : (n a : ℕ) → Counted (τ .setting) test refusal s p n a e → spanAt s p ≡ record { from = a; to = e }
   counted-span n a c =
       let w = judged-taken test refusal s a n e (c .ends) in
-      span-there s p n a (lenient-alike s p n a (c .says)) (w .room) ∙ ap (λ (z : ℕ). record { from = a; to = z }) (sym (w .ends))
+      span-there s p n a (lenient-alike (τ .setting) s p n a (c .says)) (w .room) ∙ ap (λ (z : ℕ). record { from = a; to = z }) (sym (w .ends))
 
   -- what is read there is written there, and good
   pub record Written (a : ℕ) : Type 0 where
-    pub width : Width Q.Strict (a - p) (length (part s a (e - a)))
+    pub width : Width (τ .setting) (a - p) (length (part s a (e - a)))
     pub short : length (part s a (e - a)) < 2147483648
     pub good : test (part s a (e - a)) ≡ true
     pub stands : Stand s (bytesIn (writtenAt s p a e)) p e
 
-  pub counted-back : (n a : ℕ) → Bytes s → Counted test refusal s p n a e → Written a
+  pub counted-back : (n a : ℕ) → Bytes s → Counted (τ .setting) test refusal s p n a e → Written a
   counted-back n a b c =
-      let m = counted-moves test refusal s p n a e c in
-      let r = width-read Q.Strict s b p n a (c .says) in
+      let m = counted-moves (τ .setting) test refusal s p n a e c in
+      let r = width-read (τ .setting) s b p n a (c .says) in
       let w = judged-taken test refusal s a n e (c .ends) in
       let z : e - a ≡ n = omega (arith, w .ends) in
       let l : length (part s a (e - a)) ≡ n = rw z (length-part s a n (omega (arith, w .room, w .ends))) in

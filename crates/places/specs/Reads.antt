@@ -6,6 +6,7 @@ use mathlib.Core.List.{List, [], _∷_, _++_}
 use native.Mathlib.Omega.{arith}
 use lib.ListN.{length}
 use borrow.Author.Tests.{lt-ltb}
+use Rattle.format.specs.Terms.{Terms}
 use Rattle.format.specs.declared.PrimitiveCode.{PrimitiveCode}
 use Rattle.format.specs.declared.Heading.the-variants as H
 use Rattle.format.specs.declared.Row.{Row}
@@ -23,16 +24,16 @@ use Rattle.places.specs.Fields.{number-there, name-there, code-there, co
 use Rattle.places.specs.Values.{value-there}
 use Rattle.places.specs.Recs.{entryFor, rowWith, There, plainHead, plain-told}
 
-module _ (s : List ℕ) (rows : List Row) (at e : ℕ) where
+module _ (τ : Terms) (s : List ℕ) (rows : List Row) (at e : ℕ) where
   -- a record whose bytes begin with its kind
   pub plain-there : (k : ℕ) (r : Rec) (b : List ℕ) (id count : ℕ) → enc r ≡ k ∷ b → Stand s (enc r) at e → isClass k ≡ false
       → ((row offset next owner slot : ℕ) → entryOf s row (rowWith k (plainHead id e count) offset next owner slot) ≡ entryFor row r)
-      → headingAt s rows k at ≡ H.Fields (plainHead id e count) → There s rows k at r id count 0 []
+      → headingAt τ s rows k at ≡ H.Fields (plainHead id e count) → There τ s rows k at r id count 0 []
   plain-there k r b id count z w c f q =
       let v : Stand s (k ∷ b) at e = rw z at w in
       record { head = plainHead id e count; taken = q; told = plain-told s k at r id e count w (stand-inside v) (stand-here v) c f }
 
-  pub header-there : (root h : ℕ) → root < 4294967296 → h < 4294967296 → Stand s (enc (header root h)) at e → There s rows 0 at (header root h) root 0 0 []
+  pub header-there : (root h : ℕ) → root < 4294967296 → h < 4294967296 → Stand s (enc (header root h)) at e → There τ s rows 0 at (header root h) root 0 0 []
   unfolding headingAt headerAt enc
   header-there root h a b w =
       let x = stand-split (leBytes 4 root) (leBytes 4 h ++ (leBytes 4 1 ++ leBytes 4 0)) (stand-after w) in
@@ -46,55 +47,55 @@ module _ (s : List ℕ) (rows : List Row) (at e : ℕ) where
         number-there s 0 (z .0) e (omega arith) (z .2),
       ))
 
-  pub string-there : (i : ℕ) (t : Prefixed) → ObjectId i (envOf s rows) → Name t → Stand s (enc (string i t)) at e → There s rows 6 at (string i t) i 0 0 []
+  pub string-there : (i : ℕ) (t : Prefixed) → ObjectId i (envOf s rows) → Name τ t → Stand s (enc (string i t)) at e → There τ s rows 6 at (string i t) i 0 0 []
   unfolding headingAt stringRecordAt enc
   string-there i t o n w =
       let x = stand-split (leBytes 4 i) (bytesIn t) (stand-after w) in
       plain-there 6 (string i t) _ i 0 refl w refl (λ row offset next owner slot. refl)
-      (rw (number-there s i (at + 1) (x .0) (positive-bits i (o .sign)) (x .1), object-id-good s rows i o, name-there s t (x .0) e n (x .2)))
+      (rw (number-there s i (at + 1) (x .0) (positive-bits i (o .sign)) (x .1), object-id-good s rows i o, name-there τ s t (x .0) e n (x .2)))
 
-  pub typed-primitive-there : (c : PrimitiveCode) (v : Prefixed) → Value c v → Stand s (enc (typedPrimitive c v)) at e
-      → There s rows 8 at (typedPrimitive c v) 0 0 0 []
+  pub typed-primitive-there : (c : PrimitiveCode) (v : Prefixed) → Value τ c v → Stand s (enc (typedPrimitive c v)) at e
+      → There τ s rows 8 at (typedPrimitive c v) 0 0 0 []
   unfolding headingAt typedPrimitiveAt enc
   typed-primitive-there c v g w =
       let x = stand-split (codeNumber c ∷ []) (bytesIn v) (stand-after w) in
       plain-there 8 (typedPrimitive c v) _ 0 0 refl w refl (λ row offset next owner slot. refl)
-      (rw (code-there s c (at + 1) (x .0) (x .1), code-from s c (at + 1) (x .0) (x .1), value-there s c v (x .0) e g (x .2)))
+      (rw (code-there s c (at + 1) (x .0) (x .1), code-from s c (at + 1) (x .0) (x .1), value-there τ s c v (x .0) e g (x .2)))
 
-  pub reference-there : (i : ℕ) → Positive i → Stand s (enc (reference i)) at e → There s rows 9 at (reference i) i 0 0 []
+  pub reference-there : (i : ℕ) → Positive i → Stand s (enc (reference i)) at e → There τ s rows 9 at (reference i) i 0 0 []
   unfolding headingAt referenceAt enc
   reference-there i p w =
       plain-there 9 (reference i) _ i 0 refl w refl (λ row offset next owner slot. refl)
       (rw (number-there s i (at + 1) e (positive-bits i p) (stand-after w), positive-exactly i .1 p))
 
-  pub null-there : Stand s (enc null) at e → There s rows 10 at null 0 1 0 []
+  pub null-there : Stand s (enc null) at e → There τ s rows 10 at null 0 1 0 []
   unfolding headingAt enc
   null-there w =
       let k : e ≡ at + 1 = stand-size w in
       plain-there 10 null _ 0 1 refl w refl (λ row offset next owner slot. refl) (rw k)
 
-  pub end-there : Stand s (enc end) at e → There s rows 11 at end 0 0 0 []
+  pub end-there : Stand s (enc end) at e → There τ s rows 11 at end 0 0 0 []
   unfolding headingAt enc
   end-there w =
       let k : e ≡ at + 1 = stand-size w in
       plain-there 11 end _ 0 0 refl w refl (λ row offset next owner slot. refl) (rw k)
 
-  pub library-there : (i : ℕ) (n : Prefixed) → Positive i → known i (envOf s rows) ≡ false → Name n → Stand s (enc (library i n)) at e
-      → There s rows 12 at (library i n) i 0 0 []
+  pub library-there : (i : ℕ) (n : Prefixed) → Positive i → known i (envOf s rows) ≡ false → Name τ n → Stand s (enc (library i n)) at e
+      → There τ s rows 12 at (library i n) i 0 0 []
   unfolding headingAt libraryAt enc
   library-there i n p u g w =
       let x = stand-split (leBytes 4 i) (bytesIn n) (stand-after w) in
       plain-there 12 (library i n) _ i 0 refl w refl (λ row offset next owner slot. refl)
-      (rw (number-there s i (at + 1) (x .0) (positive-bits i p) (x .1), library-new-good s rows i p u, name-there s n (x .0) e g (x .2)))
+      (rw (number-there s i (at + 1) (x .0) (positive-bits i p) (x .1), library-new-good s rows i p u, name-there τ s n (x .0) e g (x .2)))
 
-  pub nulls-there : (k : ℕ) → Stand s (enc (nulls k)) at e → There s rows 13 at (nulls k) 0 k 0 []
+  pub nulls-there : (k : ℕ) → Stand s (enc (nulls k)) at e → There τ s rows 13 at (nulls k) 0 k 0 []
   unfolding headingAt nullsAt enc
   nulls-there k w =
       let v = stand-after w in
       let z : e ≡ at + 2 = stand-size w in
       plain-there 13 (nulls k) _ 0 k refl w refl (λ row offset next owner slot. refl) (rw (lt-ltb (at + 1) (length s) (stand-inside v), stand-here v, z))
 
-  pub many-nulls-there : (k : ℕ) → Positive k → Stand s (enc (manyNulls k)) at e → There s rows 14 at (manyNulls k) 0 k 0 []
+  pub many-nulls-there : (k : ℕ) → Positive k → Stand s (enc (manyNulls k)) at e → There τ s rows 14 at (manyNulls k) 0 k 0 []
   unfolding headingAt longNullsAt enc
   many-nulls-there k p w =
       plain-there 14 (manyNulls k) _ 0 k refl w refl (λ row offset next owner slot. refl)

@@ -4,6 +4,7 @@ use mathlib.Core.Path.{_≡_, refl, sym, ap, _∙_}
 use mathlib.Core.Bool.{true, false}
 use mathlib.Core.List.{List, [], _∷_, _++_}
 use lib.ListN.{length, getD, replicate}
+use Rattle.format.specs.Terms.{Terms}
 use Rattle.format.specs.declared.PrimitiveCode.{PrimitiveCode}
 use Rattle.format.specs.declared.SlotType.{SlotType}
 use Rattle.format.specs.declared.SlotType.the-variants as S
@@ -23,46 +24,46 @@ use Rattle.places.specs.Stand.{Stand, stand-size}
 
 -- a record that the grammar takes where this is known: its kind, its number (ObjectId, LibraryId, IdRef or RootId) or 0, its count, the row of
 -- the class that it names or 0, and the types of its slots
-pub data Good (es : List Entry) : (kind : ℕ) → Rec → (id count class : ℕ) → List SlotType → Type 0 where
-  is-header : {root h : ℕ} → root < 4294967296 → h < 4294967296 → Good es 0 (header root h) root 0 0 []
+pub data Good (τ : Terms) (es : List Entry) : (kind : ℕ) → Rec → (id count class : ℕ) → List SlotType → Type 0 where
+  is-header : {root h : ℕ} → root < 4294967296 → h < 4294967296 → Good τ es 0 (header root h) root 0 0 []
   is-class-by-id : {i k row : ℕ} {ts : List SlotType} → ClassId i es → k < 4294967296 → classOf k es ≡ classed row ts
-      → Good es 1 (classById i k) i (length ts) row ts
-  is-system-class : {i : ℕ} {n : Prefixed} {ms : List (Member Prefixed ℕ)} → ClassId i es → ClassInfo es n ms
-      → Good es 4 (systemClass i n ms) i (length ms) 0 (typesOf ms)
-  is-library-class : {i l : ℕ} {n : Prefixed} {ms : List (Member Prefixed ℕ)} → ClassId i es → ClassInfo es n ms → LibraryId l es
-      → Good es 5 (libraryClass i n ms l) i (length ms) 0 (typesOf ms)
-  is-string : {i : ℕ} {t : Prefixed} → ObjectId i es → Name t → Good es 6 (string i t) i 0 0 []
-  is-typed-primitive : {c : PrimitiveCode} {v : Prefixed} → Value c v → Good es 8 (typedPrimitive c v) 0 0 0 []
-  is-reference : {i : ℕ} → Positive i → Good es 9 (reference i) i 0 0 []
-  is-null : Good es 10 null 0 1 0 []
-  is-end : Good es 11 end 0 0 0 []
-  is-library : {i : ℕ} {n : Prefixed} → Positive i → known i es ≡ false → Name n → Good es 12 (library i n) i 0 0 []
-  is-nulls : {k : ℕ} → k < 256 → Good es 13 (nulls k) 0 k 0 []
-  is-many-nulls : {k : ℕ} → Positive k → Good es 14 (manyNulls k) 0 k 0 []
-  is-array : {k i n : ℕ} {r : Rec} {ts : List SlotType} → ObjectId i es → Array es r k i n ts → Good es k r i n 0 ts
+      → Good τ es 1 (classById i k) i (length ts) row ts
+  is-system-class : {i : ℕ} {n : Prefixed} {ms : List (Member Prefixed ℕ)} → ClassId i es → ClassInfo τ es n ms
+      → Good τ es 4 (systemClass i n ms) i (length ms) 0 (typesOf ms)
+  is-library-class : {i l : ℕ} {n : Prefixed} {ms : List (Member Prefixed ℕ)} → ClassId i es → ClassInfo τ es n ms → LibraryId l es
+      → Good τ es 5 (libraryClass i n ms l) i (length ms) 0 (typesOf ms)
+  is-string : {i : ℕ} {t : Prefixed} → ObjectId i es → Name τ t → Good τ es 6 (string i t) i 0 0 []
+  is-typed-primitive : {c : PrimitiveCode} {v : Prefixed} → Value τ c v → Good τ es 8 (typedPrimitive c v) 0 0 0 []
+  is-reference : {i : ℕ} → Positive i → Good τ es 9 (reference i) i 0 0 []
+  is-null : Good τ es 10 null 0 1 0 []
+  is-end : Good τ es 11 end 0 0 0 []
+  is-library : {i : ℕ} {n : Prefixed} → Positive i → known i es ≡ false → Name τ n → Good τ es 12 (library i n) i 0 0 []
+  is-nulls : {k : ℕ} → k < 256 → Good τ es 13 (nulls k) 0 k 0 []
+  is-many-nulls : {k : ℕ} → Positive k → Good τ es 14 (manyNulls k) 0 k 0 []
+  is-array : {k i n : ℕ} {r : Rec} {ts : List SlotType} → ObjectId i es → Array τ es r k i n ts → Good τ es k r i n 0 ts
 
 -- its kind is known and not refused by name
-array-kind : {es : List Entry} {k i n : ℕ} {r : Rec} {ts : List SlotType} → Array es r k i n ts → (isKind k ≡ true) × (notTaken k ≡ false)
-array-kind (of-objects a) = (refl, refl)
-array-kind (of-strings a) = (refl, refl)
-array-kind (of-primitives a b) = (refl, refl)
-array-kind (of-any a b c d e) = (refl, refl)
-array-kind (of-values a b c) = (refl, refl)
+array-kind : (τ : Terms) {es : List Entry} {k i n : ℕ} {r : Rec} {ts : List SlotType} → Array τ es r k i n ts → (isKind k ≡ true) × (notTaken k ≡ false)
+array-kind τ (of-objects a) = (refl, refl)
+array-kind τ (of-strings a) = (refl, refl)
+array-kind τ (of-primitives a b) = (refl, refl)
+array-kind τ (of-any a b c d e) = (refl, refl)
+array-kind τ (of-values a b c) = (refl, refl)
 
-pub good-kind : {es : List Entry} {k id count class : ℕ} {r : Rec} {ts : List SlotType} → Good es k r id count class ts → (isKind k ≡ true) × (notTaken k ≡ false)
-good-kind (is-header a b) = (refl, refl)
-good-kind (is-class-by-id a b c) = (refl, refl)
-good-kind (is-system-class a b) = (refl, refl)
-good-kind (is-library-class a b c) = (refl, refl)
-good-kind (is-string a b) = (refl, refl)
-good-kind (is-typed-primitive a) = (refl, refl)
-good-kind (is-reference a) = (refl, refl)
-good-kind is-null = (refl, refl)
-good-kind is-end = (refl, refl)
-good-kind (is-library a b c) = (refl, refl)
-good-kind (is-nulls a) = (refl, refl)
-good-kind (is-many-nulls a) = (refl, refl)
-good-kind (is-array a b) = array-kind b
+pub good-kind : (τ : Terms) {es : List Entry} {k id count class : ℕ} {r : Rec} {ts : List SlotType} → Good τ es k r id count class ts → (isKind k ≡ true) × (notTaken k ≡ false)
+good-kind τ (is-header a b) = (refl, refl)
+good-kind τ (is-class-by-id a b c) = (refl, refl)
+good-kind τ (is-system-class a b) = (refl, refl)
+good-kind τ (is-library-class a b c) = (refl, refl)
+good-kind τ (is-string a b) = (refl, refl)
+good-kind τ (is-typed-primitive a) = (refl, refl)
+good-kind τ (is-reference a) = (refl, refl)
+good-kind τ is-null = (refl, refl)
+good-kind τ is-end = (refl, refl)
+good-kind τ (is-library a b c) = (refl, refl)
+good-kind τ (is-nulls a) = (refl, refl)
+good-kind τ (is-many-nulls a) = (refl, refl)
+good-kind τ (is-array a b) = array-kind τ b
 
 -- what a record makes known; row is the number of its row plus 1
 abbrev pub entryFor : ℕ → Rec → List Entry
@@ -102,19 +103,19 @@ pub record Told (s : List ℕ) (k at : ℕ) (h : Head) (r : Rec) (id count class
   pub entry-is : (row offset next owner slot : ℕ) → entryOf s row (rowWith k h offset next owner slot) ≡ entryFor row r
 
 -- a record of which good fields tell
-pub record Back (s : List ℕ) (rows : List Row) (k at : ℕ) (h : Head) : Type 0 where
+pub record Back (τ : Terms) (s : List ℕ) (rows : List Row) (k at : ℕ) (h : Head) : Type 0 where
   pub rec : Rec
   pub id : ℕ
   pub count : ℕ
   pub class : ℕ
   pub types : List SlotType
-  pub good : Good (envOf s rows) k rec id count class types
+  pub good : Good τ (envOf s rows) k rec id count class types
   pub told : Told s k at h rec id count class types
 
 -- the fields that tell of a good record
-pub record There (s : List ℕ) (rows : List Row) (k at : ℕ) (r : Rec) (id count class : ℕ) (ts : List SlotType) : Type 0 where
+pub record There (τ : Terms) (s : List ℕ) (rows : List Row) (k at : ℕ) (r : Rec) (id count class : ℕ) (ts : List SlotType) : Type 0 where
   pub head : Head
-  pub taken : headingAt s rows k at ≡ H.Fields head
+  pub taken : headingAt τ s rows k at ≡ H.Fields head
   pub told : Told s k at head r id count class ts
 
 -- ---- slots

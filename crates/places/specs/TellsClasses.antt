@@ -6,6 +6,7 @@ use mathlib.Core.Bool.{Bool, true, false}
 use mathlib.Core.List.{List, [], _∷_}
 use lib.ListN.{length, getD}
 use lib.Dec.{eqb}
+use Rattle.format.specs.Terms.{Terms}
 use Rattle.format.specs.declared.SlotType.{SlotType}
 use Rattle.format.specs.declared.Field.the-variants as F
 use Rattle.format.specs.declared.Head.{Head}
@@ -29,30 +30,30 @@ use Rattle.places.specs.Classes.{ClassAt, class-back}
 use Rattle.places.specs.Recs.{is-class-by-id, is-system-class, is-library-class, Back, classHead, class-head-told, by-id-told}
 use Rattle.places.specs.Tells.{Said, said-number, said-field, said-if}
 
-module _ (s : List ℕ) (rows : List Row) (at : ℕ) (byte : Bytes s) (i : at < length s) where
+module _ (τ : Terms) (s : List ℕ) (rows : List Row) (at : ℕ) (byte : Bytes s) (i : at < length s) where
   -- the fields after the ObjectId of a class record, of either kind
   class-said : (P : Head → Type 0) (own : Bool) (id p : ℕ)
-      → ((e n types infos x : ℕ) (ms : List (Member Prefixed ℕ)) → ClassAt s rows (prefixedAt s p) ms p x n types infos
+      → ((e n types infos x : ℕ) (ms : List (Member Prefixed ℕ)) → ClassAt τ s rows (prefixedAt s p) ms p x n types infos
       → afterInfos own s rows x ≡ F.End e → P (classHead s id n types infos e))
-      → Said P (namedClassAt s rows own id p)
+      → Said P (namedClassAt τ s rows own id p)
   unfolding namedClassAt membersAt
   class-said P own id p f =
-      said-field P _ (nameAt s p) (λ q a.
+      said-field P _ (nameAt (τ .setting) s p) (λ q a.
       said-number P _ (u32At s q) (λ n r b.
       said-if P (negative n) _ _ (λ t. tt) (λ c.
-      said-field P _ (times (nameAt s) n r) (λ types d.
+      said-field P _ (times (nameAt (τ .setting) s) n r) (λ types d.
       said-field P _ (times (typeByteAt s) n types) (λ infos g.
-      said-field P _ (infosAt s rows n types infos) (λ x h.
+      said-field P _ (infosAt τ s rows n types infos) (λ x h.
       said-field P _ (afterInfos own s rows x) (λ e k.
-      f e n types infos x (membersIn s n r types infos) (class-back s rows p q n r types infos x byte a b c d g h) k)))))))
+      f e n types infos x (membersIn s n r types infos) (class-back τ s rows p q n r types infos x byte a b c d g h) k)))))))
 
-  pub system-class-back : getD s at 0 ≡ 4 → Said (Back s rows 4 at) (classAt s rows false at)
+  pub system-class-back : getD s at 0 ≡ 4 → Said (Back τ s rows 4 at) (classAt τ s rows false at)
   unfolding classAt namedClassAt enc
   system-class-back g =
-      said-number (Back s rows 4 at) _ (u32At s (at + 1)) (λ id p q.
+      said-number (Back τ s rows 4 at) _ (u32At s (at + 1)) (λ id p q.
       let a = number-back s (at + 1) id p byte q in
-      said-if (Back s rows 4 at) (goodClassId rows id) _ _ (λ t.
-      class-said (Back s rows 4 at) false id p (λ e n types infos x ms c k.
+      said-if (Back τ s rows 4 at) (goodClassId rows id) _ _ (λ t.
+      class-said (Back τ s rows 4 at) false id p (λ e n types infos x ms c k.
       let z : x ≡ e = cc in
       let w : Stand s (classBytes (prefixedAt s p) ms) p e = rw (← z) (c .stands) in
       record {
@@ -67,13 +68,13 @@ module _ (s : List ℕ) (rows : List Row) (at : ℕ) (byte : Bytes s) (i : at < 
       }))
       (λ t. tt))
 
-  pub library-class-back : getD s at 0 ≡ 5 → Said (Back s rows 5 at) (classAt s rows true at)
+  pub library-class-back : getD s at 0 ≡ 5 → Said (Back τ s rows 5 at) (classAt τ s rows true at)
   unfolding classAt namedClassAt enc
   library-class-back g =
-      said-number (Back s rows 5 at) _ (u32At s (at + 1)) (λ id p q.
+      said-number (Back τ s rows 5 at) _ (u32At s (at + 1)) (λ id p q.
       let a = number-back s (at + 1) id p byte q in
-      said-if (Back s rows 5 at) (goodClassId rows id) _ _ (λ t.
-      class-said (Back s rows 5 at) true id p (λ e n types infos x ms c k.
+      said-if (Back τ s rows 5 at) (goodClassId rows id) _ _ (λ t.
+      class-said (Back τ s rows 5 at) true id p (λ e n types infos x ms c k.
       let l = library-back s rows x e byte k in
       record {
         rec = libraryClass id (prefixedAt s p) ms (numberFrom s x);
@@ -88,15 +89,15 @@ module _ (s : List ℕ) (rows : List Row) (at : ℕ) (byte : Bytes s) (i : at < 
       }))
       (λ t. tt))
 
-  pub class-by-id-back : getD s at 0 ≡ 1 → Said (Back s rows 1 at) (classByIdAt s rows at)
+  pub class-by-id-back : getD s at 0 ≡ 1 → Said (Back τ s rows 1 at) (classByIdAt s rows at)
   unfolding classByIdAt enc
   class-by-id-back g =
-      said-number (Back s rows 1 at) _ (u32At s (at + 1)) (λ id p q.
+      said-number (Back τ s rows 1 at) _ (u32At s (at + 1)) (λ id p q.
       let a = number-back s (at + 1) id p byte q in
-      said-if (Back s rows 1 at) (goodClassId rows id) _ _ (λ t.
-      said-number (Back s rows 1 at) _ (u32At s p) (λ k e r.
+      said-if (Back τ s rows 1 at) (goodClassId rows id) _ _ (λ t.
+      said-number (Back τ s rows 1 at) _ (u32At s p) (λ k e r.
       let b = number-back s p k e byte r in
-      said-if (Back s rows 1 at) (eqb (classRow k rows) 0) _ _ (λ u. tt) (λ u.
+      said-if (Back τ s rows 1 at) (eqb (classRow k rows) 0) _ _ (λ u. tt) (λ u.
       record {
         rec = classById id k;
         id = id;

@@ -29,11 +29,11 @@ head-at s p b l e =
 
 -- ---- only the bytes that are taken
 
-module _ (set : Setting) (s t rest : List ℕ) where
+module _ (σ : Setting) (s t rest : List ℕ) where
   -- the same bytes at any place of t give the same number
   record Alike (k least p n e : ℕ) : Type 0 where
     after : p < e
-    same : (q : ℕ) → drop q t ≡ part s p (e - p) ++ rest → prefixIn k least (laterLeast set) t q ≡ P.Length n (q + (e - p))
+    same : (q : ℕ) → drop q t ≡ part s p (e - p) ++ rest → prefixIn k least (laterLeast σ) t q ≡ P.Length n (q + (e - p))
 
   stands : (p e q : ℕ) → p < length s → p < e → drop q t ≡ part s p (e - p) ++ rest → Head t q (getD s p 0) (part s (p + 1) (e - (p + 1)) ++ rest)
   stands p e q i h d = head-at t q (getD s p 0) (part s (p + 1) (e - (p + 1)) ++ rest) (d ∙ rw (part-to s p e i h))
@@ -42,24 +42,24 @@ module _ (set : Setting) (s t rest : List ℕ) where
   alike-one k least p i l h f = record { after = omega arith; same = λ q d. go k f q (stands p (p + 1) q i (omega arith) d) }
     where
       go : (k : ℕ) → (k ≡ 0 → getD s p 0 < 8) → (q : ℕ) → Head t q (getD s p 0) (part s (p + 1) (p + 1 - (p + 1)) ++ rest)
-          → prefixIn k least (laterLeast set) t q ≡ P.Length (getD s p 0) (q + (p + 1 - p))
+          → prefixIn k least (laterLeast σ) t q ≡ P.Length (getD s p 0) (q + (p + 1 - p))
       go zero f q b =
-          fifth least (laterLeast set) t q (b .inside) (rw (b .byte) l) 0 refl (rw (b .byte) (f refl)) ∙ ap₂ P.Length (b .byte) (omega arith)
+          fifth least (laterLeast σ) t q (b .inside) (rw (b .byte) l) 0 refl (rw (b .byte) (f refl)) ∙ ap₂ P.Length (b .byte) (omega arith)
       go (suc k) f q b =
-          last least (laterLeast set) t q (b .inside) (rw (b .byte) l) (suc k) (omega arith) (rw (b .byte) h) ∙ ap₂ P.Length (b .byte) (omega arith)
+          last least (laterLeast σ) t q (b .inside) (rw (b .byte) l) (suc k) (omega arith) (rw (b .byte) h) ∙ ap₂ P.Length (b .byte) (omega arith)
 
-  alike-on : On (laterLeast set) s Alike
+  alike-on : On (laterLeast σ) s Alike
   alike-on k least p m e i l h a = record { after = omega (arith, a .after); same = go }
     where
-      go : (q : ℕ) → drop q t ≡ part s p (e - p) ++ rest → prefixIn (suc k) least (laterLeast set) t q ≡ P.Length (getD s p 0 % 128 + 128 * m) (q + (e - p))
+      go : (q : ℕ) → drop q t ≡ part s p (e - p) ++ rest → prefixIn (suc k) least (laterLeast σ) t q ≡ P.Length (getD s p 0 % 128 + 128 * m) (q + (e - p))
       go q d =
           let b = stands p e q i (omega (arith, a .after)) d in
           let j : suc k - 1 ≡ k = omega arith in
           let r = a .same (q + 1) (b .rest) in
-          rw (more least (laterLeast set) t q (b .inside) (rw (b .byte) l) (suc k) (omega arith) (rw (b .byte) h), b .byte, j, r)
+          rw (more least (laterLeast σ) t q (b .inside) (rw (b .byte) l) (suc k) (omega arith) (rw (b .byte) h), b .byte, j, r)
           (ap (P.Length (getD s p 0 % 128 + 128 * m)) (omega (arith, a .after)))
 
-  pub only : (p q n e : ℕ) → prefixAt set s p ≡ P.Length n e → drop q t ≡ part s p (e - p) ++ rest → prefixAt set t q ≡ P.Length n (q + (e - p))
+  pub only : (p q n e : ℕ) → prefixAt σ s p ≡ P.Length n e → drop q t ≡ part s p (e - p) ++ rest → prefixAt σ t q ≡ P.Length n (q + (e - p))
   only p q n e a d =
-      let x : Alike 4 0 p n e = rw a at (every (laterLeast set) s Alike alike-one alike-on 4 0 p) in
+      let x : Alike 4 0 p n e = rw a at (every (laterLeast σ) s Alike alike-one alike-on 4 0 p) in
       x .same q d

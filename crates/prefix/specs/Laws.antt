@@ -188,18 +188,19 @@ module _ (later lower : ℕ) (s : List ℕ) (l : lower ≤ later) where
       ))
 
 -- ---- for a caller that has matched on the answer
-module _ (set : Setting) (s : List ℕ) (p n e : ℕ) (q : prefixAt set s p ≡ P.Length n e) where
+module _ (σ : Setting) (s : List ℕ) (p n e : ℕ) (q : prefixAt σ s p ≡ P.Length n e) where
   pub moves : (p < e) × (e ≤ length s) × (e ≤ p + 5)
-  moves = rw q at (within 4 0 (laterLeast set) s p)
+  moves = rw q at (within 4 0 (laterLeast σ) s p)
 
   pub bound : n < 2147483648
-  bound = rw q at (bounded 4 0 (laterLeast set) s p)
+  bound = rw q at (bounded 4 0 (laterLeast σ) s p)
 
 -- a later last group is asked to be 1 at most
-pub later-most : (set : Setting) → laterLeast set ≤ 1
+pub later-most : (σ : Setting) → laterLeast σ ≤ 1
 later-most S.Strict = omega arith
 later-most S.Lenient = omega arith
 
--- what strict reads, lenient reads alike
-pub lenient-alike : (s : List ℕ) (p n e : ℕ) → prefixAt S.Strict s p ≡ P.Length n e → prefixAt S.Lenient s p ≡ P.Length n e
-lenient-alike s p n e q = rw q at (falls 1 0 s (omega arith) 4 0 0 p (omega arith))
+-- what is read under either setting, lenient reads alike
+pub lenient-alike : (σ : Setting) (s : List ℕ) (p n e : ℕ) → prefixAt σ s p ≡ P.Length n e → prefixAt S.Lenient s p ≡ P.Length n e
+lenient-alike S.Strict s p n e q = rw q at (falls 1 0 s (omega arith) 4 0 0 p (omega arith))
+lenient-alike S.Lenient s p n e q = q

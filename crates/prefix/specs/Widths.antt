@@ -65,7 +65,7 @@ floor-up least later (suc k) g m f =
     record { first = λ z. absurd (omega arith); others = λ i l. rw (pow-suc 128 (suc k)) (omega (arith, f .others (omega arith) l)) }
 
 -- the widths of the grammar say the same
-width-floor : (set : Setting) (k n : ℕ) → Width set (suc k) n → Floor 0 (laterLeast set) k n
+width-floor : (σ : Setting) (k n : ℕ) → Width σ (suc k) n → Floor 0 (laterLeast σ) k n
 width-floor S.Strict k n w = record { first = λ z. omega arith; others = λ i l. go i (decLt n (128 ^ k)) }
   where
     go : 0 < k → Dec (n < 128 ^ k) → 128 ^ k ≤ n
@@ -73,12 +73,12 @@ width-floor S.Strict k n w = record { first = λ z. omega arith; others = λ i l
     go i (no y) = omega arith
 width-floor S.Lenient k n w = record { first = λ z. omega arith; others = λ i l. absurd (omega arith) }
 
-floor-width : (set : Setting) (k n : ℕ) → k ≤ 4 → n < 128 ^ suc k → Floor 0 (laterLeast set) k n → Width set (suc k) n
-floor-width set k n h b f = record { some = omega arith; most = omega arith; holds = b; least = λ q v i l. go q v i l (decLt v (suc k)) }
+floor-width : (σ : Setting) (k n : ℕ) → k ≤ 4 → n < 128 ^ suc k → Floor 0 (laterLeast σ) k n → Width σ (suc k) n
+floor-width σ k n h b f = record { some = omega arith; most = omega arith; holds = b; least = λ q v i l. go q v i l (decLt v (suc k)) }
   where
-    go : set ≡ S.Strict → (v : ℕ) → 0 < v → n < 128 ^ v → Dec (v < suc k) → suc k ≤ v
+    go : σ ≡ S.Strict → (v : ℕ) → 0 < v → n < 128 ^ v → Dec (v < suc k) → suc k ≤ v
     go q v i l (yes y) =
-        let o : 0 < laterLeast set = rw q (omega arith) in
+        let o : 0 < laterLeast σ = rw q (omega arith) in
         let a = f .others (omega arith) o in
         let c : 128 ^ v ≤ 128 ^ k = pow-le-pow-right (omega arith) (omega arith) in
         absurd (omega arith)
@@ -109,19 +109,19 @@ module _ (later : ℕ) (s rest : List ℕ) (small : later ≤ 1) where
       )
       (ap₂ P.Length (omega arith) (omega arith))
 
-pub width-written : (set : Setting) (w n : ℕ) (s rest : List ℕ) (p : ℕ) → Width set w n → n < 2147483648 → drop p s ≡ prefixOf w n ++ rest
-    → prefixAt set s p ≡ P.Length n (p + w)
-width-written set zero n s rest p w h d = absurd (omega (arith, w .some))
-width-written set (suc k) n s rest p w h d =
-    read-in (laterLeast set) s rest (later-most set) k 4 0 n p (omega arith) (omega (arith, w .most)) (w .holds) (omega arith) (width-floor set k n w)
+pub width-written : (σ : Setting) (w n : ℕ) (s rest : List ℕ) (p : ℕ) → Width σ w n → n < 2147483648 → drop p s ≡ prefixOf w n ++ rest
+    → prefixAt σ s p ≡ P.Length n (p + w)
+width-written σ zero n s rest p w h d = absurd (omega (arith, w .some))
+width-written σ (suc k) n s rest p w h d =
+    read-in (laterLeast σ) s rest (later-most σ) k 4 0 n p (omega arith) (omega (arith, w .most)) (w .holds) (omega arith) (width-floor σ k n w)
     (d ∙ rw (of-some k n))
 
 -- ---- what is read is written in a width
 
 -- n is read from p to e in a width that the setting allows, and these are its bytes
-pub record WidthRead (set : Setting) (s : List ℕ) (p n e : ℕ) : Type 0 where
+pub record WidthRead (σ : Setting) (s : List ℕ) (p n e : ℕ) : Type 0 where
   pub after : p < e
-  pub width : Width set (e - p) n
+  pub width : Width σ (e - p) n
   pub bytes : drop p s ≡ prefixOf (e - p) n ++ drop e s
   pub number : n < 2147483648
 
@@ -158,18 +158,18 @@ module _ (later : ℕ) (s : List ℕ) (byte : (i : ℕ) → getD s i 0 < 256) wh
         bytes = rw (drop-cons s p 0 i, ← add-one p, in-more (t .follow) n, a, b) (ap (λ (r : List ℕ). getD s p 0 ∷ r) (t .bytes));
       }
 
-pub width-read : (set : Setting) (s : List ℕ) → ((i : ℕ) → getD s i 0 < 256) → (p n e : ℕ) → prefixAt set s p ≡ P.Length n e → WidthRead set s p n e
-width-read set s byte p n e q =
-    let r = laterLeast set in
+pub width-read : (σ : Setting) (s : List ℕ) → ((i : ℕ) → getD s i 0 < 256) → (p n e : ℕ) → prefixAt σ s p ≡ P.Length n e → WidthRead σ s p n e
+width-read σ s byte p n e q =
+    let r = laterLeast σ in
     let t : Took r s byte 4 0 p n e = rw q at (every r s (Took r s byte) (took-one r s byte) (took-on r s byte) 4 0 p) in
-    let m = moves set s p n e q in
+    let m = moves σ s p n e q in
     let k = t .follow in
     let d : e - p ≡ suc k = omega (arith, t .ends) in
     record {
       after = m .0;
-      width = rw d (floor-width set k n (omega (arith, t .ends)) (t .holds) (t .floor));
+      width = rw d (floor-width σ k n (omega (arith, t .ends)) (t .holds) (t .floor));
       bytes = rw (d, of-some k n) (t .bytes);
-      number = bound set s p n e q;
+      number = bound σ s p n e q;
     }
 
 -- ---- the shortest width
@@ -224,11 +224,11 @@ module _ (n : ℕ) (h : n < 2147483648) where
   shortest-bytes = rw (short-length, of-some (short-five .follow) n) (sym (short-five .same))
 
   -- either setting takes it
-  pub shortest-width : (set : Setting) → Width set (length (prefixBytes n)) n
-  shortest-width set =
+  pub shortest-width : (σ : Setting) → Width σ (length (prefixBytes n)) n
+  shortest-width σ =
       let t = short-five in
-      let f : Floor 0 (laterLeast set) (t .follow) n = record { first = λ z. omega arith; others = λ i l. t .floor .others i (omega arith) } in
-      rw short-length (floor-width set (t .follow) n (t .most) (t .holds) f)
+      let f : Floor 0 (laterLeast σ) (t .follow) n = record { first = λ z. omega arith; others = λ i l. t .floor .others i (omega arith) } in
+      rw short-length (floor-width σ (t .follow) n (t .most) (t .holds) f)
 
   -- and strict no other
   pub strict-width : (w : ℕ) → Width S.Strict w n → w ≡ length (prefixBytes n)
@@ -239,5 +239,5 @@ module _ (n : ℕ) (h : n < 2147483648) where
       omega arith
 
 -- what strict takes, either setting takes
-pub lenient-width : (set : Setting) (w n : ℕ) → Width S.Strict w n → Width set w n
-lenient-width set w n a = record { some = a .some; most = a .most; holds = a .holds; least = λ q. a .least refl }
+pub lenient-width : (σ : Setting) (w n : ℕ) → Width S.Strict w n → Width σ w n
+lenient-width σ w n a = record { some = a .some; most = a .most; holds = a .holds; least = λ q. a .least refl }

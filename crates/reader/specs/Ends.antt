@@ -6,6 +6,7 @@ use mathlib.Core.List.{List, _++_}
 use native.Mathlib.Omega.{arith}
 use lib.ListN.{length, getD, replicate}
 use borrow.Author.Tests.{lt-ltb, le-ltb, eq-eqb, ne-eqb}
+use Rattle.format.specs.Terms.{Terms}
 use Rattle.format.specs.declared.Refusal.{Refusal}
 use Rattle.format.specs.declared.Refusal.the-variants as R
 use Rattle.format.specs.declared.ReadAnswer.{ReadAnswer}
@@ -34,9 +35,9 @@ abbrev pub endBy : Bool → Outcome → Outcome
 endBy keep (accepted rows) = accepted (pick keep (bound rows) (linked rows))
 endBy keep (refused r place) = refused r place
 
-pub linked-end : (s : List ℕ) (room : ℕ) → endBy false (rawOf s room) ≡ readOf s room
+pub linked-end : (τ : Terms) (s : List ℕ) (room : ℕ) → endBy false (rawOf τ s room) ≡ readOf τ s room
 unfolding readOf
-linked-end s room = go (rawOf s room)
+linked-end τ s room = go (rawOf τ s room)
   where
     go : (o : Outcome) → endBy false o ≡ withLinks o
     go (accepted rows) = refl
@@ -81,40 +82,39 @@ module _ (s : List ℕ) (rows : List Row) (at : ℕ) where
 
 -- ---- the header, and the limit
 
-pub too-large : (s : List ℕ) (room : ℕ) → 16777216 < length s → refused R.TooLarge 0 ≡ rawOf s room
+pub too-large : (τ : Terms) (s : List ℕ) (room : ℕ) → 16777216 < length s → refused R.TooLarge 0 ≡ rawOf τ s room
 unfolding rawOf
-too-large s room h = rw (lt-ltb 16777216 (length s) h)
+too-large τ s room h = rw (lt-ltb 16777216 (length s) h)
 
 -- the reader at the start holds the machine's start
 pub fresh-start : (t f : List ℕ) (m : Reader) → m ≡ record { at = 0; rows = 0; depth = 0; top = topLevel } → stateOf t f m ≡ start
 unfolding rowsOf saved
 fresh-start t f m e = rw e
 
-module _ (s t u f g : List ℕ) (m : Reader) (l : length s ≤ 16777216) (z : m ≡ record { at = 0; rows = 0; depth = 0; top = topLevel }) (q : Step)
-    (e : after u g q ≡ recordStep s (roomOf t) (stateOf t f m) W.Start) where
+module _ (τ : Terms) (s t u f g : List ℕ) (m : Reader) (l : length s ≤ 16777216) (z : m ≡ record { at = 0; rows = 0; depth = 0; top = topLevel }) (q : Step) (e : after u g q ≡ recordStep τ s (roomOf t) (stateOf t f m) W.Start) where
   -- what the header's step says of the whole
-  told : begin s (roomOf t) (after u g q) ≡ rawOf s (roomOf t)
+  told : begin τ s (roomOf t) (after u g q) ≡ rawOf τ s (roomOf t)
   unfolding rawOf
   told =
-      rw (le-ltb 16777216 (length s) l) (ap (begin s (roomOf t)) (e ∙ ap (λ (st : State). recordStep s (roomOf t) st W.Start) (fresh-start t f m z)))
+      rw (le-ltb 16777216 (length s) l) (ap (begin τ s (roomOf t)) (e ∙ ap (λ (st : State). recordStep τ s (roomOf t) st W.Start) (fresh-start t f m z)))
 
-  begun : begin s (roomOf t) (after u g q) ≡ rawOf s (roomOf t) → (x : Step) → q ≡ x → begin s (roomOf t) (after u g x) ≡ rawOf s (roomOf t)
-  begun k x c = ap (λ (y : Step). begin s (roomOf t) (after u g y)) (sym c) ∙ k
+  begun : begin τ s (roomOf t) (after u g q) ≡ rawOf τ s (roomOf t) → (x : Step) → q ≡ x → begin τ s (roomOf t) (after u g x) ≡ rawOf τ s (roomOf t)
+  begun k x c = ap (λ (y : Step). begin τ s (roomOf t) (after u g y)) (sym c) ∙ k
 
   fine₀ : Fine s (roomOf t) start
   fine₀ = record { inside = omega arith; counted = omega arith; roomy = omega arith; shallow = omega arith }
 
   headed : NextFine s (roomOf t) 0 (after u g q)
   headed =
-      subst (λ (x : Next). NextFine s (roomOf t) 0 x) (sym (e ∙ ap (λ (st : State). recordStep s (roomOf t) st W.Start) (fresh-start t f m z)))
-      (record-fine s (roomOf t) start fine₀ W.Start)
+      subst (λ (x : Next). NextFine s (roomOf t) 0 x) (sym (e ∙ ap (λ (st : State). recordStep τ s (roomOf t) st W.Start) (fresh-start t f m z)))
+      (record-fine τ s (roomOf t) start fine₀ W.Start)
 
-  pub head-on : (n : Reader) → q ≡ Q.Go n → length g ≡ 384 → Runs s (roomOf t) (rawOf s (roomOf t)) u g n
+  pub head-on : (n : Reader) → q ≡ Q.Go n → length g ≡ 384 → Runs τ s (roomOf t) (rawOf τ s (roomOf t)) u g n
   head-on n c d =
       let w : NextFine s (roomOf t) 0 (go (stateOf u g n)) = subst (λ (x : Step). NextFine s (roomOf t) 0 (after u g x)) c headed in
       record { framed = d; fine = w .0; fuel = length s; enough = omega arith; same = begun told (Q.Go n) c }
 
-  pub head-end : (n p : ℕ) → q ≡ Q.Ended n p → finish s (rowsOf n u) p ≡ rawOf s (roomOf t)
+  pub head-end : (n p : ℕ) → q ≡ Q.Ended n p → finish s (rowsOf n u) p ≡ rawOf τ s (roomOf t)
   head-end n p c = begun told (Q.Ended n p) c
 
   pub head-roomy : (n p : ℕ) → q ≡ Q.Ended n p → (n ≤ roomOf t) × (n ≤ length s)
@@ -125,19 +125,19 @@ module _ (s t u f g : List ℕ) (m : Reader) (l : length s ≤ 16777216) (z : m 
       let b = w .1 in
       (omega arith, omega arith)
 
-  pub head-bad : (r : Refusal) (p : ℕ) → q ≡ Q.Refuse r p → refused r p ≡ rawOf s (roomOf t)
+  pub head-bad : (r : Refusal) (p : ℕ) → q ≡ Q.Refuse r p → refused r p ≡ rawOf τ s (roomOf t)
   head-bad r p c = begun told (Q.Refuse r p) c
 
 -- the same, said of the room that the table has now
-pub runs-room : (s t u g : List ℕ) (n : Reader) → length u ≡ length t → Runs s (roomOf t) (rawOf s (roomOf t)) u g n → Runs s (roomOf u) (rawOf s (roomOf u)) u g n
-runs-room s t u g n l w = subst (λ (k : ℕ). Runs s (k / 8) (rawOf s (k / 8)) u g n) (sym l) w
+pub runs-room : (τ : Terms) (s t u g : List ℕ) (n : Reader) → length u ≡ length t → Runs τ s (roomOf t) (rawOf τ s (roomOf t)) u g n → Runs τ s (roomOf u) (rawOf τ s (roomOf u)) u g n
+runs-room τ s t u g n l w = subst (λ (k : ℕ). Runs τ s (k / 8) (rawOf τ s (k / 8)) u g n) (sym l) w
 
 pub fresh-held : (room : ℕ) (m : Reader) → m ≡ record { at = 0; rows = 0; depth = 0; top = topLevel } → Held room m
 fresh-held room m e = rw e (record { inside = omega arith; counted = omega arith; roomy = omega arith; shallow = omega arith })
 
-pub answered-room : (keep : Bool) (s t u v : List ℕ) (r : ReadAnswer) → length u ≡ length t → (outcomeOf v r ≡ endBy keep (rawOf s (roomOf u))) × Within (roomOf u) r
-    → (outcomeOf v r ≡ endBy keep (rawOf s (roomOf t))) × Within (roomOf t) r
-answered-room keep s t u v r l w = subst (λ (k : ℕ). (outcomeOf v r ≡ endBy keep (rawOf s (k / 8))) × Within (k / 8) r) l w
+pub answered-room : (τ : Terms) (keep : Bool) (s t u v : List ℕ) (r : ReadAnswer) → length u ≡ length t → (outcomeOf v r ≡ endBy keep (rawOf τ s (roomOf u))) × Within (roomOf u) r
+    → (outcomeOf v r ≡ endBy keep (rawOf τ s (roomOf t))) × Within (roomOf t) r
+answered-room τ keep s t u v r l w = subst (λ (k : ℕ). (outcomeOf v r ≡ endBy keep (rawOf τ s (k / 8))) × Within (k / 8) r) l w
 
 -- ---- the answer and the words
 

@@ -8,6 +8,7 @@ use native.Mathlib.Omega.{arith}
 use lib.ListN.{length, getD, length-append}
 use lib.Dec.{ltb, eqb}
 use borrow.Author.Tests.{ltb-true}
+use Rattle.format.specs.Terms.{Terms}
 use Rattle.format.specs.declared.Refusal.the-variants as R
 use Rattle.format.specs.declared.PrimitiveCode.{PrimitiveCode}
 use Rattle.format.specs.declared.SlotType.{SlotType}
@@ -62,7 +63,7 @@ filled-shallow o k t = close-shallow (filledBy (o .cur) k t) (o .below)
 
 -- ---- the parts of a step
 
-module _ (s : List ℕ) (room : ℕ) (st : State) (w : Fine s room st) where
+module _ (τ : Terms) (s : List ℕ) (room : ℕ) (st : State) (w : Fine s room st) where
   add-fine : (r : Row) (o : Open) → st .at < r .end → r .end ≤ length s → length (o .below) ≤ 64 → NextFine s room (st .at) (add room st r o)
   unfolding add
   add-fine r o a b d =
@@ -117,26 +118,26 @@ module _ (s : List ℕ) (room : ℕ) (st : State) (w : Fine s room st) where
       (λ x. slots-fine kind h (e .0) (e .1) 1 (moved s (st .stack .cur .typed))))))
   act-fine kind (H.Bad f) e = tt
 
-  kind-fine : (k : Kind) → st .at < length s → NextFine s room (st .at) (onKind s room st k)
-  kind-fine (K.Taken k) i = act-fine k (headingAt s (st .rows) k (st .at)) (heading-ends s (st .rows) k (st .at) i)
+  kind-fine : (k : Kind) → st .at < length s → NextFine s room (st .at) (onKind τ s room st k)
+  kind-fine (K.Taken k) i = act-fine k (headingAt τ s (st .rows) k (st .at)) (heading-ends τ s (st .rows) k (st .at) i)
   kind-fine (K.Wrong f) i = tt
 
-  pub record-fine : (v : Where) → NextFine s room (st .at) (recordStep s room st v)
+  pub record-fine : (v : Where) → NextFine s room (st .at) (recordStep τ s room st v)
   unfolding recordStep kindAt
   record-fine v =
-      picked (λ (k : Kind). NextFine s room (st .at) (onKind s room st k)) (ltb (st .at) (length s))
+      picked (λ (k : Kind). NextFine s room (st .at) (onKind τ s room st k)) (ltb (st .at) (length s))
       (λ t. kind-fine (kindOf v (getD s (st .at) 0)) (ltb-true (st .at) (length s) t))
       (λ t. tt)
 
-  value-fine : (c : PrimitiveCode) (v : Field) → valueAt s c (st .at) ≡ v → NextFine s room (st .at) (onValue s room st c v)
+  value-fine : (c : PrimitiveCode) (v : Field) → valueAt (τ .setting) s c (st .at) ≡ v → NextFine s room (st .at) (onValue s room st c v)
   value-fine c (F.End end) e =
-      let m = value-moves s c (st .at) end e in
+      let m = value-moves (τ .setting) s c (st .at) end e in
       slots-fine 32 (valueHead c end) (m .0) (m .1) 1 (moved s (st .stack .cur .typed))
   value-fine c (F.Fault f) e = tt
 
-  slot-fine : (t : SlotType) → NextFine s room (st .at) (bySlot s room st t)
+  slot-fine : (t : SlotType) → NextFine s room (st .at) (bySlot τ s room st t)
   unfolding valueStep
-  slot-fine (S.Primitive c) = value-fine c (valueAt s c (st .at)) refl
+  slot-fine (S.Primitive c) = value-fine c (valueAt (τ .setting) s c (st .at)) refl
   slot-fine S.Text = record-fine (whereIn (st .stack .below) W.StringSlot)
   slot-fine S.Object = record-fine (whereIn (st .stack .below) W.ObjectSlot)
   slot-fine S.SystemClass = record-fine (whereIn (st .stack .below) W.ObjectSlot)
@@ -146,6 +147,6 @@ module _ (s : List ℕ) (room : ℕ) (st : State) (w : Fine s room st) where
   slot-fine (S.PrimitiveArray c) = record-fine (whereIn (st .stack .below) W.ArraySlot)
 
   -- a step keeps what holds between two steps, and takes a byte or more
-  pub step-fine : NextFine s room (st .at) (step s room st)
+  pub step-fine : NextFine s room (st .at) (step τ s room st)
   unfolding step
   step-fine = slot-fine (st .stack .cur .typed .slot)

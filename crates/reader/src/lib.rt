@@ -5,6 +5,7 @@ use format::ObjectNo;
 use format::ReadAnswer;
 use format::Reader;
 use format::Refusal;
+use format::Setting;
 ghost use mathlib.Core.Path.{_≡_};
 ghost use Prim.Native.Nat.{_≤_, _<_};
 ghost use lib.ListN.{length};
@@ -13,6 +14,7 @@ ghost use Rattle.format.specs.Machine.{finish, rawOf};
 ghost use Rattle.format.specs.Promises.{ReadPromise};
 ghost use Rattle.reader.specs.Loop.{Runs};
 ghost use Rattle.reader.specs.Ends.{outcomeOf, endBy, Within};
+ghost use Rattle.format.specs.Terms.{terms};
 
 // After the end record: trailing bytes, the root, the references; then the links.
 fn finish_rows(s: &[u8], table: &mut [u32], rows: usize, at: usize, keep: bool) -> ReadAnswer
@@ -43,14 +45,15 @@ fn drive(
     frames: &mut [u32; Reader::WORDS],
     first: Reader,
     keep: bool,
+    setting: Setting,
 ) -> ReadAnswer
-    requires { ⌜ Runs (now s) (roomOf (now table)) (rawOf (now s) (roomOf (now table))) (now table) (now frames) first × (length (now s) ≤ 16777216) ⌝ }
-    ensures { λ r. ⌜ (outcomeOf (now (table .exit)) r ≡ endBy keep (rawOf (now (s .entry)) (roomOf (now (table .entry)))))
+    requires { ⌜ Runs (terms setting) (now s) (roomOf (now table)) (rawOf (terms setting) (now s) (roomOf (now table))) (now table) (now frames) first × (length (now s) ≤ 16777216) ⌝ }
+    ensures { λ r. ⌜ (outcomeOf (now (table .exit)) r ≡ endBy keep (rawOf (terms setting) (now (s .entry)) (roomOf (now (table .entry)))))
         × Within (roomOf (now (table .entry))) r ⌝ }
 {
     let mut m = first;
     loop {
-        let q = turns::one_step(s, table, frames, m);
+        let q = turns::one_step(s, table, frames, m, setting);
         match q {
             Step::Go(n) => m = n,
             Step::Ended(rows, at) => return finish_rows(s, table, rows, at, keep),
@@ -61,8 +64,8 @@ fn drive(
 
 // The limit, the header, and all after it. The rows that are taken stand in the table; nothing is said of the words after them. With
 // keep only references and the header get links: a class's row keeps the place of its type bytes, a member value's its code.
-pub fn judge(s: &[u8], table: &mut [u32], keep: bool) -> ReadAnswer
-    ensures { λ r. ⌜ (outcomeOf (now (table .exit)) r ≡ endBy keep (rawOf (now (s .entry)) (roomOf (now (table .entry)))))
+pub fn judge(s: &[u8], table: &mut [u32], keep: bool, setting: Setting) -> ReadAnswer
+    ensures { λ r. ⌜ (outcomeOf (now (table .exit)) r ≡ endBy keep (rawOf (terms setting) (now (s .entry)) (roomOf (now (table .entry)))))
         × Within (roomOf (now (table .entry))) r ⌝ }
 {
     if Reader::LIMIT < s.len() {
@@ -70,9 +73,9 @@ pub fn judge(s: &[u8], table: &mut [u32], keep: bool) -> ReadAnswer
     }
     let mut frames = Reader::frames();
     let fresh = Reader::fresh();
-    let q = turns::header_step(s, table, &mut frames, fresh);
+    let q = turns::header_step(s, table, &mut frames, fresh, setting);
     match q {
-        Step::Go(m) => drive(s, table, &mut frames, m, keep),
+        Step::Go(m) => drive(s, table, &mut frames, m, keep, setting),
         Step::Ended(rows, at) => finish_rows(s, table, rows, at, keep),
         Step::Refuse(r, place) => ReadAnswer::Refused(r, place),
     }
@@ -80,10 +83,10 @@ pub fn judge(s: &[u8], table: &mut [u32], keep: bool) -> ReadAnswer
 
 // Reads a stream into a table of rows. Any stream and any table are taken. After a refusal every word is zero, after success the words
 // after the last row.
-pub fn read(s: &[u8], table: &mut [u32]) -> ReadAnswer
-    ensures { λ r. ⌜ ReadPromise (now (s .entry)) (now (table .entry)) r (now (table .exit)) ⌝ }
+pub fn read(s: &[u8], table: &mut [u32], setting: Setting) -> ReadAnswer
+    ensures { λ r. ⌜ ReadPromise (terms setting) (now (s .entry)) (now (table .entry)) r (now (table .exit)) ⌝ }
 {
-    let a = judge(s, table, false);
+    let a = judge(s, table, false, setting);
     match a {
         ReadAnswer::Accepted(n) => {
             table::clear_after(table, n);

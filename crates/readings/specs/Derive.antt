@@ -8,6 +8,7 @@ use native.Mathlib.Omega.{arith}
 use lib.ListN.{length, getD}
 use lib.Dec.{ltb, eqb}
 use borrow.Author.Tests.{ltb-false, eqb-true}
+use Rattle.format.specs.Terms.{Terms}
 use Rattle.format.specs.declared.Refusal.{Refusal}
 use Rattle.format.specs.declared.Refusal.the-variants as R
 use Rattle.format.specs.declared.SlotType.{SlotType}
@@ -67,16 +68,16 @@ finish-said s rows final at =
 -- ---- the steps
 
 -- the rows that come in the end
-pub record Comes (s : List ℕ) (room : ℕ) (st : State) (rows : List Row) : Type 0 where
+pub record Comes (τ : Terms) (s : List ℕ) (room : ℕ) (st : State) (rows : List Row) : Type 0 where
   pub final : List Row
-  pub goal : Goal s st final
+  pub goal : Goal τ s st final
   pub roomy : length final ≤ room
   pub finished : Finished rows final
 
-module _ (s : List ℕ) (byte : Bytes s) (room : ℕ) (rows : List Row) where
+module _ (τ : Terms) (s : List ℕ) (byte : Bytes s) (room : ℕ) (rows : List Row) where
   -- after a step
-  next-comes : (f : State → Outcome) → ((st : State) → Between st → f st ≡ accepted rows → Comes s room st rows)
-      → (st : State) (x : Next) → NextSaid room s st x → onward s f x ≡ accepted rows → Comes s room st rows
+  next-comes : (f : State → Outcome) → ((st : State) → Between st → f st ≡ accepted rows → Comes τ s room st rows)
+      → (st : State) (x : Next) → NextSaid τ room s st x → onward s f x ≡ accepted rows → Comes τ s room st rows
   next-comes f again st (go st′) w e =
       let c = again st′ (w .0) e in
       record { final = c .final; goal = w .1 (c .final) (c .goal); roomy = c .roomy; finished = c .finished }
@@ -85,10 +86,10 @@ module _ (s : List ℕ) (byte : Bytes s) (room : ℕ) (rows : List Row) where
       record { final = final; goal = w .0 (x .0); roomy = w .1; finished = x .1 }
   next-comes f again st (refuse r place) w e = no-accept r place rows e
 
-  run-comes : (k : ℕ) (st : State) → Between st → run k s room st ≡ accepted rows → Comes s room st rows
+  run-comes : (k : ℕ) (st : State) → Between st → run τ k s room st ≡ accepted rows → Comes τ s room st rows
   unfolding run
   run-comes zero st b e = no-accept R.CutShort (st .at) rows e
-  run-comes (suc k) st b e = next-comes (run k s room) (run-comes k) st (step s room st) (step-said s byte room st b) e
+  run-comes (suc k) st b e = next-comes (run τ k s room) (run-comes k) st (step τ s room st) (step-said τ s byte room st b) e
 
   -- ---- the header
 
@@ -98,51 +99,51 @@ module _ (s : List ℕ) (byte : Bytes s) (room : ℕ) (rows : List Row) where
 
   record Began : Type 0 where
     head : Head
-    back : Back s [] 0 0 head
-    ran : run (length s) s room (headed head) ≡ accepted rows
+    back : Back τ s [] 0 0 head
+    ran : run τ (length s) s room (headed head) ≡ accepted rows
 
   abbrev Begins : Next → Type 0
-  Begins x = begin s room x ≡ accepted rows → Began
+  Begins x = begin τ s room x ≡ accepted rows → Began
 
-  header-good : (h : Head) → Back s [] 0 0 h → Begins (act s room start 0 (H.Fields h))
+  header-good : (h : Head) → Back τ s [] 0 0 h → Begins (act s room start 0 (H.Fields h))
   unfolding act add filled close
   header-good h d =
       picked Begins (ltb 0 room)
       (λ t e. record {
         head = h;
         back = d;
-        ran = subst (λ (f : Frame). run (length s) s room (stateAt (h .end) (rowWith 0 h 0 (h .end) 0 0 ∷ []) (openAt f [])) ≡ accepted rows) (based-spent s topLevel [] refl) e;
+        ran = subst (λ (f : Frame). run τ (length s) s room (stateAt (h .end) (rowWith 0 h 0 (h .end) 0 0 ∷ []) (openAt f [])) ≡ accepted rows) (based-spent s topLevel [] refl) e;
       })
       (λ t e. no-accept R.NoRoom 0 rows e)
 
-  header-heading : kindAt s W.Start 0 ≡ K.Taken 0 → (x : Heading) → headingAt s [] 0 0 ≡ x → Begins (act s room start 0 x)
+  header-heading : kindAt s W.Start 0 ≡ K.Taken 0 → (x : Heading) → headingAt τ s [] 0 0 ≡ x → Begins (act s room start 0 x)
   unfolding act
-  header-heading q (H.Fields h) e = header-good h (record-told s [] W.Start 0 0 h byte q e)
+  header-heading q (H.Fields h) e = header-good h (record-told τ s [] W.Start 0 0 h byte q e)
   header-heading q (H.Bad r) e = λ z. no-accept r 0 rows z
 
-  header-kind : (x : Kind) → kindAt s W.Start 0 ≡ x → Begins (onKind s room start x)
+  header-kind : (x : Kind) → kindAt s W.Start 0 ≡ x → Begins (onKind τ s room start x)
   unfolding allowed
   header-kind (K.Taken k) q =
       let z : k ≡ 0 = eqb-true k 0 (kind-byte s W.Start 0 k q .fits) in
-      subst (λ (k : ℕ). kindAt s W.Start 0 ≡ K.Taken k → Begins (onKind s room start (K.Taken k))) (sym z) (λ q. header-heading q (headingAt s [] 0 0) refl) q
+      subst (λ (k : ℕ). kindAt s W.Start 0 ≡ K.Taken k → Begins (onKind τ s room start (K.Taken k))) (sym z) (λ q. header-heading q (headingAt τ s [] 0 0) refl) q
   header-kind (K.Wrong r) q = λ z. no-accept r 0 rows z
 
-  header-began : Begins (recordStep s room start W.Start)
+  header-began : Begins (recordStep τ s room start W.Start)
   unfolding recordStep
   header-began = header-kind (kindAt s W.Start 0) refl
 
   -- ---- the whole stream
 
-  reading-of : length s ≤ 16777216 → (h : Head) {es : List Entry} {id count class : ℕ} {r : Rec} {ts : List SlotType} → Good es 0 r id count class ts
-      → Told s 0 0 h r id count class ts → Comes s room (headed h) rows → Reading s (linked rows) × (length (linked rows) ≤ room)
+  reading-of : length s ≤ 16777216 → (h : Head) {es : List Entry} {id count class : ℕ} {r : Rec} {ts : List SlotType} → Good τ es 0 r id count class ts
+      → Told s 0 0 h r id count class ts → Comes τ s room (headed h) rows → Reading τ s (linked rows) × (length (linked rows) ≤ room)
   unfolding envFrom
   reading-of small h (is-header {root = root} {h = other} x y) t c =
       let g = c .goal in
       let row = rowWith 0 h 0 (h .end) 0 0 in
       let first : bare row ≡ rowOf 0 0 (header root other) root 0 0 0 0 = row-bare t refl 0 0 in
       let end : h .end ≡ 17 = told-end t ∙ (ap (λ (n : ℕ). 0 + n) (size-header root other)) in
-      let objects : Objects (cur 17 1 [] (g .rs) (map bare (g .later))) = subst Objects (same-cur end refl (told-env t [] 0 (h .end) 0 0)) (g .rest) in
-      let here = shown-more (bare row) (header root other) 0 0 root 0 0 0 0 first refl refl (objects-shown objects) in
+      let objects : Objects τ (cur 17 1 [] (g .rs) (map bare (g .later))) = subst (Objects τ) (same-cur end refl (told-env t [] 0 (h .end) 0 0)) (g .rest) in
+      let here = shown-more (bare row) (header root other) 0 0 root 0 0 0 0 first refl refl (objects-shown τ objects) in
       let shown = shown-bare (header root other ∷ g .rs) (row ∷ g .later) here in
       let f : Finished rows (row ∷ g .later) = subst (Finished rows) (g .rows-are) (c .finished) in
       let n : length (linked rows) ≡ length (c .final) = length-linked rows ∙ ap length (c .finished .same) in
@@ -165,7 +166,7 @@ module _ (s : List ℕ) (byte : Bytes s) (room : ℕ) (rows : List Row) where
           objects-are = objects;
           rooted = rooted;
           targets = targets;
-          links-are = subst (Links (header root other ∷ g .rs) bared) (sym same) (linked-links root other (g .rs) (map bare (g .later)) objects rooted targets);
+          links-are = subst (Links (header root other ∷ g .rs) bared) (sym same) (linked-links τ root other (g .rs) (map bare (g .later)) objects rooted targets);
         },
         omega arith,
       )
@@ -174,22 +175,22 @@ module _ (s : List ℕ) (byte : Bytes s) (room : ℕ) (rows : List Row) where
   begun h = record { later = (λ t. apart t, tt); shaped = record { tight = tt; based = refl } }
 
 -- a stream that is accepted has a reading with these rows, and they fit the table
-raw-reading : (s : List ℕ) → Bytes s → (room : ℕ) (raw : List Row) → rawOf s room ≡ accepted raw → Reading s (linked raw) × (length (linked raw) ≤ room)
+raw-reading : (τ : Terms) (s : List ℕ) → Bytes s → (room : ℕ) (raw : List Row) → rawOf τ s room ≡ accepted raw → Reading τ s (linked raw) × (length (linked raw) ≤ room)
 unfolding rawOf
-raw-reading s byte room raw =
-    let P : Outcome → Type 0 = λ (x : Outcome). x ≡ accepted raw → Reading s (linked raw) × (length (linked raw) ≤ room) in
+raw-reading τ s byte room raw =
+    let P : Outcome → Type 0 = λ (x : Outcome). x ≡ accepted raw → Reading τ s (linked raw) × (length (linked raw) ≤ room) in
     picked P (ltb 16777216 (length s)) (λ t e. no-accept R.TooLarge 0 raw e)
     (λ t e.
-    let a = header-began s byte room raw e in
-    reading-of s byte room raw (ltb-false 16777216 (length s) t) (a .head) (a .back .good) (a .back .told)
-    (run-comes s byte room raw (length s) (headed s byte room raw (a .head)) (begun s byte room raw (a .head)) (a .ran)))
+    let a = header-began τ s byte room raw e in
+    reading-of τ s byte room raw (ltb-false 16777216 (length s) t) (a .head) (a .back .good) (a .back .told)
+    (run-comes τ s byte room raw (length s) (headed τ s byte room raw (a .head)) (begun τ s byte room raw (a .head)) (a .ran)))
 
-pub accepted-reading : (s : List ℕ) → Bytes s → (room : ℕ) (rows : List Row) → readOf s room ≡ accepted rows → Reading s rows × (length rows ≤ room)
+pub accepted-reading : (τ : Terms) (s : List ℕ) → Bytes s → (room : ℕ) (rows : List Row) → readOf τ s room ≡ accepted rows → Reading τ s rows × (length rows ≤ room)
 unfolding readOf
-accepted-reading s byte room rows = go (rawOf s room) refl
+accepted-reading τ s byte room rows = go (rawOf τ s room) refl
   where
-    go : (o : Outcome) → rawOf s room ≡ o → withLinks o ≡ accepted rows → Reading s rows × (length rows ≤ room)
+    go : (o : Outcome) → rawOf τ s room ≡ o → withLinks o ≡ accepted rows → Reading τ s rows × (length rows ≤ room)
     go (accepted raw) q e =
         let same : linked raw ≡ rows = cc in
-        subst (λ (rows : List Row). Reading s rows × (length rows ≤ room)) same (raw-reading s byte room raw q)
+        subst (λ (rows : List Row). Reading τ s rows × (length rows ≤ room)) same (raw-reading τ s byte room raw q)
     go (refused r place) q e = no-accept r place rows e

@@ -7,6 +7,7 @@ use mathlib.Core.List.{List, [], _∷_, _++_, append-nil}
 use native.Mathlib.Omega.{arith}
 use lib.ListN.{length, take, drop}
 use lib.Dec.{eqb}
+use Rattle.format.specs.Terms.{Terms}
 use Rattle.format.specs.declared.SlotType.{SlotType}
 use Rattle.format.specs.declared.SlotType.the-variants as S
 use Rattle.format.specs.declared.Where.{Where}
@@ -58,35 +59,35 @@ takes-strings S.StringArray k b e = apart (sym b ∙ e)
 takes-strings (S.PrimitiveArray x) k b e = apart (sym b ∙ e)
 
 -- arrays stand at the top level alone
-array-slot : {es : List Entry} {r : Rec} {k i n : ℕ} {ts : List SlotType} → Array es r k i n ts → (t : SlotType) → allowed (whereOf t) k ≡ false
+array-slot : (τ : Terms) {es : List Entry} {r : Rec} {k i n : ℕ} {ts : List SlotType} → Array τ es r k i n ts → (t : SlotType) → allowed (whereOf t) k ≡ false
 unfolding allowed
-array-slot (of-objects a) t = in-slots (λ (w : Where). allowed w 16 ≡ false) refl refl refl t
-array-slot (of-strings a) t = in-slots (λ (w : Where). allowed w 17 ≡ false) refl refl refl t
-array-slot (of-primitives a b) t = in-slots (λ (w : Where). allowed w 15 ≡ false) refl refl refl t
-array-slot (of-any a b c d e) t = in-slots (λ (w : Where). allowed w 7 ≡ false) refl refl refl t
-array-slot (of-values a b c) t = in-slots (λ (w : Where). allowed w 7 ≡ false) refl refl refl t
+array-slot τ (of-objects a) t = in-slots (λ (w : Where). allowed w 16 ≡ false) refl refl refl t
+array-slot τ (of-strings a) t = in-slots (λ (w : Where). allowed w 17 ≡ false) refl refl refl t
+array-slot τ (of-primitives a b) t = in-slots (λ (w : Where). allowed w 15 ≡ false) refl refl refl t
+array-slot τ (of-any a b c d e) t = in-slots (λ (w : Where). allowed w 7 ≡ false) refl refl refl t
+array-slot τ (of-values a b c) t = in-slots (λ (w : Where). allowed w 7 ≡ false) refl refl refl t
 
-array-entry : {es : List Entry} {r : Rec} {k i n : ℕ} {ts : List SlotType} (row : ℕ) → Array es r k i n ts → entryFor row r ≡ another i ∷ []
-array-entry row (of-objects a) = refl
-array-entry row (of-strings a) = refl
-array-entry row (of-primitives a b) = refl
-array-entry row (of-any a b c d e) = refl
-array-entry row (of-values a b c) = refl
+array-entry : (τ : Terms) {es : List Entry} {r : Rec} {k i n : ℕ} {ts : List SlotType} (row : ℕ) → Array τ es r k i n ts → entryFor row r ≡ another i ∷ []
+array-entry τ row (of-objects a) = refl
+array-entry τ row (of-strings a) = refl
+array-entry τ row (of-primitives a b) = refl
+array-entry τ row (of-any a b c d e) = refl
+array-entry τ row (of-values a b c) = refl
 
 -- ---- the slots of an object
 
-pub hollow-body : {room row : ℕ} (ts : List SlotType) {c : Cur} → 0 ≡ length ts → Body room row ts c c
-hollow-body [] e = hollow
-hollow-body (t ∷ ts) e = absurd (omega arith)
+pub hollow-body : (τ : Terms) {room row : ℕ} (ts : List SlotType) {c : Cur} → 0 ≡ length ts → Body τ room row ts c c
+hollow-body τ [] e = hollow
+hollow-body τ (t ∷ ts) e = absurd (omega arith)
 
-pub open-body : {own : ℕ} (d : ℕ) (ts : List SlotType) {c c₁ : Cur} → 0 < length ts → d < 64 → Slots (64 - suc d) own 0 ts c c₁ → Body (64 - d) own ts c c₁
-open-body d [] h i b = absurd (omega arith)
-open-body {own} d (t ∷ ts) {c} {c₁} h i b =
+pub open-body : (τ : Terms) {own : ℕ} (d : ℕ) (ts : List SlotType) {c c₁ : Cur} → 0 < length ts → d < 64 → Slots τ (64 - suc d) own 0 ts c c₁ → Body τ (64 - d) own ts c c₁
+open-body τ d [] h i b = absurd (omega arith)
+open-body τ {own} d (t ∷ ts) {c} {c₁} h i b =
     let e : suc (64 - suc d) ≡ 64 - d = omega arith in
-    subst (λ (n : ℕ). Body n own (t ∷ ts) c c₁) e (G.filled b)
+    subst (λ (n : ℕ). Body τ n own (t ∷ ts) c c₁) e (G.filled b)
 
-no-body : {room row : ℕ} {c c₁ : Cur} → Body room row [] c c₁ → c ≡ c₁
-no-body hollow = refl
+no-body : (τ : Terms) {room row : ℕ} {c c₁ : Cur} → Body τ room row [] c c₁ → c ≡ c₁
+no-body τ hollow = refl
 
 -- ---- a record before what is still to be read
 
@@ -94,15 +95,15 @@ no-body hollow = refl
 abbrev pub after : ℕ → ℕ → List Entry → Rec → List Rec → List Row → Cur
 after at row es r rs is = cur (at + size r) (suc row) (es ++ entryFor (suc row) r) rs is
 
-module _ {at row : ℕ} {es : List Entry} {rs : List Rec} {is : List Row} where
+module _ (τ : Terms) {at row : ℕ} {es : List Entry} {rs : List Rec} {is : List Row} where
   -- an object, at the top level
-  pub top-object : {k id count class : ℕ} {r : Rec} {ts : List SlotType} {c : Cur} → Good es k r id count class ts → isObject k ≡ true
-      → Body 64 (suc row) ts (after at row es r rs is) c → Objects c → Objects (cur at row es (r ∷ rs) (rowOf k at r id 0 0 class count ∷ is))
+  pub top-object : {k id count class : ℕ} {r : Rec} {ts : List SlotType} {c : Cur} → Good τ es k r id count class ts → isObject k ≡ true
+      → Body τ 64 (suc row) ts (after at row es r rs is) c → Objects τ c → Objects τ (cur at row es (r ∷ rs) (rowOf k at r id 0 0 class count ∷ is))
   top-object (is-header a b) o d k = apart o
   top-object (is-class-by-id a b e) o d k = one-object (class-by-id a b e refl d) k
   top-object (is-system-class a b) o d k = one-object (system-class a b refl d) k
   top-object (is-library-class a b e) o d k = one-object (library-class a b e refl d) k
-  top-object (is-string a b) o d k = one-string a b refl (subst Objects (sym (no-body d)) k)
+  top-object (is-string a b) o d k = one-string a b refl (subst (Objects τ) (sym (no-body τ d)) k)
   top-object (is-typed-primitive a) o d k = apart o
   top-object (is-reference a) o d k = apart o
   top-object is-null o d k = apart o
@@ -111,19 +112,19 @@ module _ {at row : ℕ} {es : List Entry} {rs : List Rec} {is : List Row} where
   top-object (is-nulls a) o d k = apart o
   top-object (is-many-nulls a) o d k = apart o
   top-object {r = r} {ts = ts} {c = c} (is-array a b) o d k =
-      one-array a b refl (subst (λ (x : List Entry). Body 64 (suc row) ts (cur (at + size r) (suc row) (es ++ x) rs is) c) (array-entry (suc row) b) d) k
+      one-array a b refl (subst (λ (x : List Entry). Body τ 64 (suc row) ts (cur (at + size r) (suc row) (es ++ x) rs is) c) (array-entry τ (suc row) b) d) k
 
   -- and in a slot
-  pub slot-object : {room own slot k id count class : ℕ} {r : Rec} {ts : List SlotType} {c c₁ : Cur} (t : SlotType) (us : List SlotType) → Good es k r id count class ts → isObject k ≡ true
-      → allowed (whereOf t) k ≡ true → Body room (suc row) ts (after at row es r rs is) c → Slots room own (slot + 1) us c c₁
-      → Slots room own slot (t ∷ us) (cur at row es (r ∷ rs) (rowOf k at r id own slot class count ∷ is)) c₁
+  pub slot-object : {room own slot k id count class : ℕ} {r : Rec} {ts : List SlotType} {c c₁ : Cur} (t : SlotType) (us : List SlotType) → Good τ es k r id count class ts → isObject k ≡ true
+      → allowed (whereOf t) k ≡ true → Body τ room (suc row) ts (after at row es r rs is) c → Slots τ room own (slot + 1) us c c₁
+      → Slots τ room own slot (t ∷ us) (cur at row es (r ∷ rs) (rowOf k at r id own slot class count ∷ is)) c₁
   unfolding allowed
   slot-object t us (is-header a b) o w d k = apart o
   slot-object t us (is-class-by-id a b e) o w d k = an-object (takes-objects t 1 refl refl w) (class-by-id a b e refl d) k
   slot-object t us (is-system-class a b) o w d k = an-object (takes-objects t 4 refl refl w) (system-class a b refl d) k
   slot-object t us (is-library-class a b e) o w d k = an-object (takes-objects t 5 refl refl w) (library-class a b e refl d) k
   slot-object {room} {own} {slot} {c₁ = c₁} t us (is-string a b) o w d k =
-      a-string (takes-strings t 6 refl w) a b refl (subst (λ (x : Cur). Slots room own (slot + 1) us x c₁) (sym (no-body d)) k)
+      a-string (takes-strings t 6 refl w) a b refl (subst (λ (x : Cur). Slots τ room own (slot + 1) us x c₁) (sym (no-body τ d)) k)
   slot-object t us (is-typed-primitive a) o w d k = apart o
   slot-object t us (is-reference a) o w d k = apart o
   slot-object t us is-null o w d k = apart o
@@ -131,39 +132,39 @@ module _ {at row : ℕ} {es : List Entry} {rs : List Rec} {is : List Row} where
   slot-object t us (is-library a b e) o w d k = apart o
   slot-object t us (is-nulls a) o w d k = apart o
   slot-object t us (is-many-nulls a) o w d k = apart o
-  slot-object t us (is-array a b) o w d k = apart (sym (array-slot b t) ∙ w)
+  slot-object t us (is-array a b) o w d k = apart (sym (array-slot τ b t) ∙ w)
 
   -- a library
-  pub top-library : {id count class : ℕ} {r : Rec} {ts : List SlotType} → Good es 12 r id count class ts
-      → Objects (after at row es r rs is) → Objects (cur at row es (r ∷ rs) (rowOf 12 at r id 0 0 class count ∷ is))
+  pub top-library : {id count class : ℕ} {r : Rec} {ts : List SlotType} → Good τ es 12 r id count class ts
+      → Objects τ (after at row es r rs is) → Objects τ (cur at row es (r ∷ rs) (rowOf 12 at r id 0 0 class count ∷ is))
   top-library (is-library a b e) k = one-library a b e refl k
 
-  pub slot-library : {room own slot id count class : ℕ} {r : Rec} {ts : List SlotType} {c : Cur} (t : SlotType) (us : List SlotType) → Good es 12 r id count class ts
-      → isPrimitive t ≡ false → Slots room own slot (t ∷ us) (after at row es r rs is) c
-      → Slots room own slot (t ∷ us) (cur at row es (r ∷ rs) (rowOf 12 at r id 0 0 class count ∷ is)) c
+  pub slot-library : {room own slot id count class : ℕ} {r : Rec} {ts : List SlotType} {c : Cur} (t : SlotType) (us : List SlotType) → Good τ es 12 r id count class ts
+      → isPrimitive t ≡ false → Slots τ room own slot (t ∷ us) (after at row es r rs is) c
+      → Slots τ room own slot (t ∷ us) (cur at row es (r ∷ rs) (rowOf 12 at r id 0 0 class count ∷ is)) c
   slot-library t us (is-library a b e) p k = a-library (takes-exactly t .0 p) a b e refl k
 
   -- a null run
-  pub slot-run : {room own slot id count class : ℕ} {r : Rec} {ts : List SlotType} {c : Cur} (t : SlotType) (us vs : List SlotType) → Good es 13 r id count class ts
+  pub slot-run : {room own slot id count class : ℕ} {r : Rec} {ts : List SlotType} {c : Cur} (t : SlotType) (us vs : List SlotType) → Good τ es 13 r id count class ts
       → isPrimitive t ≡ false → count ≤ length (t ∷ us) → allTake (take count (t ∷ us)) ≡ true → vs ≡ drop count (t ∷ us)
-      → Slots room own (slot + count) vs (after at row es r rs is) c
-      → Slots room own slot (t ∷ us) (cur at row es (r ∷ rs) (rowOf 13 at r id own slot class count ∷ is)) c
+      → Slots τ room own (slot + count) vs (after at row es r rs is) c
+      → Slots τ room own slot (t ∷ us) (cur at row es (r ∷ rs) (rowOf 13 at r id own slot class count ∷ is)) c
   unfolding enc
   slot-run {room} {own} {slot} {count = count} {c = c} t us vs (is-nulls a) p l n e k =
-      a-run (takes-exactly t .0 p) a l n e refl (subst (λ (x : List Entry). Slots room own (slot + count) vs (cur (at + 2) (suc row) x rs is) c) (append-nil es) k)
+      a-run (takes-exactly t .0 p) a l n e refl (subst (λ (x : List Entry). Slots τ room own (slot + count) vs (cur (at + 2) (suc row) x rs is) c) (append-nil es) k)
 
-  pub slot-long-run : {room own slot id count class : ℕ} {r : Rec} {ts : List SlotType} {c : Cur} (t : SlotType) (us vs : List SlotType) → Good es 14 r id count class ts
+  pub slot-long-run : {room own slot id count class : ℕ} {r : Rec} {ts : List SlotType} {c : Cur} (t : SlotType) (us vs : List SlotType) → Good τ es 14 r id count class ts
       → isPrimitive t ≡ false → count ≤ length (t ∷ us) → allTake (take count (t ∷ us)) ≡ true → vs ≡ drop count (t ∷ us)
-      → Slots room own (slot + count) vs (after at row es r rs is) c
-      → Slots room own slot (t ∷ us) (cur at row es (r ∷ rs) (rowOf 14 at r id own slot class count ∷ is)) c
+      → Slots τ room own (slot + count) vs (after at row es r rs is) c
+      → Slots τ room own slot (t ∷ us) (cur at row es (r ∷ rs) (rowOf 14 at r id own slot class count ∷ is)) c
   slot-long-run {room} {own} {slot} {count = count} {r = r} {c = c} t us vs (is-many-nulls a) p l n e k =
-      a-long-run (takes-exactly t .0 p) a l n e refl (subst (λ (x : List Entry). Slots room own (slot + count) vs (cur (at + size r) (suc row) x rs is) c) (append-nil es) k)
+      a-long-run (takes-exactly t .0 p) a l n e refl (subst (λ (x : List Entry). Slots τ room own (slot + count) vs (cur (at + size r) (suc row) x rs is) c) (append-nil es) k)
 
   -- a typed primitive, a reference or a null
-  pub slot-plain : {room own slot k id count class : ℕ} {r : Rec} {ts : List SlotType} {c : Cur} (t : SlotType) (us : List SlotType) → Good es k r id count class ts
+  pub slot-plain : {room own slot k id count class : ℕ} {r : Rec} {ts : List SlotType} {c : Cur} (t : SlotType) (us : List SlotType) → Good τ es k r id count class ts
       → isObject k ≡ false → (eqb k 13 || eqb k 14) ≡ false → eqb k 12 ≡ false → eqb k 11 ≡ false → allowed (whereOf t) k ≡ true → isPrimitive t ≡ false
-      → Slots room own (slot + 1) us (after at row es r rs is) c
-      → Slots room own slot (t ∷ us) (cur at row es (r ∷ rs) (rowOf k at r id own slot class count ∷ is)) c
+      → Slots τ room own (slot + 1) us (after at row es r rs is) c
+      → Slots τ room own slot (t ∷ us) (cur at row es (r ∷ rs) (rowOf k at r id own slot class count ∷ is)) c
   unfolding allowed enc
   slot-plain t us (is-header a b) o n l e w p k = apart (sym (in-slots (λ (w : Where). allowed w 0 ≡ false) refl refl refl t) ∙ w)
   slot-plain t us (is-class-by-id a b f) o n l e w p k = apart (sym o)
@@ -171,36 +172,36 @@ module _ {at row : ℕ} {es : List Entry} {rs : List Rec} {is : List Row} where
   slot-plain t us (is-library-class a b f) o n l e w p k = apart (sym o)
   slot-plain t us (is-string a b) o n l e w p k = apart (sym o)
   slot-plain {room} {own} {slot} {r = r} {c = c} t us (is-typed-primitive a) o n l e w p k =
-      a-typed-primitive (takes-objects t 8 refl refl w) a refl (subst (λ (x : List Entry). Slots room own (slot + 1) us (cur (at + size r) (suc row) x rs is) c) (append-nil es) k)
+      a-typed-primitive (takes-objects t 8 refl refl w) a refl (subst (λ (x : List Entry). Slots τ room own (slot + 1) us (cur (at + size r) (suc row) x rs is) c) (append-nil es) k)
   slot-plain {room} {own} {slot} {r = r} {c = c} t us (is-reference a) o n l e w p k =
-      a-reference (takes-exactly t .0 p) a refl (subst (λ (x : List Entry). Slots room own (slot + 1) us (cur (at + size r) (suc row) x rs is) c) (append-nil es) k)
+      a-reference (takes-exactly t .0 p) a refl (subst (λ (x : List Entry). Slots τ room own (slot + 1) us (cur (at + size r) (suc row) x rs is) c) (append-nil es) k)
   slot-plain {room} {own} {slot} {c = c} t us is-null o n l e w p k =
-      a-null (takes-exactly t .0 p) refl (subst (λ (x : List Entry). Slots room own (slot + 1) us (cur (at + 1) (suc row) x rs is) c) (append-nil es) k)
+      a-null (takes-exactly t .0 p) refl (subst (λ (x : List Entry). Slots τ room own (slot + 1) us (cur (at + 1) (suc row) x rs is) c) (append-nil es) k)
   slot-plain t us is-end o n l e w p k = apart (sym e)
   slot-plain t us (is-library a b f) o n l e w p k = apart (sym l)
   slot-plain t us (is-nulls a) o n l e w p k = apart (sym n)
   slot-plain t us (is-many-nulls a) o n l e w p k = apart (sym n)
-  slot-plain t us (is-array a b) o n l e w p k = apart (sym o ∙ array-kinds b .0)
+  slot-plain t us (is-array a b) o n l e w p k = apart (sym o ∙ array-kinds τ b .0)
 
 -- the end record
-pub top-end : {at row : ℕ} {es : List Entry} {id count class : ℕ} {r : Rec} {ts : List SlotType} → Good es 11 r id count class ts
-    → Objects (cur at row es (r ∷ []) (rowOf 11 at r id 0 0 class count ∷ []))
-top-end is-end = the-end refl
+pub top-end : (τ : Terms) {at row : ℕ} {es : List Entry} {id count class : ℕ} {r : Rec} {ts : List SlotType} → Good τ es 11 r id count class ts
+    → Objects τ (cur at row es (r ∷ []) (rowOf 11 at r id 0 0 class count ∷ []))
+top-end τ is-end = the-end refl
 
 -- no typed primitive, reference, null or null run stands at the top level
-pub top-plain : {es : List Entry} {k id count class : ℕ} {r : Rec} {ts : List SlotType} → Good es k r id count class ts
+pub top-plain : (τ : Terms) {es : List Entry} {k id count class : ℕ} {r : Rec} {ts : List SlotType} → Good τ es k r id count class ts
     → isObject k ≡ false → eqb k 12 ≡ false → eqb k 11 ≡ false → allowed W.Top k ≡ true → ⊥
 unfolding allowed
-top-plain (is-header a b) o l e w = apart w
-top-plain (is-class-by-id a b f) o l e w = apart (sym o)
-top-plain (is-system-class a b) o l e w = apart (sym o)
-top-plain (is-library-class a b f) o l e w = apart (sym o)
-top-plain (is-string a b) o l e w = apart (sym o)
-top-plain (is-typed-primitive a) o l e w = apart w
-top-plain (is-reference a) o l e w = apart w
-top-plain is-null o l e w = apart w
-top-plain is-end o l e w = apart (sym e)
-top-plain (is-library a b f) o l e w = apart (sym l)
-top-plain (is-nulls a) o l e w = apart w
-top-plain (is-many-nulls a) o l e w = apart w
-top-plain (is-array a b) o l e w = apart (sym o ∙ array-kinds b .0)
+top-plain τ (is-header a b) o l e w = apart w
+top-plain τ (is-class-by-id a b f) o l e w = apart (sym o)
+top-plain τ (is-system-class a b) o l e w = apart (sym o)
+top-plain τ (is-library-class a b f) o l e w = apart (sym o)
+top-plain τ (is-string a b) o l e w = apart (sym o)
+top-plain τ (is-typed-primitive a) o l e w = apart w
+top-plain τ (is-reference a) o l e w = apart w
+top-plain τ is-null o l e w = apart w
+top-plain τ is-end o l e w = apart (sym e)
+top-plain τ (is-library a b f) o l e w = apart (sym l)
+top-plain τ (is-nulls a) o l e w = apart w
+top-plain τ (is-many-nulls a) o l e w = apart w
+top-plain τ (is-array a b) o l e w = apart (sym o ∙ array-kinds τ b .0)

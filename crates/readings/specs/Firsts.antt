@@ -8,6 +8,7 @@ use native.Mathlib.Omega.{arith}
 use lib.ListN.{length, getD, replicate}
 use lib.Dec.{eqb}
 use borrow.Author.Tests.{eqb-false}
+use Rattle.format.specs.Terms.{Terms}
 use Rattle.format.specs.declared.SlotType.{SlotType}
 use Rattle.format.specs.declared.Head.{Head}
 use Rattle.format.specs.declared.Heading.the-variants as H
@@ -57,22 +58,22 @@ Walked h = 0 < h .first .types
 walked-free : (h : Head) → Walked h → Free (h .first)
 walked-free h w z = absurd (omega arith)
 
-module _ (s : List ℕ) (rows : List Row) (at : ℕ) where
-  class-walked : (own : Bool) → Said (λ (h : Head). (0 < h .link) × Walked h) (classAt s rows own at)
+module _ (τ : Terms) (s : List ℕ) (rows : List Row) (at : ℕ) where
+  class-walked : (own : Bool) → Said (λ (h : Head). (0 < h .link) × Walked h) (classAt τ s rows own at)
   unfolding classAt membersAt typedAt
   class-walked own =
       let P : Head → Type 0 = λ (h : Head). (0 < h .link) × Walked h in
       said-number P _ (u32At s (at + 1)) (λ id p a.
       said-if P (goodClassId rows id) _ _ (λ b.
-      said-field P _ (nameAt s p) (λ c d.
+      said-field P _ (nameAt (τ .setting) s p) (λ c d.
       said-number P _ (u32At s c) (λ n r e.
       said-if P (negative n) _ _ (λ f. tt) (λ f.
-      said-field P _ (times (nameAt s) n r) (λ types g.
+      said-field P _ (times (nameAt (τ .setting) s) n r) (λ types g.
       let m = number-moves s c n r e in
-      let k = names-there s n r types (m .1) g in
+      let k = names-there τ s n r types (m .1) g in
       let z : 0 < types = omega (arith, m .0, k .0) in
       said-field P _ (times (typeByteAt s) n types) (λ infos i.
-      said-field P _ (infosAt s rows n types infos) (λ x j.
+      said-field P _ (infosAt τ s rows n types infos) (λ x j.
       said-field P _ (afterInfos own s rows x) (λ end l. (z, z)))))))))
       (λ b. tt))
 
@@ -94,42 +95,42 @@ alike-first : (ts : List SlotType) (n : ℕ) (t u : SlotType) → t ∷ ts ≡ r
 alike-first ts zero t u e p = absurd (let z : suc (length ts) ≡ 0 = ap length e in omega arith)
 alike-first ts (suc n) t u e p = let z : t ≡ u = cc in rw z p
 
-array-first : {es : List Entry} {r : Rec} {k i n : ℕ} {us : List SlotType} (t : SlotType) (ts : List SlotType) → Array es r k i n us → t ∷ ts ≡ us → isPrimitive t ≡ false
-array-first {n = n} t ts (of-objects a) e = alike-first ts n t _ e refl
-array-first {n = n} t ts (of-strings a) e = alike-first ts n t _ e refl
-array-first t ts (of-primitives a b) e = absurd (let z : suc (length ts) ≡ 0 = ap length e in omega arith)
-array-first {n = n} t ts (of-any {d = g} a b c d f) e = alike-first ts n t (slotFor g) (e ∙ f) (takes-exactly (slotFor g) .1 d)
-array-first t ts (of-values a b c) e = absurd (let z : suc (length ts) ≡ 0 = ap length e in omega arith)
+array-first : (τ : Terms) {es : List Entry} {r : Rec} {k i n : ℕ} {us : List SlotType} (t : SlotType) (ts : List SlotType) → Array τ es r k i n us → t ∷ ts ≡ us → isPrimitive t ≡ false
+array-first τ {n = n} t ts (of-objects a) e = alike-first ts n t _ e refl
+array-first τ {n = n} t ts (of-strings a) e = alike-first ts n t _ e refl
+array-first τ t ts (of-primitives a b) e = absurd (let z : suc (length ts) ≡ 0 = ap length e in omega arith)
+array-first τ {n = n} t ts (of-any {d = g} a b c d f) e = alike-first ts n t (slotFor g) (e ∙ f) (takes-exactly (slotFor g) .1 d)
+array-first τ t ts (of-values a b c) e = absurd (let z : suc (length ts) ≡ 0 = ap length e in omega arith)
 
 -- ---- any record
 
 abbrev pub First : ℕ → Head → Type 0
 First k h = (isClass k ≡ true → 0 < h .link) × (0 < h .slots → Free (h .first))
 
-module _ (s : List ℕ) (rows : List Row) (at : ℕ) (h : Head) where
+module _ (τ : Terms) (s : List ℕ) (rows : List Row) (at : ℕ) (h : Head) where
   plain-first : (k : ℕ) → isClass k ≡ false → h .slots ≡ 0 → First k h
   plain-first k c e = (λ t. absurd (let f : true ≡ false = sym t ∙ c in let z : _≡_ {A = ℕ} 0 1 = cc in omega arith), λ l. absurd (omega arith))
 
-  class-first : (k : ℕ) (own : Bool) → headingAt s rows k at ≡ classAt s rows own at → headingAt s rows k at ≡ H.Fields h → First k h
+  class-first : (k : ℕ) (own : Bool) → headingAt τ s rows k at ≡ classAt τ s rows own at → headingAt τ s rows k at ≡ H.Fields h → First k h
   class-first k own e f =
-      let w = subst (Said (λ (h : Head). (0 < h .link) × Walked h)) (sym e ∙ f) (class-walked s rows at own) in
+      let w = subst (Said (λ (h : Head). (0 < h .link) × Walked h)) (sym e ∙ f) (class-walked τ s rows at own) in
       (λ t. w .0, λ l. walked-free h (w .1))
 
-  array-class : {es : List Entry} {r : Rec} {k i n : ℕ} {ts : List SlotType} → Array es r k i n ts → isClass k ≡ false
+  array-class : {es : List Entry} {r : Rec} {k i n : ℕ} {ts : List SlotType} → Array τ es r k i n ts → isClass k ≡ false
   array-class (of-objects a) = refl
   array-class (of-strings a) = refl
   array-class (of-primitives a b) = refl
   array-class (of-any a b c d e) = refl
   array-class (of-values a b c) = refl
 
-  first-of : (k : ℕ) (r : Rec) (id count class : ℕ) (ts : List SlotType) {es : List Entry} → AllLater rows → headingAt s rows k at ≡ H.Fields h
-      → h .slots ≡ length ts → slotsFrom s (h .first) (h .slots) ≡ ts → Good es k r id count class ts → First k h
+  first-of : (k : ℕ) (r : Rec) (id count class : ℕ) (ts : List SlotType) {es : List Entry} → AllLater rows → headingAt τ s rows k at ≡ H.Fields h
+      → h .slots ≡ length ts → slotsFrom s (h .first) (h .slots) ≡ ts → Good τ es k r id count class ts → First k h
   first-of k r id count class ts w e l q (is-header a b) = plain-first 0 refl l
   first-of k r id count class ts w e l q (is-class-by-id a b c) =
-      let x = subst (Said Walked) (sym (by-id-heading s rows 1 at refl) ∙ e) (by-id-walked s rows at w) in
+      let x = subst (Said Walked) (sym (by-id-heading τ s rows 1 at refl) ∙ e) (by-id-walked τ s rows at w) in
       (λ t. absurd (let z : _≡_ {A = ℕ} 0 1 = cc in omega arith), λ l. walked-free h x)
-  first-of k r id count class ts w e l q (is-system-class a b) = class-first 4 false (system-heading s rows 4 at refl) e
-  first-of k r id count class ts w e l q (is-library-class a b c) = class-first 5 true (class-heading s rows 5 at refl) e
+  first-of k r id count class ts w e l q (is-system-class a b) = class-first 4 false (system-heading τ s rows 4 at refl) e
+  first-of k r id count class ts w e l q (is-library-class a b c) = class-first 5 true (class-heading τ s rows 5 at refl) e
   first-of k r id count class ts w e l q (is-string a b) = plain-first 6 refl l
   first-of k r id count class ts w e l q (is-typed-primitive a) = plain-first 8 refl l
   first-of k r id count class ts w e l q (is-reference a) = plain-first 9 refl l
@@ -140,8 +141,8 @@ module _ (s : List ℕ) (rows : List Row) (at : ℕ) (h : Head) where
   first-of k r id count class ts w e l q (is-many-nulls a) = plain-first 14 refl l
   first-of k r id count class ts w e l q (is-array a b) = (
     λ t. absurd (let f : true ≡ false = sym t ∙ array-class b in let z : _≡_ {A = ℕ} 0 1 = cc in omega arith),
-    λ x z. array-first (h .first .slot) (slotsFrom s (moved s (h .first)) (h .slots - 1)) b (sym (slots-next s (h .first) (h .slots) x) ∙ q),
+    λ x z. array-first τ (h .first .slot) (slotsFrom s (moved s (h .first)) (h .slots - 1)) b (sym (slots-next s (h .first) (h .slots) x) ∙ q),
   )
 
-  pub heading-first : (k : ℕ) → AllLater rows → headingAt s rows k at ≡ H.Fields h → Back s rows k at h → First k h
+  pub heading-first : (k : ℕ) → AllLater rows → headingAt τ s rows k at ≡ H.Fields h → Back τ s rows k at h → First k h
   heading-first k w e b = first-of k (b .rec) (b .id) (b .count) (b .class) (b .types) w e (told-slots (b .told)) (b .told .slots-are) (b .good)

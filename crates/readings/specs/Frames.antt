@@ -8,6 +8,7 @@ use native.Mathlib.Omega.{arith}
 use lib.ListN.{length, take, drop}
 use lib.Dec.{eqb}
 use borrow.Author.Tests.{eqb-true, eqb-false, eq-eqb, ne-eqb}
+use Rattle.format.specs.Terms.{Terms}
 use Rattle.format.specs.declared.SlotType.{SlotType}
 use Rattle.format.specs.declared.SlotType.the-variants as S
 use Rattle.format.specs.declared.Typed.{Typed}
@@ -223,13 +224,13 @@ typed-primitive-slot = refl
 -- ---- the top level
 
 -- an array is an object that stands at the top level
-pub array-kinds : {es : List Entry} {k i n : ℕ} {r : Rec} {ts : List SlotType} → Array es r k i n ts → (isObject k ≡ true) × (allowed W.Top k ≡ true)
+pub array-kinds : (τ : Terms) {es : List Entry} {k i n : ℕ} {r : Rec} {ts : List SlotType} → Array τ es r k i n ts → (isObject k ≡ true) × (allowed W.Top k ≡ true)
 unfolding allowed
-array-kinds (of-objects a) = (refl, refl)
-array-kinds (of-strings a) = (refl, refl)
-array-kinds (of-primitives a b) = (refl, refl)
-array-kinds (of-any a b c d e) = (refl, refl)
-array-kinds (of-values a b c) = (refl, refl)
+array-kinds τ (of-objects a) = (refl, refl)
+array-kinds τ (of-strings a) = (refl, refl)
+array-kinds τ (of-primitives a b) = (refl, refl)
+array-kinds τ (of-any a b c d e) = (refl, refl)
+array-kinds τ (of-values a b c) = (refl, refl)
 
 pub allows-top : (k : ℕ) → allowed W.Top k ≡ true → Allows (start .stack) k
 allows-top k a = record { by-record = refl; fits = a }

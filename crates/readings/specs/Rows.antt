@@ -8,6 +8,7 @@ use native.Mathlib.Omega.{arith}
 use lib.ListN.{length, getD}
 use lib.Dec.{eqb}
 use borrow.Author.Tests.{eqb-true, eq-eqb, ne-eqb}
+use Rattle.format.specs.Terms.{Terms}
 use Rattle.format.specs.declared.SlotType.{SlotType}
 use Rattle.format.specs.declared.Head.{Head}
 use Rattle.format.specs.declared.Row.{Row}
@@ -83,9 +84,9 @@ pub row-bare : {s : List ℕ} {k at id count class : ℕ} {h : Head} {r : Rec} {
 row-bare t low owner slot = same-row (told-end t) (t .id-is) (rw low (t .link-is)) (t .count-is)
 
 -- the kind of a good record is not that of a member value's row
-pub good-low : {es : List Entry} {k id count class : ℕ} {r : Rec} {ts : List SlotType} → Good es k r id count class ts → eqb k 32 ≡ false
-good-low {k = k} g =
-    let a = good-kind g in
+pub good-low : (τ : Terms) {es : List Entry} {k id count class : ℕ} {r : Rec} {ts : List SlotType} → Good τ es k r id count class ts → eqb k 32 ≡ false
+good-low τ {k = k} g =
+    let a = good-kind τ g in
     let b = kinds-taken k (a .0) (a .1) in
     ne-eqb k 32 (λ e. omega (arith, b .0))
 

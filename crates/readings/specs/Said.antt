@@ -8,6 +8,7 @@ use native.Mathlib.Omega.{arith}
 use lib.ListN.{length, length-append, drop-of-length-le}
 use lib.Dec.{ltb, eqb}
 use borrow.Author.Tests.{ltb-true, ltb-false, eqb-true}
+use Rattle.format.specs.Terms.{Terms}
 use Rattle.format.specs.declared.PrimitiveCode.{PrimitiveCode}
 use Rattle.format.specs.declared.SlotType.{SlotType}
 use Rattle.format.specs.declared.SlotType.the-variants as S
@@ -50,48 +51,48 @@ pub record Between (st : State) : Type 0 where
   pub shaped : Shaped (st .stack)
 
 -- what the answer of a step from this state says
-abbrev pub NextSaid : ℕ → List ℕ → State → Next → Type 0
-NextSaid room s st (go st′) = Between st′ × ((final : List Row) → Goal s st′ final → Goal s st final)
-NextSaid room s st (ended rows e) = (length s ≤ e → Goal s st rows) × (length rows ≤ room)
-NextSaid room s st (refuse r place) = Unit {0}
+abbrev pub NextSaid : Terms → ℕ → List ℕ → State → Next → Type 0
+NextSaid τ room s st (go st′) = Between st′ × ((final : List Row) → Goal τ s st′ final → Goal τ s st final)
+NextSaid τ room s st (ended rows e) = (length s ≤ e → Goal τ s st rows) × (length rows ≤ room)
+NextSaid τ room s st (refuse r place) = Unit {0}
 
-same-slots : {room own own′ slot slot′ : ℕ} {ts ts′ : List SlotType} {c c₁ : Cur} → own ≡ own′ → slot ≡ slot′ → ts ≡ ts′ → Slots room own slot ts c c₁ → Slots room own′ slot′ ts′ c c₁
-same-slots {room} {own} {own′} {slot} {slot′} {ts} {ts′} {c} {c₁} a b d x =
-    subst (λ (n : ℕ). Slots room n slot′ ts′ c c₁) a (subst (λ (n : ℕ). Slots room own n ts′ c c₁) b (subst (λ (us : List SlotType). Slots room own slot us c c₁) d x))
+same-slots : (τ : Terms) {room own own′ slot slot′ : ℕ} {ts ts′ : List SlotType} {c c₁ : Cur} → own ≡ own′ → slot ≡ slot′ → ts ≡ ts′ → Slots τ room own slot ts c c₁ → Slots τ room own′ slot′ ts′ c c₁
+same-slots τ {room} {own} {own′} {slot} {slot′} {ts} {ts′} {c} {c₁} a b d x =
+    subst (λ (n : ℕ). Slots τ room n slot′ ts′ c c₁) a (subst (λ (n : ℕ). Slots τ room own n ts′ c c₁) b (subst (λ (us : List SlotType). Slots τ room own slot us c c₁) d x))
 
-module _ (s : List ℕ) (room at : ℕ) (rows : List Row) (f : Frame) (gs : List Frame) (b : Between (stateAt at rows (openAt f gs))) where
+module _ (τ : Terms) (s : List ℕ) (room at : ℕ) (rows : List Row) (f : Frame) (gs : List Frame) (b : Between (stateAt at rows (openAt f gs))) where
   abbrev st : State
   st = stateAt at rows (openAt f gs)
 
-  add-said : (r : Row) (o : Open) → Later r → Shaped o → ((final : List Row) → Goal s (stateAt (r .end) (rows ++ (r ∷ [])) o) final → Goal s st final)
-      → NextSaid room s st (add room st r o)
+  add-said : (r : Row) (o : Open) → Later r → Shaped o → ((final : List Row) → Goal τ s (stateAt (r .end) (rows ++ (r ∷ [])) o) final → Goal τ s st final)
+      → NextSaid τ room s st (add room st r o)
   unfolding add
   add-said r o l h k =
-      picked (NextSaid room s st) (ltb (length rows) room) (λ t. (record { later = later-more rows r (b .later) l; shaped = h }, k)) (λ t. tt)
+      picked (NextSaid τ room s st) (ltb (length rows) room) (λ t. (record { later = later-more rows r (b .later) l; shaped = h }, k)) (λ t. tt)
 
   -- a record whose fields are good, of a kind that may stand there
-  module _ (k : ℕ) (h : Head) (d : Back s rows k at h) (first : First k h) (w : allowed (whereIn gs (whereOf (f .typed .slot))) k ≡ true) (p : isPrimitive (f .typed .slot) ≡ false) where
-    pub object-said : isObject k ≡ true → NextSaid room s st (object room st k h (moved s (f .typed)))
+  module _ (k : ℕ) (h : Head) (d : Back τ s rows k at h) (first : First k h) (w : allowed (whereIn gs (whereOf (f .typed .slot))) k ≡ true) (p : isPrimitive (f .typed .slot) ≡ false) where
+    pub object-said : isObject k ≡ true → NextSaid τ room s st (object room st k h (moved s (f .typed)))
     unfolding object filled opened
     object-said o =
-        picked (NextSaid room s st) (eqb (h .slots) 0)
+        picked (NextSaid τ room s st) (eqb (h .slots) 0)
         (λ z. add-said (rowIn st k h) (close (spent s f) gs) (first .0) (close-shaped (spent s f) gs (based-spent s f gs (b .shaped .based)))
-        (back-more s at rows f gs (close (spent s f) gs) k h d (f .owner) (f .count - f .left) (hollow z)))
-        (λ z. picked (NextSaid room s st) (ltb (length gs) 64)
+        (back-more τ s at rows f gs (close (spent s f) gs) k h d (f .owner) (f .count - f .left) (hollow z)))
+        (λ z. picked (NextSaid τ room s st) (ltb (length gs) 64)
         (λ l. add-said (rowIn st k h) (opened (st .stack) (length rows + 1) h (moved s (f .typed))) (first .0) (open-shaped z)
-        (back-more s at rows f gs (opened (st .stack) (length rows + 1) h (moved s (f .typed))) k h d (f .owner) (f .count - f .left) (slotted z (ltb-true (length gs) 64 l))))
+        (back-more τ s at rows f gs (opened (st .stack) (length rows + 1) h (moved s (f .typed))) k h d (f .owner) (f .count - f .left) (slotted z (ltb-true (length gs) 64 l))))
         (λ l. tt))
       where
-        before : (rs : List Rec) (is : List Row) (c : Cur) → Body (64 - length gs) (suc (length rows)) (d .types) (after at (length rows) (envOf s rows) (d .rec) rs is) c
-            → Rest s (spent s f) gs c
-            → Rest s f gs (cur at (length rows) (envOf s rows) (d .rec ∷ rs) (rowOf k at (d .rec) (d .id) (f .owner) (f .count - f .left) (d .class) (d .count) ∷ is))
-        before rs is c x y = object-rest s f at (length rows) rs is gs c (d .good) o w (b .shaped .tight) (b .shaped .based) x y
+        before : (rs : List Rec) (is : List Row) (c : Cur) → Body τ (64 - length gs) (suc (length rows)) (d .types) (after at (length rows) (envOf s rows) (d .rec) rs is) c
+            → Rest τ s (spent s f) gs c
+            → Rest τ s f gs (cur at (length rows) (envOf s rows) (d .rec ∷ rs) (rowOf k at (d .rec) (d .id) (f .owner) (f .count - f .left) (d .class) (d .count) ∷ is))
+        before rs is c x y = object-rest τ s f at (length rows) rs is gs c (d .good) o w (b .shaped .tight) (b .shaped .based) x y
 
-        hollow : eqb (h .slots) 0 ≡ true → (rs : List Rec) (is : List Row) → RestOf s (close (spent s f) gs) (after at (length rows) (envOf s rows) (d .rec) rs is)
-            → Rest s f gs (cur at (length rows) (envOf s rows) (d .rec ∷ rs) (rowOf k at (d .rec) (d .id) (f .owner) (f .count - f .left) (d .class) (d .count) ∷ is))
+        hollow : eqb (h .slots) 0 ≡ true → (rs : List Rec) (is : List Row) → RestOf τ s (close (spent s f) gs) (after at (length rows) (envOf s rows) (d .rec) rs is)
+            → Rest τ s f gs (cur at (length rows) (envOf s rows) (d .rec ∷ rs) (rowOf k at (d .rec) (d .id) (f .owner) (f .count - f .left) (d .class) (d .count) ∷ is))
         hollow z rs is r =
             let c = after at (length rows) (envOf s rows) (d .rec) rs is in
-            before rs is c (hollow-body (d .types) (sym (eqb-true (h .slots) 0 z) ∙ told-slots (d .told))) (rest-close s (spent s f) gs c r)
+            before rs is c (hollow-body τ (d .types) (sym (eqb-true (h .slots) 0 z) ∙ told-slots (d .told))) (rest-close τ s (spent s f) gs c r)
 
         open-shaped : eqb (h .slots) 0 ≡ false → Shaped (opened (st .stack) (length rows + 1) h (moved s (f .typed)))
         open-shaped z =
@@ -99,29 +100,29 @@ module _ (s : List ℕ) (room at : ℕ) (rows : List Row) (f : Frame) (gs : List
             record { tight = n; based = (record { within = omega arith; free = first .1 n }, based-spent s f gs (b .shaped .based)) }
 
         slotted : eqb (h .slots) 0 ≡ false → length gs < 64 → (rs : List Rec) (is : List Row)
-            → RestOf s (opened (st .stack) (length rows + 1) h (moved s (f .typed))) (after at (length rows) (envOf s rows) (d .rec) rs is)
-            → Rest s f gs (cur at (length rows) (envOf s rows) (d .rec ∷ rs) (rowOf k at (d .rec) (d .id) (f .owner) (f .count - f .left) (d .class) (d .count) ∷ is))
+            → RestOf τ s (opened (st .stack) (length rows + 1) h (moved s (f .typed))) (after at (length rows) (envOf s rows) (d .rec) rs is)
+            → Rest τ s f gs (cur at (length rows) (envOf s rows) (d .rec ∷ rs) (rowOf k at (d .rec) (d .id) (f .owner) (f .count - f .left) (d .class) (d .count) ∷ is))
         slotted z l rs is r =
             let n = some (h .slots) z in
             let m = told-slots (d .told) in
             let x : length rows + 1 ≡ suc (length rows) = omega arith in
             let y : h .slots - h .slots ≡ 0 = omega arith in
-            before rs is (r .0) (open-body (length gs) (d .types) (omega arith) l (same-slots x y (d .told .slots-are) (r .1))) (r .2)
+            before rs is (r .0) (open-body τ (length gs) (d .types) (omega arith) l (same-slots τ x y (d .told .slots-are) (r .1))) (r .2)
 
     pub plain-said : isObject k ≡ false → (eqb k 13 || eqb k 14) ≡ false → eqb k 12 ≡ false → eqb k 11 ≡ false
-        → NextSaid room s st (add room st (rowIn st k h) (filled (st .stack) 1 (moved s (f .typed))))
+        → NextSaid τ room s st (add room st (rowIn st k h) (filled (st .stack) 1 (moved s (f .typed))))
     unfolding filled
     plain-said o n l e =
         add-said (rowIn st k h) (close (spent s f) gs) (first .0) (close-shaped (spent s f) gs (based-spent s f gs (b .shaped .based)))
-        (back-more s at rows f gs (close (spent s f) gs) k h d (f .owner) (f .count - f .left) (λ rs is r.
-        plain-rest s f at (length rows) rs is gs (d .good) o n l e w p (b .shaped .tight) (b .shaped .based)
-        (rest-close s (spent s f) gs (after at (length rows) (envOf s rows) (d .rec) rs is) r)))
+        (back-more τ s at rows f gs (close (spent s f) gs) k h d (f .owner) (f .count - f .left) (λ rs is r.
+        plain-rest τ s f at (length rows) rs is gs (d .good) o n l e w p (b .shaped .tight) (b .shaped .based)
+        (rest-close τ s (spent s f) gs (after at (length rows) (envOf s rows) (d .rec) rs is) r)))
 
   -- a library
-  pub library-said : (h : Head) → Back s rows 12 at h → isPrimitive (f .typed .slot) ≡ false → NextSaid room s st (add room st (rowApart st 12 h) (st .stack))
+  pub library-said : (h : Head) → Back τ s rows 12 at h → isPrimitive (f .typed .slot) ≡ false → NextSaid τ room s st (add room st (rowApart st 12 h) (st .stack))
   library-said h d p =
-      add-said (rowApart st 12 h) (st .stack) (λ t. apart t) (b .shaped) (back-more s at rows f gs (st .stack) 12 h d 0 0 (λ rs is r.
-      library-rest s f at (length rows) rs is gs (d .good) p (b .shaped .tight) (b .shaped .based) r))
+      add-said (rowApart st 12 h) (st .stack) (λ t. apart t) (b .shaped) (back-more τ s at rows f gs (st .stack) 12 h d 0 0 (λ rs is r.
+      library-rest τ s f at (length rows) rs is gs (d .good) p (b .shaped .tight) (b .shaped .based) r))
 
 -- ---- null runs, the end record and member values: by the objects that are open
 
@@ -134,37 +135,37 @@ run-not k n a b e = go (eqb k 13) refl (eqb k 14) refl e
     go false p true q e = rw (eqb-true k 14 q) b
     go false p false q e = apart e
 
-module _ (s : List ℕ) (room at : ℕ) (rows : List Row) (f : Frame) where
+module _ (τ : Terms) (s : List ℕ) (room at : ℕ) (rows : List Row) (f : Frame) where
   abbrev with-open : List Frame → State
   with-open gs = stateAt at rows (openAt f gs)
 
-  pub run-said : (gs : List Frame) → Between (with-open gs) → (k : ℕ) (h : Head) (d : Back s rows k at h) → First k h
+  pub run-said : (gs : List Frame) → Between (with-open gs) → (k : ℕ) (h : Head) (d : Back τ s rows k at h) → First k h
       → allowed (whereIn gs (whereOf (f .typed .slot))) k ≡ true → isPrimitive (f .typed .slot) ≡ false → isObject k ≡ false → (eqb k 13 || eqb k 14) ≡ true
-      → NextSaid room s (with-open gs) (nullRun s room (with-open gs) k h)
+      → NextSaid τ room s (with-open gs) (nullRun s room (with-open gs) k h)
   unfolding nullRun filled
-  run-said [] b k h d first w p o e = absurd (top-plain (d .good) o (run-not k 12 refl refl e) (run-not k 11 refl refl e) w)
+  run-said [] b k h d first w p o e = absurd (top-plain τ (d .good) o (run-not k 12 refl refl e) (run-not k 11 refl refl e) w)
   run-said (g ∷ gs) b k h d first w p o e =
-      picked (NextSaid room s (with-open (g ∷ gs))) (ltb (f .left) (h .count)) (λ t. tt)
+      picked (NextSaid τ room s (with-open (g ∷ gs))) (ltb (f .left) (h .count)) (λ t. tt)
       (λ t. over (ltb-false (f .left) (h .count) t) (passedOf s (f .typed) (h .count)) refl)
     where
-      over : h .count ≤ f .left → (x : Passed) → passedOf s (f .typed) (h .count) ≡ x → NextSaid room s (with-open (g ∷ gs)) (runOver room (with-open (g ∷ gs)) k h x)
+      over : h .count ≤ f .left → (x : Passed) → passedOf s (f .typed) (h .count) ≡ x → NextSaid τ room s (with-open (g ∷ gs)) (runOver room (with-open (g ∷ gs)) k h x)
       over l (O.Over u) q =
           let n = run-over s (f .typed) u (h .count) (f .left) (b .shaped .based .0 .free) q l in
           let c = d .told .count-is in
           let m = subst (λ (x : ℕ). Ran s (f .typed) u x (f .left)) c n in
-          add-said s room at rows f (g ∷ gs) b (rowIn (with-open (g ∷ gs)) k h) (close (filledBy f (h .count) u) (g ∷ gs)) (first .0)
+          add-said τ s room at rows f (g ∷ gs) b (rowIn (with-open (g ∷ gs)) k h) (close (filledBy f (h .count) u) (g ∷ gs)) (first .0)
           (close-shaped (filledBy f (h .count) u) (g ∷ gs) (based-run f g gs (h .count) u (n .free) (b .shaped .based)))
-          (back-more s at rows f (g ∷ gs) (close (filledBy f (h .count) u) (g ∷ gs)) k h d (f .owner) (f .count - f .left) (λ rs is r.
-          run-rest s f at (length rows) rs is g gs u (d .good) e p (b .shaped .tight) (b .shaped .based .0) (subst (λ (x : ℕ). x ≤ f .left) c l) m
-          (subst (λ (x : ℕ). Rest s (filledBy f x u) (g ∷ gs) (after at (length rows) (envOf s rows) (d .rec) rs is)) c
-          (rest-close s (filledBy f (h .count) u) (g ∷ gs) (after at (length rows) (envOf s rows) (d .rec) rs is) r))))
+          (back-more τ s at rows f (g ∷ gs) (close (filledBy f (h .count) u) (g ∷ gs)) k h d (f .owner) (f .count - f .left) (λ rs is r.
+          run-rest τ s f at (length rows) rs is g gs u (d .good) e p (b .shaped .tight) (b .shaped .based .0) (subst (λ (x : ℕ). x ≤ f .left) c l) m
+          (subst (λ (x : ℕ). Rest τ s (filledBy f x u) (g ∷ gs) (after at (length rows) (envOf s rows) (d .rec) rs is)) c
+          (rest-close τ s (filledBy f (h .count) u) (g ∷ gs) (after at (length rows) (envOf s rows) (d .rec) rs is) r))))
       over l O.Crossed q = tt
 
-  pub end-said : (gs : List Frame) → Between (with-open gs) → (h : Head) (d : Back s rows 11 at h) → allowed (whereIn gs (whereOf (f .typed .slot))) 11 ≡ true
-      → NextSaid room s (with-open gs) (ending room (with-open gs) h)
+  pub end-said : (gs : List Frame) → Between (with-open gs) → (h : Head) (d : Back τ s rows 11 at h) → allowed (whereIn gs (whereOf (f .typed .slot))) 11 ≡ true
+      → NextSaid τ room s (with-open gs) (ending room (with-open gs) h)
   unfolding ending allowed encs
   end-said [] b h d w =
-      picked (NextSaid room s (with-open [])) (ltb (length rows) room)
+      picked (NextSaid τ room s (with-open [])) (ltb (length rows) room)
       (λ t.
       let row = rowIn (with-open []) 11 h in
       let i : length rows < room = ltb-true (length rows) room t in
@@ -174,7 +175,7 @@ module _ (s : List ℕ) (room at : ℕ) (rows : List Row) (f : Frame) where
           later = row ∷ [];
           rows-are = refl;
           bytes-are = d .told .stands .bytes ∙ ap (λ (l : List ℕ). enc (d .rec) ++ l) (drop-of-length-le s l);
-          rest = subst (λ (x : Row). Objects (cur at (length rows) (envOf s rows) (d .rec ∷ []) (x ∷ []))) (sym own-row) (top-end (d .good));
+          rest = subst (λ (x : Row). Objects τ (cur at (length rows) (envOf s rows) (d .rec ∷ []) (x ∷ []))) (sym own-row) (top-end τ (d .good));
         },
         omega arith,
       ))
@@ -188,28 +189,28 @@ module _ (s : List ℕ) (room at : ℕ) (rows : List Row) (f : Frame) where
   end-said (g ∷ gs) b h d w = apart (sym (in-slots (λ (w : Where). allowed w 11 ≡ false) refl refl refl (f .typed .slot)) ∙ w)
 
   pub value-said : Bytes s → (gs : List Frame) → Between (with-open gs) → (c : PrimitiveCode) → f .typed .slot ≡ S.Primitive c
-      → NextSaid room s (with-open gs) (valueStep s room (with-open gs) c)
+      → NextSaid τ room s (with-open gs) (valueStep τ s room (with-open gs) c)
   unfolding valueStep filled enc
   value-said byte [] b c e = apart (ap isPrimitive (sym (ap (λ (x : Frame). x .typed .slot) (b .shaped .based)) ∙ e))
-  value-said byte (g ∷ gs) b c e = by-value (valueAt s c at) refl
+  value-said byte (g ∷ gs) b c e = by-value (valueAt (τ .setting) s c at) refl
     where
       value-row : {end : ℕ} (v : Prefixed) → end ≡ at + size (value c v)
           → bare (rowIn (with-open (g ∷ gs)) 32 (valueHead c end)) ≡ rowOf 32 at (value c v) 0 (f .owner) (f .count - f .left) 0 0
       value-row v z = rw z
 
-      by-value : (x : Field) → valueAt s c at ≡ x → NextSaid room s (with-open (g ∷ gs)) (onValue s room (with-open (g ∷ gs)) c x)
+      by-value : (x : Field) → valueAt (τ .setting) s c at ≡ x → NextSaid τ room s (with-open (g ∷ gs)) (onValue s room (with-open (g ∷ gs)) c x)
       by-value (F.End end) q =
           let v = valueIn s c at in
-          let m = member-told s c at end byte q in
+          let m = member-told τ s c at end byte q in
           let row = rowIn (with-open (g ∷ gs)) 32 (valueHead c end) in
           let it = rowOf 32 at (value c v) 0 (f .owner) (f .count - f .left) 0 0 in
-          add-said s room at rows f (g ∷ gs) b row (close (spent s f) (g ∷ gs)) (λ t. apart t)
+          add-said τ s room at rows f (g ∷ gs) b row (close (spent s f) (g ∷ gs)) (λ t. apart t)
           (close-shaped (spent s f) (g ∷ gs) (based-spent s f (g ∷ gs) (b .shaped .based)))
-          (goal-more s at rows f (g ∷ gs) (close (spent s f) (g ∷ gs)) end row it (value c v) (envOf s rows) (value-row v (stand-size (m .1))) (m .1)
+          (goal-more τ s at rows f (g ∷ gs) (close (spent s f) (g ∷ gs)) end row it (value c v) (envOf s rows) (value-row v (stand-size (m .1))) (m .1)
           (env-same s rows row refl) (λ rs is r.
           let c₁ = cur (at + size (value c v)) (suc (length rows)) (envOf s rows) rs is in
           let c₀ = cur at (length rows) (envOf s rows) (value c v ∷ rs) (it ∷ is) in
-          fill-one s f g gs (b .shaped .based .0) (b .shaped .tight) c₀ c₁ (λ us c₂ x.
-          subst (λ (t : SlotType). Slots (64 - suc (length gs)) (f .owner) (f .count - f .left) (t ∷ us) c₀ c₂) (sym e) (member-value (m .0) refl x))
-          (rest-close s (spent s f) (g ∷ gs) c₁ r)))
+          fill-one τ s f g gs (b .shaped .based .0) (b .shaped .tight) c₀ c₁ (λ us c₂ x.
+          subst (λ (t : SlotType). Slots τ (64 - suc (length gs)) (f .owner) (f .count - f .left) (t ∷ us) c₀ c₂) (sym e) (member-value (m .0) refl x))
+          (rest-close τ s (spent s f) (g ∷ gs) c₁ r)))
       by-value (F.Fault x) q = tt

@@ -8,6 +8,7 @@ use native.Mathlib.Omega.{arith}
 use lib.ListN.{length}
 use lib.Dec.{eqb}
 use borrow.Author.Tests.{lt-ltb, le-ltb, eqb-true, eq-eqb, ne-eqb}
+use Rattle.format.specs.Terms.{Terms}
 use Rattle.format.specs.declared.PrimitiveCode.{PrimitiveCode}
 use Rattle.format.specs.declared.SlotType.{SlotType}
 use Rattle.format.specs.declared.SlotType.the-variants as S
@@ -56,22 +57,22 @@ pub record Allows (o : Open) (k : ℕ) : Type 0 where
   pub fits : allowed (whereIn (o .below) (whereOf (o .cur .typed .slot))) k ≡ true
 
 -- the fields that are read of the record r, which stands from at to e
-pub record Taken (s : List ℕ) (rows : List Row) (at e k : ℕ) (r : Rec) (id count class : ℕ) (ts : List SlotType) : Type 0 where
+pub record Taken (τ : Terms) (s : List ℕ) (rows : List Row) (at e k : ℕ) (r : Rec) (id count class : ℕ) (ts : List SlotType) : Type 0 where
   pub head : Head
-  pub fields : headingAt s rows k at ≡ H.Fields head
+  pub fields : headingAt τ s rows k at ≡ H.Fields head
   pub told : Told s k at head r id count class ts
   pub known : isKind k ≡ true
   pub free : notTaken k ≡ false
   pub ends : head .end ≡ e
   pub onward : at < e
 
-pub record-taken : (s : List ℕ) (rows : List Row) (at e k : ℕ) (r : Rec) (id count class : ℕ) (ts : List SlotType) → Good (envOf s rows) k r id count class ts
-    → Stand s (enc r) at e → Taken s rows at e k r id count class ts
-record-taken s rows at e k r id count class ts g w =
-    let x = record-read s rows at e k r id count class ts g w in
-    let q = good-kind g in
+pub record-taken : (τ : Terms) (s : List ℕ) (rows : List Row) (at e k : ℕ) (r : Rec) (id count class : ℕ) (ts : List SlotType) → Good τ (envOf s rows) k r id count class ts
+    → Stand s (enc r) at e → Taken τ s rows at e k r id count class ts
+record-taken τ s rows at e k r id count class ts g w =
+    let x = record-read τ s rows at e k r id count class ts g w in
+    let q = good-kind τ g in
     let n : x .head .end ≡ e = told-end (x .told) ∙ sym (stand-size w) in
-    let m : EndsIn at (length s) (H.Fields (x .head)) = subst (EndsIn at (length s)) (x .taken) (heading-ends s rows k at (x .told .inside)) in
+    let m : EndsIn at (length s) (H.Fields (x .head)) = subst (EndsIn at (length s)) (x .taken) (heading-ends τ s rows k at (x .told .inside)) in
     record { head = x .head; fields = x .taken; told = x .told; known = q .0; free = q .1; ends = n; onward = subst (λ (p : ℕ). at < p) n (m .0) }
 
 -- ---- the kinds whose record fills one slot and is no object
@@ -111,29 +112,29 @@ run-no-object k e = by-kind (eqb k 13) (eqb k 14) refl refl e
 
 -- ---- the step
 
-module _ (s : List ℕ) (room at : ℕ) (rows : List Row) (o : Open) where
+module _ (τ : Terms) (s : List ℕ) (room at : ℕ) (rows : List Row) (o : Open) where
   adds : (r : Row) (o′ : Open) (e : ℕ) → length rows < room → r .end ≡ e
       → add room (stateAt at rows o) r o′ ≡ go (stateAt e (rows ++ (r ∷ [])) o′)
   unfolding add
   adds r o′ e h q = rw (lt-ltb (length rows) room h) (ap (λ (p : ℕ). go (stateAt p (rows ++ (r ∷ [])) o′)) q)
 
   -- a member value
-  pub value-goes : (c : PrimitiveCode) (v : Prefixed) (e : ℕ) → o .cur .typed .slot ≡ S.Primitive c → Value c v → Stand s (enc (value c v)) at e → length rows < room
-      → step s room (stateAt at rows o) ≡ go (stateAt e (rows ++ (rowIn (stateAt at rows o) 32 (valueHead c e) ∷ [])) (filled o 1 (moved s (o .cur .typed))))
+  pub value-goes : (c : PrimitiveCode) (v : Prefixed) (e : ℕ) → o .cur .typed .slot ≡ S.Primitive c → Value τ c v → Stand s (enc (value c v)) at e → length rows < room
+      → step τ s room (stateAt at rows o) ≡ go (stateAt e (rows ++ (rowIn (stateAt at rows o) 32 (valueHead c e) ∷ [])) (filled o 1 (moved s (o .cur .typed))))
   unfolding step valueStep
   value-goes c v e slot g w h =
-      ap (bySlot s room (stateAt at rows o)) slot ∙ ap (onValue s room (stateAt at rows o) c) (member-read s c v at e g w)
+      ap (bySlot τ s room (stateAt at rows o)) slot ∙ ap (onValue s room (stateAt at rows o) c) (member-read τ s c v at e g w)
       ∙ adds (rowIn (stateAt at rows o) 32 (valueHead c e)) (filled o 1 (moved s (o .cur .typed))) e h refl
 
-  module _ (e k : ℕ) (r : Rec) (id count class : ℕ) (ts : List SlotType) (w : Taken s rows at e k r id count class ts) where
-    record-acts : (v : Where) → allowed v k ≡ true → recordStep s room (stateAt at rows o) v ≡ act s room (stateAt at rows o) k (H.Fields (w .head))
+  module _ (e k : ℕ) (r : Rec) (id count class : ℕ) (ts : List SlotType) (w : Taken τ s rows at e k r id count class ts) where
+    record-acts : (v : Where) → allowed v k ≡ true → recordStep τ s room (stateAt at rows o) v ≡ act s room (stateAt at rows o) k (H.Fields (w .head))
     unfolding recordStep
     record-acts v a =
         let q : kindAt s v at ≡ K.Taken k = kind-there s v at (w .told .inside) ∙ (ap (kindOf v) (w .told .kind-byte) ∙ kind-taken k v (w .known) (w .free) a) in
-        ap (onKind s room (stateAt at rows o)) q ∙ ap (act s room (stateAt at rows o) k) (w .fields)
+        ap (onKind τ s room (stateAt at rows o)) q ∙ ap (act s room (stateAt at rows o) k) (w .fields)
 
     slot-acts : (t : SlotType) → isPrimitive t ≡ false → allowed (whereIn (o .below) (whereOf t)) k ≡ true
-        → bySlot s room (stateAt at rows o) t ≡ act s room (stateAt at rows o) k (H.Fields (w .head))
+        → bySlot τ s room (stateAt at rows o) t ≡ act s room (stateAt at rows o) k (H.Fields (w .head))
     slot-acts (S.Primitive c) n a = absurd (let z : _≡_ {A = ℕ} 0 1 = cc in omega arith)
     slot-acts S.Text n a = record-acts _ a
     slot-acts S.Object n a = record-acts _ a
@@ -143,13 +144,13 @@ module _ (s : List ℕ) (room at : ℕ) (rows : List Row) (o : Open) where
     slot-acts S.StringArray n a = record-acts _ a
     slot-acts (S.PrimitiveArray c) n a = record-acts _ a
 
-    step-acts : Allows o k → step s room (stateAt at rows o) ≡ act s room (stateAt at rows o) k (H.Fields (w .head))
+    step-acts : Allows o k → step τ s room (stateAt at rows o) ≡ act s room (stateAt at rows o) k (H.Fields (w .head))
     unfolding step
     step-acts a = slot-acts (o .cur .typed .slot) (a .by-record) (a .fits)
 
     -- an object without slots fills its own slot
     pub hollow-goes : Allows o k → isObject k ≡ true → length rows < room → ts ≡ []
-        → step s room (stateAt at rows o) ≡ go (stateAt e (rows ++ (rowIn (stateAt at rows o) k (w .head) ∷ [])) (filled o 1 (moved s (o .cur .typed))))
+        → step τ s room (stateAt at rows o) ≡ go (stateAt e (rows ++ (rowIn (stateAt at rows o) k (w .head) ∷ [])) (filled o 1 (moved s (o .cur .typed))))
     unfolding act object
     hollow-goes a i h n =
         let z : w .head .slots ≡ 0 = told-slots (w .told) ∙ ap length n in
@@ -157,7 +158,7 @@ module _ (s : List ℕ) (room at : ℕ) (rows : List Row) (o : Open) where
 
     -- an object with slots is open
     pub object-goes : Allows o k → isObject k ≡ true → length rows < room → (ts ≡ [] → ⊥) → length (o .below) < 64
-        → step s room (stateAt at rows o)
+        → step τ s room (stateAt at rows o)
         ≡ go (stateAt e (rows ++ (rowIn (stateAt at rows o) k (w .head) ∷ [])) (opened o (length rows + 1) (w .head) (moved s (o .cur .typed))))
     unfolding act object
     object-goes a i h n d =
@@ -178,12 +179,12 @@ module _ (s : List ℕ) (room at : ℕ) (rows : List Row) (o : Open) where
 
     -- a typed primitive, a reference or a null
     pub fills-goes : Allows o k → fillsOne k ≡ true → length rows < room
-        → step s room (stateAt at rows o) ≡ go (stateAt e (rows ++ (rowIn (stateAt at rows o) k (w .head) ∷ [])) (filled o 1 (moved s (o .cur .typed))))
+        → step τ s room (stateAt at rows o) ≡ go (stateAt e (rows ++ (rowIn (stateAt at rows o) k (w .head) ∷ [])) (filled o 1 (moved s (o .cur .typed))))
     fills-goes a f h = step-acts a ∙ act-fills (fills-plain k f) h
 
     -- a null run, over slots that are passed
     pub run-goes : Allows o k → isRun k ≡ true → length rows < room → count ≤ o .cur .left → (t : Typed) → passedOf s (o .cur .typed) count ≡ O.Over t
-        → step s room (stateAt at rows o) ≡ go (stateAt e (rows ++ (rowIn (stateAt at rows o) k (w .head) ∷ [])) (filled o count t))
+        → step τ s room (stateAt at rows o) ≡ go (stateAt e (rows ++ (rowIn (stateAt at rows o) k (w .head) ∷ [])) (filled o count t))
     unfolding act nullRun
     run-goes a f h l t p =
         let c : w .head .count ≡ count = w .told .count-is in
@@ -195,7 +196,7 @@ module _ (s : List ℕ) (room at : ℕ) (rows : List Row) (o : Open) where
 
     -- a library fills no slot
     pub library-goes : Allows o k → k ≡ 12 → length rows < room
-        → step s room (stateAt at rows o) ≡ go (stateAt e (rows ++ (rowApart (stateAt at rows o) k (w .head) ∷ [])) o)
+        → step τ s room (stateAt at rows o) ≡ go (stateAt e (rows ++ (rowApart (stateAt at rows o) k (w .head) ∷ [])) o)
     unfolding act
     library-goes a f h = step-acts a ∙ by-kind k f
       where
@@ -204,7 +205,7 @@ module _ (s : List ℕ) (room at : ℕ) (rows : List Row) (o : Open) where
 
     -- the end record
     pub end-goes : Allows o k → k ≡ 11 → length rows < room
-        → step s room (stateAt at rows o) ≡ ended (rows ++ (rowIn (stateAt at rows o) k (w .head) ∷ [])) e
+        → step τ s room (stateAt at rows o) ≡ ended (rows ++ (rowIn (stateAt at rows o) k (w .head) ∷ [])) e
     unfolding act ending
     end-goes a f h = step-acts a ∙ by-kind k f
       where
@@ -218,10 +219,10 @@ unfolding filled close
 top-filled s = rw (moved-alike s (alike S.Object 0) refl)
 
 -- the header stands first
-pub header-goes : (s : List ℕ) (room e : ℕ) (r : Rec) (id count class : ℕ) (ts : List SlotType) (w : Taken s [] 0 e 0 r id count class ts) → 0 < room
-    → recordStep s room start W.Start ≡ go (stateAt e (rowIn start 0 (w .head) ∷ []) (start .stack))
+pub header-goes : (τ : Terms) (s : List ℕ) (room e : ℕ) (r : Rec) (id count class : ℕ) (ts : List SlotType) (w : Taken τ s [] 0 e 0 r id count class ts) → 0 < room
+    → recordStep τ s room start W.Start ≡ go (stateAt e (rowIn start 0 (w .head) ∷ []) (start .stack))
 unfolding allowed
-header-goes s room e r id count class ts w h =
-    record-acts s room 0 [] (start .stack) e 0 r id count class ts w W.Start refl
-    ∙ (act-fills s room 0 [] (start .stack) e 0 r id count class ts w (record { no-object = refl; no-run = refl; no-library = refl; no-end = refl }) h
+header-goes τ s room e r id count class ts w h =
+    record-acts τ s room 0 [] (start .stack) e 0 r id count class ts w W.Start refl
+    ∙ (act-fills τ s room 0 [] (start .stack) e 0 r id count class ts w (record { no-object = refl; no-run = refl; no-library = refl; no-end = refl }) h
     ∙ ap (λ (o : Open). go (stateAt e (rowIn start 0 (w .head) ∷ []) o)) (top-filled s))

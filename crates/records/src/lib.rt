@@ -6,12 +6,14 @@ use format::LibraryNo;
 use format::Number32;
 use format::ObjectNo;
 use format::Refusal;
+use format::Setting;
 ghost use Prim.Native.Nat.{_≤_, _<_};
 ghost use mathlib.Core.Path.{_≡_};
 ghost use lib.ListN.{length};
 ghost use Rattle.format.specs.Rows.{roomOf, rowsOf};
 ghost use Rattle.format.specs.Records.{headerAt, stringRecordAt, typedPrimitiveAt, referenceAt, nullsAt, longNullsAt, libraryAt};
 ghost use Rattle.records.specs.Stages.{versionAt, namedAt, freeLibrary};
+ghost use Rattle.format.specs.Terms.{terms};
 
 // ---- parts of records
 
@@ -27,10 +29,10 @@ fn is_free_library(table: &[u32], n: usize, id: LibraryNo) -> bool
 }
 
 // The text that ends a record of this id.
-fn named_at(s: &[u8], id: u32, at: usize) -> Heading
-    ensures { λ r. ⌜ r ≡ namedAt (now (s .entry)) id at ⌝ }
+fn named_at(s: &[u8], id: u32, at: usize, setting: Setting) -> Heading
+    ensures { λ r. ⌜ r ≡ namedAt (terms setting) (now (s .entry)) id at ⌝ }
 {
-    match types::name_at(s, at) {
+    match types::name_at(s, at, setting) {
         Field::End(end) => arrays::plain_head(id, end, 0),
         Field::Fault(f) => Heading::Bad(f),
     }
@@ -72,28 +74,28 @@ pub fn header_at(s: &[u8], at: usize) -> Heading
 }
 
 // 6, BinaryObjectString (2.5.7): ObjectId, text.
-pub fn string_record_at(s: &[u8], table: &[u32], n: usize, at: usize) -> Heading
+pub fn string_record_at(s: &[u8], table: &[u32], n: usize, at: usize, setting: Setting) -> Heading
     requires { ⌜ (n ≤ roomOf (now table)) × (at < length (now s)) ⌝ }
-    ensures { λ r. ⌜ r ≡ stringRecordAt (now (s .entry)) (rowsOf n (now (table .entry))) at ⌝ }
+    ensures { λ r. ⌜ r ≡ stringRecordAt (terms setting) (now (s .entry)) (rowsOf n (now (table .entry))) at ⌝ }
 {
     let Number32::Value(id, p) = num::u32_at(s, at + 1) else {
         return Heading::Bad(Refusal::CutShort);
     };
     if arrays::is_free_id(table, n, ObjectNo(id)) {
-        return named_at(s, id, p);
+        return named_at(s, id, p, setting);
     }
     Heading::Bad(Refusal::BadId)
 }
 
 // 8, MemberPrimitiveTyped (2.5.1): a primitive code, then a value of it.
-pub fn typed_primitive_at(s: &[u8], at: usize) -> Heading
+pub fn typed_primitive_at(s: &[u8], at: usize, setting: Setting) -> Heading
     requires { ⌜ at < length (now s) ⌝ }
-    ensures { λ r. ⌜ r ≡ typedPrimitiveAt (now (s .entry)) at ⌝ }
+    ensures { λ r. ⌜ r ≡ typedPrimitiveAt (terms setting) (now (s .entry)) at ⌝ }
 {
     match codes::code_at(s, at + 1) {
         Field::End(p) => {
             let code = codes::coded_of(codes::primitive_of(codes::byte_at(s, at + 1)));
-            match values::value_soon(s, code, p) {
+            match values::value_soon(s, code, p, setting) {
                 Field::End(end) => arrays::plain_head(0, end, 0),
                 Field::Fault(f) => Heading::Bad(f),
             }
@@ -142,15 +144,15 @@ pub fn long_nulls_at(s: &[u8], at: usize) -> Heading
 }
 
 // 12, BinaryLibrary (2.6.2): LibraryId, name. A second library of one number is refused, also where the names are equal.
-pub fn library_at(s: &[u8], table: &[u32], n: usize, at: usize) -> Heading
+pub fn library_at(s: &[u8], table: &[u32], n: usize, at: usize, setting: Setting) -> Heading
     requires { ⌜ (n ≤ roomOf (now table)) × (at < length (now s)) ⌝ }
-    ensures { λ r. ⌜ r ≡ libraryAt (now (s .entry)) (rowsOf n (now (table .entry))) at ⌝ }
+    ensures { λ r. ⌜ r ≡ libraryAt (terms setting) (now (s .entry)) (rowsOf n (now (table .entry))) at ⌝ }
 {
     let Number32::Value(id, p) = num::u32_at(s, at + 1) else {
         return Heading::Bad(Refusal::CutShort);
     };
     if is_free_library(table, n, LibraryNo(id)) {
-        return named_at(s, id, p);
+        return named_at(s, id, p, setting);
     }
     Heading::Bad(Refusal::BadId)
 }

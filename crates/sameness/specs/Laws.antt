@@ -8,6 +8,7 @@ use lib.ListN.{length, take, drop}
 use lib.Seq.{take-append-seam}
 use lib.Dec.{leb, eqb}
 use borrow.Author.Tests.{leb-true}
+use Rattle.format.specs.Terms.{Terms}
 use Rattle.format.specs.declared.Refusal.{Refusal}
 use Rattle.format.specs.declared.Refusal.the-variants as R
 use Rattle.format.specs.declared.TidyAnswer.{TidyAnswer}
@@ -76,46 +77,46 @@ copy-of s d (accepted rows) h =
     }
 copy-of s d (refused r p) h = apart h
 
-module _ (s t d u e : List ℕ) (p : TidyAnswer) (w : TidyPromise s t d p u e) (n : ℕ) (h : p ≡ Q.Written n) where
-  copy-in : Copy s d (readOf s (roomOf t))
-  copy-in = copy-of s d (readOf s (roomOf t)) (sym (ap isWritten (w .answer)) ∙ ap isWritten h)
+module _ (τ : Terms) (s t d u e : List ℕ) (p : TidyAnswer) (w : TidyPromise τ s t d p u e) (n : ℕ) (h : p ≡ Q.Written n) where
+  copy-in : Copy s d (readOf τ s (roomOf t))
+  copy-in = copy-of s d (readOf τ s (roomOf t)) (sym (ap isWritten (w .answer)) ∙ ap isWritten h)
 
-  long : n ≡ length (copied s (readOf s (roomOf t)))
+  long : n ≡ length (copied s (readOf τ s (roomOf t)))
   long = let k = copy-in .answer in cc
 
   pub copy-within : length e ≡ length d → n ≤ length e
   copy-within l = omega (arith, long, copy-in .roomy, l)
 
   -- the front of the output, as the code has it, is the copy
-  front : take (n - 0) (drop 0 e) ≡ copied s (readOf s (roomOf t))
+  front : take (n - 0) (drop 0 e) ≡ copied s (readOf τ s (roomOf t))
   unfolding laid
   front =
-      let m : n - 0 ≡ length (copied s (readOf s (roomOf t))) = omega (arith, long) in
-      ap₂ (λ (j : ℕ) (x : List ℕ). take j x) m (w .output ∙ copy-in .output) ∙ take-append-seam (copied s (readOf s (roomOf t))) _
+      let m : n - 0 ≡ length (copied s (readOf τ s (roomOf t))) = omega (arith, long) in
+      ap₂ (λ (j : ℕ) (x : List ℕ). take j x) m (w .output ∙ copy-in .output) ∙ take-append-seam (copied s (readOf τ s (roomOf t))) _
 
 -- ---- the second list against a copy of the first
 
 -- a list b is tidied with a table that held t into an output that held d, which hold u and f afterwards, and its copy is compared with this one
-pub record Against (copy b t d u f : List ℕ) (q : Sameness) : Type 0 where
+pub record Against (τ : Terms) (copy b t d u f : List ℕ) (q : Sameness) : Type 0 where
   pub answer : q
-      ≡ answerOf (Q.Written (length copy)) (tidyAnswer b d (readOf b (roomOf t))) (sameBytes copy (copied b (readOf b (roomOf t))))
-  pub table : u ≡ tidyTable (length t) b d (readOf b (roomOf t))
-  pub second : f ≡ tidyOutput b d (readOf b (roomOf t))
+      ≡ answerOf (Q.Written (length copy)) (tidyAnswer b d (readOf τ b (roomOf t))) (sameBytes copy (copied b (readOf τ b (roomOf t))))
+  pub table : u ≡ tidyTable (length t) b d (readOf τ b (roomOf t))
+  pub second : f ≡ tidyOutput b d (readOf τ b (roomOf t))
 
-module _ (copy b t d u f : List ℕ) (p : TidyAnswer) (w : TidyPromise b t d p u f) where
+module _ (τ : Terms) (copy b t d u f : List ℕ) (p : TidyAnswer) (w : TidyPromise τ b t d p u f) where
   abbrev answers : TidyAnswer → Sameness
-  answers x = answerOf (Q.Written (length copy)) x (sameBytes copy (copied b (readOf b (roomOf t))))
+  answers x = answerOf (Q.Written (length copy)) x (sameBytes copy (copied b (readOf τ b (roomOf t))))
 
-  ends : (x : TidyAnswer) → p ≡ x → (q : Sameness) → q ≡ answers x → Against copy b t d u f q
+  ends : (x : TidyAnswer) → p ≡ x → (q : Sameness) → q ≡ answers x → Against τ copy b t d u f q
   ends x h q e = record { answer = e ∙ ap answers (sym h ∙ w .answer); table = w .table; second = w .output }
 
-  pub second-written : (n : ℕ) → p ≡ Q.Written n → (q : Sameness) → q ≡ comparedAs copy (take (n - 0) (drop 0 f)) → Against copy b t d u f q
-  second-written n h q e = ends (Q.Written n) h q (e ∙ ap (comparedAs copy) (front b t d u f p w n h))
+  pub second-written : (n : ℕ) → p ≡ Q.Written n → (q : Sameness) → q ≡ comparedAs copy (take (n - 0) (drop 0 f)) → Against τ copy b t d u f q
+  second-written n h q e = ends (Q.Written n) h q (e ∙ ap (comparedAs copy) (front τ b t d u f p w n h))
 
-  pub second-refused : (r : Refusal) (x : ℕ) → p ≡ Q.Refused r x → Against copy b t d u f (S.SecondRefused r x)
+  pub second-refused : (r : Refusal) (x : ℕ) → p ≡ Q.Refused r x → Against τ copy b t d u f (S.SecondRefused r x)
   second-refused r x h = ends (Q.Refused r x) h (S.SecondRefused r x) refl
 
-  pub second-full : (n : ℕ) → p ≡ Q.OutFull n → Against copy b t d u f (S.SecondFull n)
+  pub second-full : (n : ℕ) → p ≡ Q.OutFull n → Against τ copy b t d u f (S.SecondFull n)
   second-full n h = ends (Q.OutFull n) h (S.SecondFull n) refl
 
 -- ---- in numbers
@@ -163,33 +164,33 @@ both-written (Q.Written m) (Q.OutFull n) z h = apart h
 both-written (Q.Refused r x) q z h = apart h
 both-written (Q.OutFull m) q z h = apart h
 
-module _ (a b t c d : List ℕ) where
+module _ (τ υ : Terms) (a b t c d : List ℕ) where
   -- the answer by what came of the first list, where the second is tidied with a table of k words
   abbrev answerBy : ℕ → TidyAnswer → Sameness
-  answerBy k x = answerOf x (tidyAnswer b d (readOf b (k / 8))) (sameBytes (copied a (readOf a (roomOf t))) (copied b (readOf b (k / 8))))
+  answerBy k x = answerOf x (tidyAnswer b d (readOf υ b (k / 8))) (sameBytes (copied a (readOf τ a (roomOf t))) (copied b (readOf υ b (k / 8))))
 
   abbrev Answer : Sameness → Type 0
-  Answer q = q ≡ answerBy (length t) (tidyAnswer a c (readOf a (roomOf t)))
+  Answer q = q ≡ answerBy (length t) (tidyAnswer a c (readOf τ a (roomOf t)))
 
   -- and its reply
-  numbered : sameReply (answerBy (length t) (tidyAnswer a c (readOf a (roomOf t)))) ≡ ofComparing (ofTidying a c (readOf a (roomOf t))) (ofTidying b d (readOf b (roomOf t)))
+  numbered : sameReply (answerBy (length t) (tidyAnswer a c (readOf τ a (roomOf t)))) ≡ ofComparing (ofTidying a c (readOf τ a (roomOf t))) (ofTidying b d (readOf υ b (roomOf t)))
   numbered =
-      ended-by (tidyAnswer a c (readOf a (roomOf t))) (tidyAnswer b d (readOf b (roomOf t))) _
-      ∙ ap₂ ofComparing (tidy-promised a t c _ _ _ refl refl refl .numbers) (tidy-promised b t d _ _ _ refl refl refl .numbers)
+      ended-by (tidyAnswer a c (readOf τ a (roomOf t))) (tidyAnswer b d (readOf υ b (roomOf t))) _
+      ∙ ap₂ ofComparing (tidy-promised τ a t c _ _ _ refl refl refl .numbers) (tidy-promised υ b t d _ _ _ refl refl refl .numbers)
 
   -- an answer that compares is right about what the lists mean
-  right : Bytes a → Bytes b → (q : Sameness) → Answer q → isCompared q ≡ true → Exact a b (roomOf t) q
+  right : Bytes a → Bytes b → (q : Sameness) → Answer q → isCompared q ≡ true → Exact τ υ a b (roomOf t) q
   right byte octet q e h =
-      let o = readOf a (roomOf t) in
-      let r = readOf b (roomOf t) in
+      let o = readOf τ a (roomOf t) in
+      let r = readOf υ b (roomOf t) in
       let equal = sameBytes (copied a o) (copied b r) in
       let w = both-written (tidyAnswer a c o) (tidyAnswer b d r) equal (sym (ap isCompared e) ∙ h) in
       let x = copy-of a c o (w .0) in
       let y = copy-of b d r (w .1) in
-      let one = accepted-exactly a byte (roomOf t) (x .rows) .0 (x .reads) in
-      let two = accepted-exactly b octet (roomOf t) (y .rows) .0 (y .reads) in
-      let say = same-exactly a (x .rows) (one .0) (x .small) b (y .rows) (two .0) (y .small) in
-      let mean = same-meant (one .0) (two .0) in
+      let one = accepted-exactly τ a byte (roomOf t) (x .rows) .0 (x .reads) in
+      let two = accepted-exactly υ b octet (roomOf t) (y .rows) .0 (y .reads) in
+      let say = same-exactly τ a (x .rows) (one .0) (x .small) υ b (y .rows) (two .0) (y .small) in
+      let mean = same-meant τ υ (one .0) (two .0) in
       let k = ap (copied a) (x .reads) in
       let l = ap (copied b) (y .reads) in
       let z : q ≡ pick equal S.Same S.Different = e ∙ ap₂ (λ (i j : TidyAnswer). answerOf i j equal) (x .answer) (y .answer) in
@@ -206,17 +207,17 @@ module _ (a b t c d : List ℕ) where
         );
       }
 
-  module _ (u e : List ℕ) (p : TidyAnswer) (w : TidyPromise a t c p u e) where
+  module _ (u e : List ℕ) (p : TidyAnswer) (w : TidyPromise τ a t c p u e) where
     abbrev tableBy : ℕ → TidyAnswer → List ℕ
-    tableBy k x = pick (isWritten x) (tidyTable k b d (readOf b (k / 8))) (tidyTable (length t) a c (readOf a (roomOf t)))
+    tableBy k x = pick (isWritten x) (tidyTable k b d (readOf υ b (k / 8))) (tidyTable (length t) a c (readOf τ a (roomOf t)))
 
     abbrev secondBy : ℕ → TidyAnswer → List ℕ
-    secondBy k x = pick (isWritten x) (tidyOutput b d (readOf b (k / 8))) d
+    secondBy k x = pick (isWritten x) (tidyOutput b d (readOf υ b (k / 8))) d
 
     answered : (x : TidyAnswer) → p ≡ x → (v f : List ℕ) (q : Sameness) → q ≡ answerBy (length t) x
-        → (Answer q → isCompared q ≡ true → Exact a b (roomOf t) q) → v ≡ tableBy (length t) x → f ≡ secondBy (length t) x → ComparePromise a b t c d q v e f
+        → (Answer q → isCompared q ≡ true → Exact τ υ a b (roomOf t) q) → v ≡ tableBy (length t) x → f ≡ secondBy (length t) x → ComparePromise τ υ a b t c d q v e f
     answered x h v f q y g i j =
-        let k : x ≡ tidyAnswer a c (readOf a (roomOf t)) = sym h ∙ w .answer in
+        let k : x ≡ tidyAnswer a c (readOf τ a (roomOf t)) = sym h ∙ w .answer in
         let z : Answer q = y ∙ ap (answerBy (length t)) k in
         record {
           answer = z;
@@ -229,11 +230,11 @@ module _ (a b t c d : List ℕ) where
 
     -- the table is as long as it was, so the second reading has the same room
     pub first-written : Bytes a → Bytes b → length u ≡ length t → (m : ℕ) → p ≡ Q.Written m → (v f : List ℕ) (q : Sameness)
-        → Against (take (m - 0) (drop 0 e)) b u d v f q → ComparePromise a b t c d q v e f
+        → Against υ (take (m - 0) (drop 0 e)) b u d v f q → ComparePromise τ υ a b t c d q v e f
     first-written byte octet l m h v f q g =
-        let r = readOf b (roomOf u) in
-        let i = front a t c u e p w m h in
-        let n = ap Q.Written (sym (long a t c u e p w m h)) in
+        let r = readOf υ b (roomOf u) in
+        let i = front τ a t c u e p w m h in
+        let n = ap Q.Written (sym (long τ a t c u e p w m h)) in
         answered (Q.Written m) h v f q
         (g .answer
         ∙ (ap (λ (x : List ℕ). answerOf (Q.Written (length x)) (tidyAnswer b d r) (sameBytes x (copied b r))) i
@@ -241,8 +242,8 @@ module _ (a b t c d : List ℕ) where
         (right byte octet q) (g .table ∙ ap (λ (k : ℕ). tableBy k (Q.Written m)) l) (g .second ∙ ap (λ (k : ℕ). secondBy k (Q.Written m)) l)
 
     -- where the first list has no copy, the second is not tidied
-    pub first-refused : (r : Refusal) (x : ℕ) → p ≡ Q.Refused r x → ComparePromise a b t c d (S.FirstRefused r x) u e d
+    pub first-refused : (r : Refusal) (x : ℕ) → p ≡ Q.Refused r x → ComparePromise τ υ a b t c d (S.FirstRefused r x) u e d
     first-refused r x h = answered (Q.Refused r x) h u d (S.FirstRefused r x) refl (λ z i. apart i) (w .table) refl
 
-    pub first-full : (m : ℕ) → p ≡ Q.OutFull m → ComparePromise a b t c d (S.FirstFull m) u e d
+    pub first-full : (m : ℕ) → p ≡ Q.OutFull m → ComparePromise τ υ a b t c d (S.FirstFull m) u e d
     first-full m h = answered (Q.OutFull m) h u d (S.FirstFull m) refl (λ z i. apart i) (w .table) refl

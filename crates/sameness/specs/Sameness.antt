@@ -1,11 +1,12 @@
 -- Do two lists say the same: the promise of the comparing job, a relation between what is lent and what comes of it, as those of the four public jobs
--- are. The answer and what is left come from the two readings; and an answer that compares is right about what the lists mean.
+-- are. The answer and what is left come from the two readings, each under its own terms; and an answer that compares is right about what the lists mean.
 use Prim.Native.Nat.{ℕ, _≤_}
 use mathlib.Core.Path.{_≡_}
 use mathlib.Core.Logic.{_↔_}
 use mathlib.Core.Bool.{Bool, true, false}
 use mathlib.Core.List.{List, []}
 use lib.ListN.{length}
+use Rattle.format.specs.Terms.{Terms}
 use Rattle.format.specs.declared.TidyAnswer.{TidyAnswer}
 use Rattle.format.specs.declared.TidyAnswer.the-variants as Q
 use Rattle.format.specs.declared.Row.{Row}
@@ -47,26 +48,26 @@ isCompared (S.SecondRefused r p) = false
 isCompared (S.FirstFull n) = false
 isCompared (S.SecondFull n) = false
 
--- both lists have readings of so many rows at most, and the answer is Same exactly when their records mean the same
-pub record Exact (a b : List ℕ) (room : ℕ) (q : Sameness) : Type 0 where
+-- both lists, a read under τ and b under υ, have readings of so many rows at most, and the answer is Same exactly when their records mean the same
+pub record Exact (τ υ : Terms) (a b : List ℕ) (room : ℕ) (q : Sameness) : Type 0 where
   pub rows : List Row
   pub others : List Row
-  pub first : Reading a rows
-  pub second : Reading b others
+  pub first : Reading τ a rows
+  pub second : Reading υ b others
   pub first-fits : length rows ≤ room
   pub second-fits : length others ≤ room
   pub exactly : (q ≡ S.Same) ↔ (meantBy first ≡ meantBy second)
 
--- comparing the lists a and b with a table that held t and outputs that held c and d answers q and leaves u, e and f in them: the second list is
--- tidied where the first has its copy
-pub record ComparePromise (a b t c d : List ℕ) (q : Sameness) (u e f : List ℕ) : Type 0 where
+-- comparing the lists a, under τ, and b, under υ, with a table that held t and outputs that held c and d answers q and leaves w, e and f in them: the
+-- second list is tidied where the first has its copy
+pub record ComparePromise (τ υ : Terms) (a b t c d : List ℕ) (q : Sameness) (w e f : List ℕ) : Type 0 where
   pub answer : q
-      ≡ answerOf (tidyAnswer a c (readOf a (roomOf t))) (tidyAnswer b d (readOf b (roomOf t)))
-      (sameBytes (copied a (readOf a (roomOf t))) (copied b (readOf b (roomOf t))))
-  pub numbers : sameReply q ≡ ofComparing (ofTidying a c (readOf a (roomOf t))) (ofTidying b d (readOf b (roomOf t)))
-  pub exact : isCompared q ≡ true → Exact a b (roomOf t) q
-  pub table : u
-      ≡ pick (isWritten (tidyAnswer a c (readOf a (roomOf t)))) (tidyTable (length t) b d (readOf b (roomOf t)))
-      (tidyTable (length t) a c (readOf a (roomOf t)))
-  pub first : e ≡ tidyOutput a c (readOf a (roomOf t))
-  pub second : f ≡ pick (isWritten (tidyAnswer a c (readOf a (roomOf t)))) (tidyOutput b d (readOf b (roomOf t))) d
+      ≡ answerOf (tidyAnswer a c (readOf τ a (roomOf t))) (tidyAnswer b d (readOf υ b (roomOf t)))
+      (sameBytes (copied a (readOf τ a (roomOf t))) (copied b (readOf υ b (roomOf t))))
+  pub numbers : sameReply q ≡ ofComparing (ofTidying a c (readOf τ a (roomOf t))) (ofTidying b d (readOf υ b (roomOf t)))
+  pub exact : isCompared q ≡ true → Exact τ υ a b (roomOf t) q
+  pub table : w
+      ≡ pick (isWritten (tidyAnswer a c (readOf τ a (roomOf t)))) (tidyTable (length t) b d (readOf υ b (roomOf t)))
+      (tidyTable (length t) a c (readOf τ a (roomOf t)))
+  pub first : e ≡ tidyOutput a c (readOf τ a (roomOf t))
+  pub second : f ≡ pick (isWritten (tidyAnswer a c (readOf τ a (roomOf t)))) (tidyOutput b d (readOf υ b (roomOf t))) d

@@ -6,6 +6,7 @@ use mathlib.Core.Bool.{true}
 use mathlib.Core.List.{List, [], _∷_}
 use native.Mathlib.Omega.{arith}
 use lib.ListN.{getD, drop, replicate}
+use Rattle.format.specs.Terms.{Terms}
 use Rattle.format.specs.declared.PrimitiveCode.{PrimitiveCode}
 use Rattle.format.specs.declared.SlotType.{SlotType}
 use Rattle.format.specs.declared.SlotType.the-variants as S
@@ -84,7 +85,7 @@ codes-members ms = codes-from (codeIn ms) 0 ms (λ k. ap (codeIn ms) (omega arit
 
 -- ---- by the row of the object
 
-module _ (s : List ℕ) (rows : List Row) where
+module _ (τ : Terms) (s : List ℕ) (rows : List Row) where
   -- the class of the object in the row before this number
   abbrev pub ownerClass : ℕ → Class
   ownerClass own = classFrom s rows (classRowOf rows (getD rows (own - 1) blank))
@@ -107,7 +108,7 @@ module _ (s : List ℕ) (rows : List Row) where
   run-codes own slot n ts e g = subst (Codes own (slot + n)) (sym e) (codes-drop (codeIn (ownerClass own .members)) n slot ts g)
 
   -- the slots of an array's items take no values
-  pub array-codes : {es : List Entry} {kind i n : ℕ} {r : Rec} {ts : List SlotType} (own : ℕ) → Array es r kind i n ts → Codes own 0 ts
+  pub array-codes : {es : List Entry} {kind i n : ℕ} {r : Rec} {ts : List SlotType} (own : ℕ) → Array τ es r kind i n ts → Codes own 0 ts
   array-codes {n = n} own (of-objects h) = codes-alike (codeIn (ownerClass own .members)) n 0 S.Object refl
   array-codes {n = n} own (of-strings h) = codes-alike (codeIn (ownerClass own .members)) n 0 S.Text refl
   array-codes own (of-primitives h g) = tt

@@ -8,6 +8,7 @@ use native.Mathlib.Omega.{arith}
 use lib.ListN.{length, length-append}
 use lib.Dec.{eqb}
 use borrow.Author.Tests.{eqb-true, eqb-false}
+use Rattle.format.specs.Terms.{Terms}
 use Rattle.format.specs.declared.SlotType.{SlotType}
 use Rattle.format.specs.Bytes.{pick}
 use Rattle.format.specs.Rows.{isObject}
@@ -92,12 +93,12 @@ count-total total fs (n ∷ ns) p (a-node a o s f) =
     (subst (λ (i : ℕ). Fits total i (openAfter (p .count) fs (n .what)) ns) (sym (what-count p (n .what))) f)
 
 -- what is written from nodes that fit is legal where it is few records
-pub legal-few : (total : ℕ) (ns : List Node) → Fits total 0 [] ns → length (squeezed noWait (packed nothing ns)) < 2147483648
-    → (row : ℕ) → Legal total 0 row [] [] (squeezed noWait (packed nothing ns))
-legal-few total ns f b =
+pub legal-few : (τ : Terms) (total : ℕ) (ns : List Node) → Fits total 0 [] ns → length (squeezed noWait (packed nothing ns)) < 2147483648
+    → (row : ℕ) → Legal τ total 0 row [] [] (squeezed noWait (packed nothing ns))
+legal-few τ total ns f b =
     let a = enough ns nothing noWait in
     let c = count-total total [] ns nothing f in
-    legal total ns f (omega arith) (omega arith)
+    legal τ total ns f (omega arith) (omega arith)
 
 -- ---- ObjectIds and IdRefs
 
@@ -118,11 +119,11 @@ among-either {X} i (j ∷ a) b e f g = go (eqb i j) e f (λ h k. among-either i 
     go false e f again = again e f
 
 -- the ObjectIds after count are those to total
-pub legal-ids : {total count row : ℕ} {fs : List Place} {es : List Entry} {xs : List Shown} → Legal total count row fs es xs
+pub legal-ids : (τ : Terms) {total count row : ℕ} {fs : List Place} {es : List Entry} {xs : List Shown} → Legal τ total count row fs es xs
     → (i : ℕ) → count < i → i ≤ total → among i (idsOf (recsOf xs ++ (end ∷ []))) ≡ true
-legal-ids (all-shown e) i a b = absurd (omega arith)
-legal-ids {total} {count = count} (a-record {next = next} {x = x} {xs = xs} t s o n id e g d l) i a b =
-    go (isObject (kindOf (x .rec))) id e (legal-ids l i)
+legal-ids τ (all-shown e) i a b = absurd (omega arith)
+legal-ids τ {total} {count = count} (a-record {next = next} {x = x} {xs = xs} t s o n id e g d l) i a b =
+    go (isObject (kindOf (x .rec))) id e (legal-ids τ l i)
   where
     go : (t : Bool) → idOf (x .rec) ≡ pick t (suc count ∷ []) [] → next ≡ count + pick t 1 0
         → (next < i → i ≤ total → among i (idsOf (recsOf xs ++ (end ∷ []))) ≡ true) → among i (idOf (x .rec) ++ idsOf (recsOf xs ++ (end ∷ []))) ≡ true
@@ -135,37 +136,37 @@ legal-ids {total} {count = count} (a-record {next = next} {x = x} {xs = xs} t s 
             among-right i (idOf (x .rec)) (idsOf (recsOf xs ++ (end ∷ []))) (again (omega arith) b)
     go false id e again = among-right i (idOf (x .rec)) (idsOf (recsOf xs ++ (end ∷ []))) (again (omega arith) b)
 
-array-refs : {es : List Entry} {k i n : ℕ} {r : Rec} {ts : List SlotType} → Array es r k i n ts → refOf r ≡ []
-array-refs (of-objects a) = refl
-array-refs (of-strings a) = refl
-array-refs (of-primitives a b) = refl
-array-refs (of-any a b c d e) = refl
-array-refs (of-values a b c) = refl
+array-refs : (τ : Terms) {es : List Entry} {k i n : ℕ} {r : Rec} {ts : List SlotType} → Array τ es r k i n ts → refOf r ≡ []
+array-refs τ (of-objects a) = refl
+array-refs τ (of-strings a) = refl
+array-refs τ (of-primitives a b) = refl
+array-refs τ (of-any a b c d e) = refl
+array-refs τ (of-values a b c) = refl
 
 pub not-zero : (i : ℕ) → Positive i → 0 < i
 not-zero i w = w .above
 
 -- the target of a reference
-taken-refs : {total : ℕ} {es : List Entry} {r : Rec} {ts : List SlotType} → Takes total es r ts → (i : ℕ) → among i (refOf r) ≡ true → (0 < i) × (i ≤ total)
-taken-refs (class-by-id a b c) i e = apart e
-taken-refs (system-class a b c) i e = apart e
-taken-refs (library-class a b c d) i e = apart e
-taken-refs (a-string a b) i e = apart e
-taken-refs (an-array a b) i e = apart (sym (ap (among i) (array-refs b)) ∙ e)
-taken-refs (a-primitive a) i e = apart e
-taken-refs {total} (a-reference {i = j} a b) i e = go (eqb i j) refl e
+taken-refs : (τ : Terms) {total : ℕ} {es : List Entry} {r : Rec} {ts : List SlotType} → Takes τ total es r ts → (i : ℕ) → among i (refOf r) ≡ true → (0 < i) × (i ≤ total)
+taken-refs τ (class-by-id a b c) i e = apart e
+taken-refs τ (system-class a b c) i e = apart e
+taken-refs τ (library-class a b c d) i e = apart e
+taken-refs τ (a-string a b) i e = apart e
+taken-refs τ (an-array a b) i e = apart (sym (ap (among i) (array-refs τ b)) ∙ e)
+taken-refs τ (a-primitive a) i e = apart e
+taken-refs τ {total} (a-reference {i = j} a b) i e = go (eqb i j) refl e
   where
     go : (t : Bool) → eqb i j ≡ t → (t || false) ≡ true → (0 < i) × (i ≤ total)
     go true q e = let z = eqb-true i j q in let k = not-zero j a in (omega arith, omega arith)
     go false q e = apart e
-taken-refs L.a-null i e = apart e
-taken-refs (some-nulls a b) i e = apart e
-taken-refs (many-nulls a) i e = apart e
-taken-refs (a-library a b c) i e = apart e
-taken-refs (a-value a) i e = apart e
+taken-refs τ L.a-null i e = apart e
+taken-refs τ (some-nulls a b) i e = apart e
+taken-refs τ (many-nulls a) i e = apart e
+taken-refs τ (a-library a b c) i e = apart e
+taken-refs τ (a-value a) i e = apart e
 
-pub legal-refs : {total count row : ℕ} {fs : List Place} {es : List Entry} {xs : List Shown} → Legal total count row fs es xs
+pub legal-refs : (τ : Terms) {total count row : ℕ} {fs : List Place} {es : List Entry} {xs : List Shown} → Legal τ total count row fs es xs
     → (i : ℕ) → among i (refsOf (recsOf xs ++ (end ∷ []))) ≡ true → (0 < i) × (i ≤ total)
-legal-refs (all-shown e) i q = apart q
-legal-refs (a-record {x = x} {xs = xs} t s o n id e g d l) i q =
-    among-either i (refOf (x .rec)) (refsOf (recsOf xs ++ (end ∷ []))) q (taken-refs t i) (legal-refs l i)
+legal-refs τ (all-shown e) i q = apart q
+legal-refs τ (a-record {x = x} {xs = xs} t s o n id e g d l) i q =
+    among-either i (refOf (x .rec)) (refsOf (recsOf xs ++ (end ∷ []))) q (taken-refs τ t i) (legal-refs τ l i)

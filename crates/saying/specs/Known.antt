@@ -8,6 +8,7 @@ use lib.ListN.{length, getD, take, drop, take-append-drop}
 use lib.Seq.{length-take-le}
 use lib.Dec.{eqb}
 use borrow.Author.Tests.{eqb-true, eq-eqb}
+use Rattle.format.specs.Terms.{Terms}
 use Rattle.format.specs.declared.SlotType.{SlotType}
 use Rattle.format.specs.declared.Row.{Row}
 use Rattle.format.specs.Bytes.{pick}
@@ -34,7 +35,7 @@ unknown-both i (aLibrary j ∷ es) fs e = go (eqb j i) e (unknown-both i es fs)
     go true e h = absurd (let z : _≡_ {A = ℕ} 0 1 = cc in omega arith)
     go false e h = h e
 
-module _ (s : List ℕ) (rows : List Row) where
+module _ (τ : Terms) (s : List ℕ) (rows : List Row) where
   -- the class in the row before this number
   abbrev pub classAt : ℕ → Class
   classAt row = classFrom s rows (getD rows (row - 1) blank)
@@ -82,7 +83,7 @@ module _ (s : List ℕ) (rows : List Row) where
   -- ---- classes whose libraries are known are good
 
   module _ (es : List Entry) (w : GoodEntries es) where
-    pub type-good : (d : Detail Prefixed ℕ) → GoodDetail es d → GoodType (named (libraryName s rows) d)
+    pub type-good : (d : Detail Prefixed ℕ) → GoodDetail τ es d → GoodType (named (libraryName s rows) d)
     type-good (primitive c) g = tt
     type-good text g = tt
     type-good object g = tt
@@ -92,11 +93,11 @@ module _ (s : List ℕ) (rows : List Row) where
     type-good texts g = tt
     type-good (primitives c) g = tt
 
-    members-good : {ms : List (Member Prefixed ℕ)} → Members es ms → GoodMembers (namedAll (libraryName s rows) ms)
+    members-good : {ms : List (Member Prefixed ℕ)} → Members τ es ms → GoodMembers (namedAll (libraryName s rows) ms)
     members-good no-more = G.no-more
     members-good (member {m = m} n g gs) = G.member (n .characters) (type-good (m .type) g) (members-good gs)
 
-    pub class-good : (n : Prefixed) (from : From) (ms : List (Member Prefixed ℕ)) → ClassInfo es n ms → GoodFrom from
+    pub class-good : (n : Prefixed) (from : From) (ms : List (Member Prefixed ℕ)) → ClassInfo τ es n ms → GoodFrom from
         → GoodClass (classOfAll (libraryName s rows) (n .text) from ms)
     class-good n from ms g f =
         let l : length (namedAll (libraryName s rows) ms) ≡ length ms = length-named ms in

@@ -7,6 +7,7 @@ use mathlib.Core.List.{List, [], _∷_, _++_}
 use native.Mathlib.Omega.{arith}
 use lib.ListN.{length, replicate, length-append, length-replicate}
 use lib.Dec.{eqb}
+use Rattle.format.specs.Terms.{Terms}
 use Rattle.format.specs.declared.SlotType.{SlotType}
 use Rattle.format.specs.declared.SlotType.the-variants as S
 use Rattle.format.specs.Bytes.{pick, sameBytes}
@@ -107,29 +108,29 @@ length-slots [] = refl
 length-slots (m ∷ ms) = ap suc (length-slots ms)
 
 -- libraries by number are known where all that have one are
-module _ (es : List Entry) (ls : Libraries) (there : (n : List ℕ) → Has ls n → LibraryId (numberIn (sameBytes n) ls) es) where
-  pub detail-good : (d : Detail (List ℕ) (List ℕ)) → GoodType d → Each (Has ls) (detailNeeds d) → GoodDetail es (detailBy ls d)
+module _ (τ : Terms) (es : List Entry) (ls : Libraries) (there : (n : List ℕ) → Has ls n → LibraryId (numberIn (sameBytes n) ls) es) where
+  pub detail-good : (d : Detail (List ℕ) (List ℕ)) → GoodType d → Each (Has ls) (detailNeeds d) → GoodDetail τ es (detailBy ls d)
   detail-good (primitive c) g h = tt
   detail-good text g h = tt
   detail-good object g h = tt
-  detail-good (system n) g h = shortest-name g
-  detail-good (class n l) g (a-name p h) = (shortest-name (g .0), there l p)
+  detail-good (system n) g h = shortest-name τ g
+  detail-good (class n l) g (a-name p h) = (shortest-name τ (g .0), there l p)
   detail-good objects g h = tt
   detail-good texts g h = tt
   detail-good (primitives c) g h = tt
 
-  members-good : (ms : List (Member (List ℕ) (List ℕ))) → GoodMembers ms → Each (Has ls) (membersNeed ms) → Members es (membersBy ls ms)
+  members-good : (ms : List (Member (List ℕ) (List ℕ))) → GoodMembers ms → Each (Has ls) (membersNeed ms) → Members τ es (membersBy ls ms)
   members-good [] no-more h = G.no-more
   members-good (m ∷ ms) (member n t g) h =
-      G.member (shortest-name n) (detail-good (m .type) t (each-left (detailNeeds (m .type)) (membersNeed ms) h))
+      G.member (shortest-name τ n) (detail-good (m .type) t (each-left (detailNeeds (m .type)) (membersNeed ms) h))
       (members-good ms g (each-right (detailNeeds (m .type)) (membersNeed ms) h))
 
-  pub class-good : (c : Class) → GoodClass c → Each (Has ls) (classNeeds c) → ClassInfo es (shortest (c .name)) (membersBy ls (c .members))
+  pub class-good : (c : Class) → GoodClass c → Each (Has ls) (classNeeds c) → ClassInfo τ es (shortest (c .name)) (membersBy ls (c .members))
   class-good c g h =
       let l = length-by ls (c .members) in
       let k = g .counted in
       record {
-        named = shortest-name (g .named);
+        named = shortest-name τ (g .named);
         counted = omega arith;
         members = members-good (c .members) (g .members) (each-left (membersNeed (c .members)) (fromNeeds (c .from)) h);
       }

@@ -4,6 +4,7 @@ use Prim.Native.Nat.{ℕ, suc, _+_}
 use mathlib.Core.Path.{_≡_, refl, subst}
 use mathlib.Core.Bool.{Bool, true, false}
 use mathlib.Core.List.{List, [], _∷_}
+use Rattle.format.specs.Terms.{Terms}
 use Rattle.format.specs.declared.PrimitiveCode.{PrimitiveCode}
 use Rattle.format.specs.declared.SlotType.{SlotType}
 use Rattle.format.specs.Bytes.{pick}
@@ -58,8 +59,9 @@ module _ (code : ℕ → ℕ → PrimitiveCode) where
       go false true g = h
       go false false g = codes-shut (filledBy (fills r) fs) (codes-by (fills r) fs h)
 
+module _ (τ : Terms) (code : ℕ → ℕ → PrimitiveCode) where
   -- a member value has the code of its slot
-  pub value-coded : {fs : List Place} {c : PrimitiveCode} {v : Prefixed} {ts : List SlotType} → Stands fs (value c v) ts → OpenCodes fs
+  pub value-coded : {fs : List Place} {c : PrimitiveCode} {v : Prefixed} {ts : List SlotType} → Stands τ fs (value c v) ts → OpenCodes code fs
       → code (ownerOf fs) (slotOf fs) ≡ c
   value-coded (top-object e) h = apart e
   value-coded (in-object a e d) h = apart e

@@ -5,6 +5,7 @@ use mathlib.Core.Bool.{Bool, true, false}
 use mathlib.Core.List.{List, [], _∷_}
 use native.Mathlib.Omega.{arith}
 use lib.ListN.{length}
+use Rattle.format.specs.Terms.{Terms}
 use Rattle.format.specs.declared.PrimitiveCode.{PrimitiveCode}
 use Rattle.format.specs.declared.Setting.the-variants as Q
 use Rattle.format.specs.Bytes.{pick}
@@ -17,8 +18,8 @@ use Rattle.saying.specs.Good.{Contents, no-item, an-item}
 
 -- ---- names and texts
 
-pub shortest-name : {t : List ℕ} → Characters t → Name (shortest t)
-shortest-name {t} g = record { characters = g; prefix = shortest-width (length t) (g .short) Q.Strict }
+pub shortest-name : (τ : Terms) {t : List ℕ} → Characters t → Name τ (shortest t)
+shortest-name τ {t} g = record { characters = g; prefix = shortest-width (length t) (g .short) (τ .setting) }
 
 -- ---- values
 
@@ -56,19 +57,19 @@ pub texts-by : (c : PrimitiveCode) (vs : List (List ℕ)) → textsOf (valuesBy 
 texts-by c [] = refl
 texts-by c (v ∷ vs) = rw (text-by c v, texts-by c vs)
 
-pub value-by : {c : PrimitiveCode} {v : List ℕ} → Content c v → Value c (valueBy c v)
-value-by {c} {v} g = record { content = subst (Content c) (sym (text-by c v)) g; prefix = go (hasPrefix c) (short-enough g) }
+pub value-by : (τ : Terms) {c : PrimitiveCode} {v : List ℕ} → Content c v → Value τ c (valueBy c v)
+value-by τ {c} {v} g = record { content = subst (Content c) (sym (text-by c v)) g; prefix = go (hasPrefix c) (short-enough g) }
   where
-    go : (b : Bool) → (b ≡ true → length v < 2147483648) → PrefixIf b (pick b (shortest v) (bare v) .width) (length (pick b (shortest v) (bare v) .text))
-    go true h = shortest-width (length v) (h refl) Q.Strict
+    go : (b : Bool) → (b ≡ true → length v < 2147483648) → PrefixIf τ b (pick b (shortest v) (bare v) .width) (length (pick b (shortest v) (bare v) .text))
+    go true h = shortest-width (length v) (h refl) (τ .setting)
     go false h = refl
 
 -- ---- items
 
-pub values-by : {c : PrimitiveCode} {n : ℕ} {vs : List (List ℕ)} → Contents c n vs → Values c n (valuesBy c vs)
-values-by no-item = none
-values-by (an-item g gs) = more (value-by g) (values-by gs)
+pub values-by : (τ : Terms) {c : PrimitiveCode} {n : ℕ} {vs : List (List ℕ)} → Contents c n vs → Values τ c n (valuesBy c vs)
+values-by τ no-item = none
+values-by τ (an-item g gs) = more (value-by τ g) (values-by τ gs)
 
-pub contents-of : {c : PrimitiveCode} {n : ℕ} {vs : List Prefixed} → Values c n vs → Contents c n (textsOf vs)
-contents-of none = no-item
-contents-of (more g gs) = an-item (g .content) (contents-of gs)
+pub contents-of : (τ : Terms) {c : PrimitiveCode} {n : ℕ} {vs : List Prefixed} → Values τ c n vs → Contents c n (textsOf vs)
+contents-of τ none = no-item
+contents-of τ (more g gs) = an-item (g .content) (contents-of τ gs)

@@ -3,6 +3,7 @@ use Prim.Native.Nat.{ℕ}
 use mathlib.Core.Path.{_≡_, refl, ap, _∙_}
 use mathlib.Core.List.{List, _++_}
 use lib.ListN.{drop}
+use Rattle.format.specs.Terms.{Terms}
 use Rattle.format.specs.declared.SlotType.{SlotType}
 use Rattle.format.specs.declared.Row.{Row}
 use Rattle.format.specs.Bytes.{pick}
@@ -15,19 +16,19 @@ use Rattle.saying.specs.Shown.{shown, saidIn, saidAt, saidNodes}
 use Rattle.saying.specs.Legal.{Takes, class-by-id, system-class, library-class, a-string, an-array, a-primitive, a-reference, a-null, some-nulls, many-nulls, a-library, a-value}
 
 -- what a record may hold is what is asked of it by itself
-pub own-contents : {total : ℕ} {es : List Entry} {r : Rec} {ts : List SlotType} → Takes total es r ts → GoodRec r
-own-contents (class-by-id a b c) = tt
-own-contents (system-class a b c) = (b .named, own-members (b .members))
-own-contents (library-class {l = l} a b c d) = (b .named, own-members (b .members), positive-bits l (c .sign))
-own-contents (a-string a b) = b
-own-contents (an-array a b) = own-array b
-own-contents (a-primitive a) = a
-own-contents (a-reference a b) = tt
-own-contents a-null = tt
-own-contents (some-nulls a b) = tt
-own-contents (many-nulls a) = tt
-own-contents (a-library a b c) = c
-own-contents (a-value a) = a
+pub own-contents : (τ : Terms) {total : ℕ} {es : List Entry} {r : Rec} {ts : List SlotType} → Takes τ total es r ts → GoodRec τ r
+own-contents τ (class-by-id a b c) = tt
+own-contents τ (system-class a b c) = (b .named, own-members τ (b .members))
+own-contents τ (library-class {l = l} a b c d) = (b .named, own-members τ (b .members), positive-bits l (c .sign))
+own-contents τ (a-string a b) = b
+own-contents τ (an-array a b) = own-array τ b
+own-contents τ (a-primitive a) = a
+own-contents τ (a-reference a b) = tt
+own-contents τ a-null = tt
+own-contents τ (some-nulls a b) = tt
+own-contents τ (many-nulls a) = tt
+own-contents τ (a-library a b c) = c
+own-contents τ (a-value a) = a
 
 -- nulls by the count in the row
 module _ (name : ℕ → List ℕ) (of : ℕ → Class) (order : ℕ → ℕ) (o n k : ℕ) where
@@ -51,7 +52,7 @@ module _ (name : ℕ → List ℕ) (of : ℕ → Class) (order : ℕ → ℕ) (o
   said-row (stringArray i m) c = refl
   said-row (value b v) c = refl
 
-pub row-said : (s : List ℕ) (rows : List Row) (w : Row) (of : ℕ → Class) (order : ℕ → ℕ) (q : List ℕ) (at : ℕ) (r : Rec) → drop at s ≡ enc r ++ q → RowOf r at w
-    → GoodRec r → LinkIs s rows of order r w → nodesOf s rows w ≡ saidNodes (libraryName s rows) of order (shown r (orderOf rows (w .owner)) (w .slot))
-row-said s rows w of order q at r d g h l =
-    nodes-there s rows w of order q at r d g h l ∙ said-row (libraryName s rows) of order (orderOf rows (w .owner)) (w .slot) (w .count) r (g .count-is)
+pub row-said : (τ : Terms) (s : List ℕ) (rows : List Row) (w : Row) (of : ℕ → Class) (order : ℕ → ℕ) (q : List ℕ) (at : ℕ) (r : Rec) → drop at s ≡ enc r ++ q → RowOf r at w
+    → GoodRec τ r → LinkIs s rows of order r w → nodesOf s rows w ≡ saidNodes (libraryName s rows) of order (shown r (orderOf rows (w .owner)) (w .slot))
+row-said τ s rows w of order q at r d g h l =
+    nodes-there τ s rows w of order q at r d g h l ∙ said-row (libraryName s rows) of order (orderOf rows (w .owner)) (w .slot) (w .count) r (g .count-is)

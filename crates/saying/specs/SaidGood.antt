@@ -7,6 +7,7 @@ use native.Mathlib.Omega.{arith}
 use lib.ListN.{length, getD, take, drop, replicate}
 use lib.Dec.{eqb}
 use borrow.Author.Tests.{eq-eqb}
+use Rattle.format.specs.Terms.{Terms}
 use Rattle.format.specs.declared.PrimitiveCode.{PrimitiveCode}
 use Rattle.format.specs.declared.SlotType.{SlotType}
 use Rattle.format.specs.declared.SlotType.the-variants as S
@@ -63,7 +64,7 @@ module _ (total count o : ℕ) (fs : List Place) (ns : List Node) where
 abbrev rowFor : ℕ → Rec → ℕ → ℕ → ℕ → ℕ → ℕ → Row
 rowFor at r id own slot link count = rowOf (kindOf r) at r id own slot link count
 
-module _ (s : List ℕ) (raw : List Row) where
+module _ (τ : Terms) (s : List ℕ) (raw : List Row) where
   -- the rows with their links
   abbrev table : List Row
   table = linked raw
@@ -79,7 +80,7 @@ module _ (s : List ℕ) (raw : List Row) where
     pub rows-there : drop row table ≡ map withOwn is
     pub bytes-there : drop at s ≡ encs rs
     pub targets : (i : ℕ) → among i (refsOf rs) ≡ true → Ordered total (orderOf table (objectRow i raw))
-    pub knows : Knows s table row es
+    pub knows : Knows τ s table row es
 
   -- what the rows from a cursor on say fits these open objects
   pub record Ok (fs : List Place) (at row : ℕ) (es : List Entry) (rs : List Rec) (is : List Row) : Type 0 where
@@ -93,7 +94,7 @@ module _ (s : List ℕ) (raw : List Row) where
     unfolding encs
     first-bytes = w .bytes-there
 
-    after : {at₁ : ℕ} {es₁ : List Entry} → at₁ ≡ at + size r → Knows s table (suc row) es₁ → At at₁ (suc row) es₁ rs is
+    after : {at₁ : ℕ} {es₁ : List Entry} → at₁ ≡ at + size r → Knows τ s table (suc row) es₁ → At at₁ (suc row) es₁ rs is
     after {at₁} e k =
         record {
           rows-there = items-after table (map withOwn is) (withOwn x) row (w .rows-there);
@@ -125,22 +126,22 @@ module _ (s : List ℕ) (raw : List Row) where
     pub allowed : Allowed total fs what
     pub counts : countOf what ≡ pick (isObject (kindOf r)) 1 0
     pub opens : openAfter (orderOf table row) fs what ≡ gs
-    pub knows : Knows s table (suc row) es₁
+    pub knows : Knows τ s table (suc row) es₁
 
   module _ {at row : ℕ} {es es₁ : List Entry} {r : Rec} {rs : List Rec} {is : List Row} (id own slot link count : ℕ) where
-    nodes-said : {fs gs : List Place} → Stands fs own slot → CountIs r count → GoodRec r → isNulls (kindOf r) ≡ false
+    nodes-said : {fs gs : List Place} → Stands fs own slot → CountIs r count → GoodRec τ r → isNulls (kindOf r) ≡ false
         → At at row es (r ∷ rs) (rowFor at r id own slot link count ∷ is) → (t : Step fs gs row r (rowFor at r id own slot link count) es₁)
         → nodesOf s table (withOwn (rowFor at r id own slot link count)) ≡ node (t .what) (ownerOf fs) (slotOf fs) ∷ []
     nodes-said {fs} p c g n w t =
         let x = rowFor at r id own slot link count in
         let y = withOwn x in
         let f = row-linked (linkOf raw x) (row-of r at id own slot link count c) in
-        nodes-there s table y (t .of) (t .order) (encs rs) at r (first-bytes w) f g (t .link-is)
+        nodes-there τ s table y (t .of) (t .order) (encs rs) at r (first-bytes w) f g (t .link-is)
         ∙ (ap (λ (b : Bool). pick b (run s table y) (map (inSlot s table y) (saidBy (libraryName s table) (t .of) (t .order) r))) n
         ∙ (ap (map (inSlot s table y)) (t .said)
         ∙ (ap (λ (o : ℕ). node (t .what) o slot ∷ []) (p .owner-is) ∙ ap (λ (m : ℕ). node (t .what) (ownerOf fs) m ∷ []) (p .slot-is))))
 
-    record-fits : {at₁ : ℕ} {fs gs : List Place} → Stands fs own slot → CountIs r count → GoodRec r → isNulls (kindOf r) ≡ false → at₁ ≡ at + size r
+    record-fits : {at₁ : ℕ} {fs gs : List Place} → Stands fs own slot → CountIs r count → GoodRec τ r → isNulls (kindOf r) ≡ false → at₁ ≡ at + size r
         → At at row es (r ∷ rs) (rowFor at r id own slot link count ∷ is) → Step fs gs row r (rowFor at r id own slot link count) es₁
         → Ok gs at₁ (suc row) es₁ rs is → Fits total (orderOf table row) fs (nodesFrom s table (drop row table))
     record-fits {fs = fs} {gs = gs} p c g n e w t k =
@@ -153,14 +154,14 @@ module _ (s : List ℕ) (raw : List Row) where
         (a-node (t .allowed) refl refl u)
 
     -- what follows may use where the record stands
-    record-opens : {at₁ : ℕ} {it : Row} {fs gs : List Place} → it ≡ rowFor at r id own slot link count → Stands fs own slot → CountIs r count → GoodRec r
+    record-opens : {at₁ : ℕ} {it : Row} {fs gs : List Place} → it ≡ rowFor at r id own slot link count → Stands fs own slot → CountIs r count → GoodRec τ r
         → isNulls (kindOf r) ≡ false → at₁ ≡ at + size r
         → (At at row es (r ∷ rs) (rowFor at r id own slot link count ∷ is) → Step fs gs row r (rowFor at r id own slot link count) es₁)
         → (At at row es (r ∷ rs) (rowFor at r id own slot link count ∷ is) → Ok gs at₁ (suc row) es₁ rs is) → Ok fs at row es (r ∷ rs) (it ∷ is)
     record-opens {fs = fs} q p c g n e t k =
         subst (λ (x : Row). Ok fs at row es (r ∷ rs) (x ∷ is)) (sym q) (record { leads = λ w. record-fits p c g n e w (t w) (k w) })
 
-    record-ok : {at₁ : ℕ} {it : Row} {fs gs : List Place} → it ≡ rowFor at r id own slot link count → Stands fs own slot → CountIs r count → GoodRec r
+    record-ok : {at₁ : ℕ} {it : Row} {fs gs : List Place} → it ≡ rowFor at r id own slot link count → Stands fs own slot → CountIs r count → GoodRec τ r
         → isNulls (kindOf r) ≡ false → at₁ ≡ at + size r
         → (At at row es (r ∷ rs) (rowFor at r id own slot link count ∷ is) → Step fs gs row r (rowFor at r id own slot link count) es₁)
         → Ok gs at₁ (suc row) es₁ rs is → Ok fs at row es (r ∷ rs) (it ∷ is)
@@ -169,25 +170,25 @@ module _ (s : List ℕ) (raw : List Row) where
   -- ---- what a record leaves known
 
   module _ {at row : ℕ} {es : List Entry} {r : Rec} {rs : List Rec} {x : Row} {is : List Row} (w : At at row es (r ∷ rs) (x ∷ is)) where
-    known-same : eqb (x .kind) 12 ≡ false → Knows s table (suc row) es
-    known-same n = knows-same s table (map withOwn is) (withOwn x) row (w .rows-there) n (w .knows)
+    known-same : eqb (x .kind) 12 ≡ false → Knows τ s table (suc row) es
+    known-same n = knows-same τ s table (map withOwn is) (withOwn x) row (w .rows-there) n (w .knows)
 
-    known-another : (i : ℕ) → eqb (x .kind) 12 ≡ false → Knows s table (suc row) (es ++ (another i ∷ []))
-    known-another i n = knows-another s table (map withOwn is) (withOwn x) row (w .rows-there) i n (w .knows)
+    known-another : (i : ℕ) → eqb (x .kind) 12 ≡ false → Knows τ s table (suc row) (es ++ (another i ∷ []))
+    known-another i n = knows-another τ s table (map withOwn is) (withOwn x) row (w .rows-there) i n (w .knows)
 
     known-class : (i : ℕ) (ts : List SlotType) (c : Class) → eqb (x .kind) 12 ≡ false → classFrom s table (withOwn x) ≡ c → GoodClass c
-        → slotsOf (c .members) ≡ ts → Knows s table (suc row) (es ++ (aClass i (suc row) ts ∷ []))
+        → slotsOf (c .members) ≡ ts → Knows τ s table (suc row) (es ++ (aClass i (suc row) ts ∷ []))
     known-class i ts c n e g h =
         let z : suc row - 1 ≡ row = omega arith in
-        let a : classAt s table (suc row) ≡ c =
+        let a : classAt τ s table (suc row) ≡ c =
         ap (λ (j : ℕ). classFrom s table (getD table j blank)) z
         ∙ (ap (classFrom s table) (item-there table (map withOwn is) (withOwn x) row (w .rows-there) blank) ∙ e) in
-        knows-class s table (map withOwn is) (withOwn x) row (w .rows-there) i (suc row) ts n
+        knows-class τ s table (map withOwn is) (withOwn x) row (w .rows-there) i (suc row) ts n
         (record { good = subst GoodClass (sym a) g; slots = ap (λ (d : Class). slotsOf (d .members)) a ∙ h }) (w .knows)
 
     -- an object of this class has the codes of its slots
-    row-codes : (c : Class) (ts : List SlotType) → classFrom s table (classRowOf table (withOwn x)) ≡ c → slotsOf (c .members) ≡ ts → Codes s table (suc row) 0 ts
-    row-codes c ts e f = class-codes s table (suc row) c ts (row-class s table (map withOwn is) (withOwn x) row (w .rows-there) ∙ e) f
+    row-codes : (c : Class) (ts : List SlotType) → classFrom s table (classRowOf table (withOwn x)) ≡ c → slotsOf (c .members) ≡ ts → Codes τ s table (suc row) 0 ts
+    row-codes c ts e f = class-codes τ s table (suc row) c ts (row-class τ s table (map withOwn is) (withOwn x) row (w .rows-there) ∙ e) f
 
     -- the order of an object
     order-next : isObject (x .kind) ≡ true → suc (orderOf table row) ≡ orderOf table (suc row)
@@ -204,11 +205,11 @@ module _ (s : List ℕ) (raw : List Row) where
   -- ---- records that open nothing
 
   -- a record whose link says nothing
-  plain-step : {fs gs : List Place} {row : ℕ} {r : Rec} {x : Row} {es₁ : List Entry} (what : What) → LinkIs s table (classAt s table) (orderOf table) r (withOwn x)
-      → saidBy (libraryName s table) (classAt s table) (orderOf table) r ≡ what ∷ [] → countOf what ≡ pick (isObject (kindOf r)) 1 0
-      → openAfter (orderOf table row) fs what ≡ gs → Allowed total fs what → Knows s table (suc row) es₁ → Step fs gs row r x es₁
+  plain-step : {fs gs : List Place} {row : ℕ} {r : Rec} {x : Row} {es₁ : List Entry} (what : What) → LinkIs s table (classAt τ s table) (orderOf table) r (withOwn x)
+      → saidBy (libraryName s table) (classAt τ s table) (orderOf table) r ≡ what ∷ [] → countOf what ≡ pick (isObject (kindOf r)) 1 0
+      → openAfter (orderOf table row) fs what ≡ gs → Allowed total fs what → Knows τ s table (suc row) es₁ → Step fs gs row r x es₁
   plain-step what l e c o a k =
-      record { what = what; of = classAt s table; order = orderOf table; link-is = l; said = e; allowed = a; counts = c; opens = o; knows = k }
+      record { what = what; of = classAt τ s table; order = orderOf table; link-is = l; said = e; allowed = a; counts = c; opens = o; knows = k }
 
   top-stands : Stands [] 0 0
   unfolding orderOf objectsIn
@@ -218,21 +219,21 @@ module _ (s : List ℕ) (raw : List Row) where
   slot-stands = record { owner-is = refl; slot-is = refl }
 
   module _ {at row own slot : ℕ} {es : List Entry} {rs : List Rec} {it : Row} {is : List Row} {fs : List Place} (p : Stands fs own slot) where
-    string-ok : {i : ℕ} {x : Prefixed} → Allowed total fs (aString (x .text)) → Name x → it ≡ rowOf 6 at (string i x) i own slot 0 0
+    string-ok : {i : ℕ} {x : Prefixed} → Allowed total fs (aString (x .text)) → Name τ x → it ≡ rowOf 6 at (string i x) i own slot 0 0
         → Ok (shut (filledOne fs)) (at + size (string i x)) (suc row) (es ++ (another i ∷ [])) rs is → Ok fs at row es (string i x ∷ rs) (it ∷ is)
     string-ok {i} {x} a n q k =
         record-ok i own slot 0 0 q p tt n refl refl
         (λ w. plain-step (aString (x .text)) tt refl refl refl a (known-another w i refl)) k
 
     -- of the code that its owner's class has for its slot
-    value-ok : {b : PrimitiveCode} {v : Prefixed} → Allowed total fs (aValue b (v .text)) → Value b v → codeIn (ownerClass s table own .members) slot ≡ b
+    value-ok : {b : PrimitiveCode} {v : Prefixed} → Allowed total fs (aValue b (v .text)) → Value τ b v → codeIn (ownerClass τ s table own .members) slot ≡ b
         → it ≡ rowOf 32 at (value b v) 0 own slot 0 0
         → Ok (shut (filledOne fs)) (at + size (value b v)) (suc row) es rs is → Ok fs at row es (value b v ∷ rs) (it ∷ is)
     value-ok {b} {v} a g e q k =
         record-ok 0 own slot 0 0 q p tt g refl refl
-        (λ w. plain-step (aValue b (v .text)) (value-code s table (withOwn (rowOf 32 at (value b v) 0 own slot 0 0)) b e) refl refl refl a (known-same w refl)) k
+        (λ w. plain-step (aValue b (v .text)) (value-code τ s table (withOwn (rowOf 32 at (value b v) 0 own slot 0 0)) b e) refl refl refl a (known-same w refl)) k
 
-    typed-primitive-ok : {b : PrimitiveCode} {v : Prefixed} → Allowed total fs (aPrimitive b (v .text)) → Value b v → it ≡ rowOf 8 at (typedPrimitive b v) 0 own slot 0 0
+    typed-primitive-ok : {b : PrimitiveCode} {v : Prefixed} → Allowed total fs (aPrimitive b (v .text)) → Value τ b v → it ≡ rowOf 8 at (typedPrimitive b v) 0 own slot 0 0
         → Ok (shut (filledOne fs)) (at + size (typedPrimitive b v)) (suc row) es rs is → Ok fs at row es (typedPrimitive b v ∷ rs) (it ∷ is)
     typed-primitive-ok {b} {v} a g q k =
         record-ok 0 own slot 0 0 q p tt g refl refl
@@ -245,7 +246,7 @@ module _ (s : List ℕ) (raw : List Row) where
         record-ok i own slot 0 0 q p tt tt refl refl
         (λ w. record {
           what = aReference (orderOf table (objectRow i raw));
-          of = classAt s table;
+          of = classAt τ s table;
           order = λ j. orderOf table (objectRow j raw);
           link-is = refl;
           said = refl;
@@ -267,7 +268,7 @@ module _ (s : List ℕ) (raw : List Row) where
       (subst (λ (n : ℕ). Fits total n fs (ns ++ nodesFrom s table (drop (suc row) table))) (order-same w o) f)
 
   module _ {at row : ℕ} {es : List Entry} {rs : List Rec} {it : Row} {is : List Row} where
-    library-ok : {i : ℕ} {n : Prefixed} {fs : List Place} → known i es ≡ false → Name n → it ≡ rowOf 12 at (library i n) i 0 0 0 0
+    library-ok : {i : ℕ} {n : Prefixed} {fs : List Place} → known i es ≡ false → Name τ n → it ≡ rowOf 12 at (library i n) i 0 0 0 0
         → Ok fs (at + size (library i n)) (suc row) (es ++ (aLibrary i ∷ [])) rs is → Ok fs at row es (library i n ∷ rs) (it ∷ is)
     library-ok {i} {n} {fs} f g q k = subst (λ (x : Row). Ok fs at row es (library i n ∷ rs) (x ∷ is)) (sym q) (record { leads = leads })
       where
@@ -278,15 +279,15 @@ module _ (s : List ℕ) (raw : List Row) where
         leads w =
             let y = withOwn x in
             let h = row-linked (linkOf raw x) (row-of (library i n) at i 0 0 0 0 tt) in
-            let e = nodes-there s table y (classAt s table) (orderOf table) (encs rs) at (library i n) (first-bytes w) h g tt in
-            let m = subst Characters (sym (library-said s table y at (encs rs) i n g (first-bytes w) refl)) (g .characters) in
-            let u = knows-library s table (map withOwn is) y row (w .rows-there) i refl refl f (w .knows) m in
+            let e = nodes-there τ s table y (classAt τ s table) (orderOf table) (encs rs) at (library i n) (first-bytes w) h g tt in
+            let m = subst Characters (sym (library-said τ s table y at (encs rs) i n g (first-bytes w) refl)) (g .characters) in
+            let u = knows-library τ s table (map withOwn is) y row (w .rows-there) i refl refl f (w .knows) m in
             fits-same [] w refl e (k .leads (after w refl u))
 
     -- a null, or a run of them, in slots that all take records
     nulls-ok : {at₁ own slot : ℕ} {us : List SlotType} (ts : List SlotType) (fs : List Place) (r : Rec) (n : ℕ) → isNulls (kindOf r) ≡ true
-        → isObject (kindOf r) ≡ false → eqb (kindOf r) 12 ≡ false → CountIs r n → GoodRec r
-        → LinkIs s table (classAt s table) (orderOf table) r (withOwn (rowFor at r 0 own slot 0 n))
+        → isObject (kindOf r) ≡ false → eqb (kindOf r) 12 ≡ false → CountIs r n → GoodRec τ r
+        → LinkIs s table (classAt τ s table) (orderOf table) r (withOwn (rowFor at r 0 own slot 0 n))
         → at₁ ≡ at + size r → n ≤ length ts → allTake (take n ts) ≡ true → us ≡ drop n ts → it ≡ rowFor at r 0 own slot 0 n
         → Ok (shut (place (orderOf table own) (slot + n) us ∷ fs)) at₁ (suc row) es rs is
         → Ok (shut (place (orderOf table own) slot ts ∷ fs)) at row es (r ∷ rs) (it ∷ is)
@@ -306,9 +307,9 @@ module _ (s : List ℕ) (raw : List Row) where
         leads w =
             let y = withOwn x in
             let v = row-linked (linkOf raw x) (row-of r at 0 own slot 0 n c) in
-            let e = nodes-there s table y (classAt s table) (orderOf table) (encs rs) at r (first-bytes w) v g z in
+            let e = nodes-there τ s table y (classAt τ s table) (orderOf table) (encs rs) at r (first-bytes w) v g z in
             let d : nodesOf s table y ≡ spread n o slot =
-            e ∙ ap (λ (b : Bool). pick b (run s table y) (map (inSlot s table y) (saidBy (libraryName s table) (classAt s table) (orderOf table) r))) a in
+            e ∙ ap (λ (b : Bool). pick b (run s table y) (map (inSlot s table y) (saidBy (libraryName s table) (classAt τ s table) (orderOf table) r))) a in
             let f = k .leads (after w p (known-same w l)) in
             let f₁ = subst (λ (us : List SlotType). Fits total (orderOf table (suc row)) (shut (place o (slot + n) us ∷ fs)) rest) u f in
             fits-same (spread n o slot) w b d (run-fits total (orderOf table (suc row)) o fs rest n slot ts h j f₁)
@@ -322,7 +323,7 @@ module _ (s : List ℕ) (raw : List Row) where
         leads : At at row es (end ∷ rs) (x ∷ is) → Fits total (orderOf table row) [] (nodesFrom s table (drop row table))
         leads w =
             let h = row-linked (linkOf raw x) (row-of end at 0 0 0 0 0 tt) in
-            let e = nodes-there s table (withOwn x) (classAt s table) (orderOf table) (encs rs) at end (first-bytes w) h tt tt in
+            let e = nodes-there τ s table (withOwn x) (classAt τ s table) (orderOf table) (encs rs) at end (first-bytes w) h tt tt in
             let d : drop (suc row) table ≡ [] = items-after table (map withOwn is) (withOwn x) row (w .rows-there) ∙ ap (map withOwn) z in
             let f = order-end table (suc row) d s in
             fits-same [] w refl e (subst (Fits total (orderOf table (suc row)) []) (sym (f .1)) (G.the-end (f .0)))
@@ -340,7 +341,7 @@ module _ (s : List ℕ) (raw : List Row) where
       → At at row es (r ∷ rs) (x ∷ is) → isObject (x .kind) ≡ true → isObject (kindOf r) ≡ true → Takes fs → Deep ts fs → GoodClass c
       → slotsOf (c .members) ≡ ts → LinkIs s table (λ k. c) (orderOf table) r (withOwn x)
       → saidBy (libraryName s table) (λ k. c) (orderOf table) r ≡ anObject c ∷ []
-      → Knows s table (suc row) es₁ → Step fs (openedIn (orderOf table (suc row)) ts fs) row r x es₁
+      → Knows τ s table (suc row) es₁ → Step fs (openedIn (orderOf table (suc row)) ts fs) row r x es₁
   class-step {fs = fs} c w o p a d g e l h k =
       record {
         what = anObject c;
@@ -355,13 +356,13 @@ module _ (s : List ℕ) (raw : List Row) where
       }
 
   module _ {at row own slot : ℕ} {es : List Entry} {rs : List Rec} {it : Row} {is : List Row} {fs : List Place} (p : Stands fs own slot) (a : Takes fs) where
-    system-class-ok : {i : ℕ} {n : Prefixed} {ms : List (Member Prefixed ℕ)} → ClassInfo es n ms → it ≡ rowOf 4 at (systemClass i n ms) i own slot 0 (length ms)
+    system-class-ok : {i : ℕ} {n : Prefixed} {ms : List (Member Prefixed ℕ)} → ClassInfo τ es n ms → it ≡ rowOf 4 at (systemClass i n ms) i own slot 0 (length ms)
         → Deep (typesOf ms) fs
-        → (Codes s table (suc row) 0 (typesOf ms)
+        → (Codes τ s table (suc row) 0 (typesOf ms)
         → Ok (openedIn (orderOf table (suc row)) (typesOf ms) fs) (at + size (systemClass i n ms)) (suc row) (es ++ (aClass i (suc row) (typesOf ms) ∷ [])) rs is)
         → Ok fs at row es (systemClass i n ms ∷ rs) (it ∷ is)
     system-class-ok {i} {n} {ms} g q d k =
-        record-opens i own slot 0 (length ms) q p refl (g .named, own-members (g .members)) refl refl step
+        record-opens i own slot 0 (length ms) q p refl (g .named, own-members τ (g .members)) refl refl step
         (λ w. k (row-codes w c (typesOf ms) (from w) (slots-same (libraryName s table) ms)))
       where
         x : Row
@@ -373,22 +374,22 @@ module _ (s : List ℕ) (raw : List Row) where
         from : At at row es (systemClass i n ms ∷ rs) (x ∷ is) → classFrom s table (withOwn x) ≡ c
         from w =
             let h = row-linked (linkOf raw x) (row-of (systemClass i n ms) at i own slot 0 (length ms) refl) in
-            system-class-from s table (withOwn x) at (encs rs) i n ms (g .named) (own-members (g .members)) (first-bytes w) h
+            system-class-from τ s table (withOwn x) at (encs rs) i n ms (g .named) (own-members τ (g .members)) (first-bytes w) h
 
         step : At at row es (systemClass i n ms ∷ rs) (x ∷ is)
             → Step fs (openedIn (orderOf table (suc row)) (typesOf ms) fs) row (systemClass i n ms) x (es ++ (aClass i (suc row) (typesOf ms) ∷ []))
         step w =
-            let u = class-good s table es (w .knows .good) n theSystem ms g G.of-system in
+            let u = class-good τ s table es (w .knows .good) n theSystem ms g G.of-system in
             let v = slots-same (libraryName s table) ms in
             class-step c w refl refl a d u v tt refl (known-class w i (typesOf ms) c refl (from w) u v)
 
-    library-class-ok : {i l : ℕ} {n : Prefixed} {ms : List (Member Prefixed ℕ)} → ClassInfo es n ms → LibraryId l es
+    library-class-ok : {i l : ℕ} {n : Prefixed} {ms : List (Member Prefixed ℕ)} → ClassInfo τ es n ms → LibraryId l es
         → it ≡ rowOf 5 at (libraryClass i n ms l) i own slot 0 (length ms) → Deep (typesOf ms) fs
-        → (Codes s table (suc row) 0 (typesOf ms)
+        → (Codes τ s table (suc row) 0 (typesOf ms)
         → Ok (openedIn (orderOf table (suc row)) (typesOf ms) fs) (at + size (libraryClass i n ms l)) (suc row) (es ++ (aClass i (suc row) (typesOf ms) ∷ [])) rs is)
         → Ok fs at row es (libraryClass i n ms l ∷ rs) (it ∷ is)
     library-class-ok {i} {l} {n} {ms} g y q d k =
-        record-opens i own slot 0 (length ms) q p refl (g .named, own-members (g .members), positive-bits l (y .sign)) refl refl step
+        record-opens i own slot 0 (length ms) q p refl (g .named, own-members τ (g .members), positive-bits l (y .sign)) refl refl step
         (λ w. k (row-codes w c (typesOf ms) (from w) (slots-same (libraryName s table) ms)))
       where
         x : Row
@@ -400,26 +401,26 @@ module _ (s : List ℕ) (raw : List Row) where
         from : At at row es (libraryClass i n ms l ∷ rs) (x ∷ is) → classFrom s table (withOwn x) ≡ c
         from w =
             let h = row-linked (linkOf raw x) (row-of (libraryClass i n ms l) at i own slot 0 (length ms) refl) in
-            library-class-from s table (withOwn x) at (encs rs) i n ms (g .named) (own-members (g .members)) l (positive-bits l (y .sign)) (first-bytes w) h
+            library-class-from τ s table (withOwn x) at (encs rs) i n ms (g .named) (own-members τ (g .members)) l (positive-bits l (y .sign)) (first-bytes w) h
 
         step : At at row es (libraryClass i n ms l ∷ rs) (x ∷ is)
             → Step fs (openedIn (orderOf table (suc row)) (typesOf ms) fs) row (libraryClass i n ms l) x (es ++ (aClass i (suc row) (typesOf ms) ∷ []))
         step w =
-            let f = G.of-library (library-known s table l es (w .knows .good) (y .there)) in
-            let u = class-good s table es (w .knows .good) n (theLibrary (libraryName s table l)) ms g f in
+            let f = G.of-library (library-known τ s table l es (w .knows .good) (y .there)) in
+            let u = class-good τ s table es (w .knows .good) n (theLibrary (libraryName s table l)) ms g f in
             let v = slots-same (libraryName s table) ms in
             class-step c w refl refl a d u v tt refl (known-class w i (typesOf ms) c refl (from w) u v)
 
     class-by-id-ok : {i j r : ℕ} {ts : List SlotType} → classOf j es ≡ classed r ts → it ≡ rowOf 1 at (classById i j) i own slot r (length ts) → Deep ts fs
-        → (Codes s table (suc row) 0 ts → Ok (openedIn (orderOf table (suc row)) ts fs) (at + size (classById i j)) (suc row) (es ++ (another i ∷ [])) rs is)
+        → (Codes τ s table (suc row) 0 ts → Ok (openedIn (orderOf table (suc row)) ts fs) (at + size (classById i j)) (suc row) (es ++ (another i ∷ [])) rs is)
         → Ok fs at row es (classById i j ∷ rs) (it ∷ is)
     unfolding linkOf
     class-by-id-ok {i} {j} {r} {ts} f q d k =
         record-opens i own slot r (length ts) q p tt tt refl refl
         (λ w.
-        let g = class-known s table j r ts es (w .knows .good) f in
-        class-step (classAt s table r) w refl refl a d (g .good) (g .slots) refl refl (known-another w i refl))
-        (λ w. k (row-codes w (classAt s table r) ts refl (class-known s table j r ts es (w .knows .good) f .slots)))
+        let g = class-known τ s table j r ts es (w .knows .good) f in
+        class-step (classAt τ s table r) w refl refl a d (g .good) (g .slots) refl refl (known-another w i refl))
+        (λ w. k (row-codes w (classAt τ s table r) ts refl (class-known τ s table j r ts es (w .knows .good) f .slots)))
 
   -- ---- arrays
 
@@ -435,7 +436,7 @@ module _ (s : List ℕ) (raw : List Row) where
   items-are name ns (primitives c) e = refl
 
   module _ {at row : ℕ} {es : List Entry} {rs : List Rec} {it : Row} {is : List Row} where
-    array-ok : {kind i n : ℕ} {r : Rec} {ts : List SlotType} → Array es r kind i n ts → it ≡ rowOf kind at r i 0 0 0 n
+    array-ok : {kind i n : ℕ} {r : Rec} {ts : List SlotType} → Array τ es r kind i n ts → it ≡ rowOf kind at r i 0 0 0 n
         → Ok (openedIn (orderOf table (suc row)) ts []) (at + size r) (suc row) (es ++ (another i ∷ [])) rs is → Ok [] at row es (r ∷ rs) (it ∷ is)
     unfolding shut
     array-ok {i = i} {n = n} (of-objects h) q k =
@@ -446,22 +447,22 @@ module _ (s : List ℕ) (raw : List Row) where
         (λ w. plain-step (aStringArray n) tt refl refl (opened [] {ts = replicate n S.Text} (order-next w refl) refl) (G.top-strings h) (known-another w i refl)) k
     array-ok {i = i} {n = n} (of-primitives {b = b} {vs = vs} h g) q k =
         record-ok i 0 0 0 n q top-stands refl g refl refl
-        (λ w. plain-step (aPrimitiveArray n b (textsOf vs)) tt refl refl refl (G.top-primitives h (contents-of g)) (known-another w i refl)) k
+        (λ w. plain-step (aPrimitiveArray n b (textsOf vs)) tt refl refl refl (G.top-primitives h (contents-of τ g)) (known-another w i refl)) k
     array-ok {i = i} {n = n} (of-any {type = type} {ns = ns} {d = d} g e h f z) q k =
         let name = libraryName s table in
         let u : itemSlots ns (named name d) ≡ replicate n (slotFor d) = items-are name ns d f ∙ ap (λ (m : ℕ). replicate m (slotFor d)) (sym e) in
-        record-ok i 0 0 0 n q top-stands e (g, own-detail es d h, no-items d (product ns) f) refl refl
+        record-ok i 0 0 0 n q top-stands e (g, own-detail τ es d h, no-items τ d (product ns) f) refl refl
         (λ w. plain-step (anArray type ns (named name d) []) tt refl refl (opened [] (order-next w refl) (u ∙ sym z))
-        (G.top-array g (type-good s table es (w .knows .good) d h) (ap takesRecords (slot-same name d) ∙ f)) (known-another w i refl)) k
+        (G.top-array g (type-good τ s table es (w .knows .good) d h) (ap takesRecords (slot-same name d) ∙ f)) (known-another w i refl)) k
     array-ok {i = i} {n = n} (of-values {type = type} {ns = ns} {b = b} {vs = vs} g e h) q k =
-        let v = subst (λ (m : ℕ). Values b m vs) e h in
+        let v = subst (λ (m : ℕ). Values τ b m vs) e h in
         record-ok i 0 0 0 n q top-stands e (g, tt, v) refl refl
-        (λ w. plain-step (anArray type ns (primitive b) (textsOf vs)) tt refl refl refl (G.top-values g (contents-of v)) (known-another w i refl)) k
+        (λ w. plain-step (anArray type ns (primitive b) (textsOf vs)) tt refl refl refl (G.top-values g (contents-of τ v)) (known-another w i refl)) k
 
   -- ---- along a derivation
 
   -- there is room for the slots of an object
-  body-deep : {room row : ℕ} {ts : List SlotType} {c c₁ : Cur} (fs : List Place) → Body room row ts c c₁ → room + length fs ≡ 64 → Deep ts fs
+  body-deep : {room row : ℕ} {ts : List SlotType} {c c₁ : Cur} (fs : List Place) → Body τ room row ts c c₁ → room + length fs ≡ 64 → Deep ts fs
   body-deep fs hollow h = never-open
   body-deep fs (filled d) h = one-more {fs = fs} (omega arith)
 
@@ -476,21 +477,21 @@ module _ (s : List ℕ) (raw : List Row) where
   mutual
     unfolding shut
 
-    object-ok : {room own slot : ℕ} {c c₁ : Cur} (fs : List Place) → Object room own slot c c₁ → Stands fs own slot → Takes fs → room + length fs ≡ 64
+    object-ok : {room own slot : ℕ} {c c₁ : Cur} (fs : List Place) → Object τ room own slot c c₁ → Stands fs own slot → Takes fs → room + length fs ≡ 64
         → OkIn (shut (filledOne fs)) c₁ → OkIn fs c
     object-ok fs (system-class a b q d) p t h k = system-class-ok p t b q (body-deep fs d h) (λ g. body-ok fs d h g k)
     object-ok fs (library-class a b l q d) p t h k = library-class-ok p t b l q (body-deep fs d h) (λ g. body-ok fs d h g k)
     object-ok fs (class-by-id a b f q d) p t h k = class-by-id-ok p t f q (body-deep fs d h) (λ g. body-ok fs d h g k)
 
-    body-ok : {room row : ℕ} {ts : List SlotType} {c c₁ : Cur} (fs : List Place) → Body room row ts c c₁ → room + length fs ≡ 64
-        → Codes s table row 0 ts → OkIn (shut (filledOne fs)) c₁ → OkIn (openedIn (orderOf table row) ts fs) c
+    body-ok : {room row : ℕ} {ts : List SlotType} {c c₁ : Cur} (fs : List Place) → Body τ room row ts c c₁ → room + length fs ≡ 64
+        → Codes τ s table row 0 ts → OkIn (shut (filledOne fs)) c₁ → OkIn (openedIn (orderOf table row) ts fs) c
     body-ok fs hollow h g k = k
     body-ok fs (filled d) h g k =
         let l : length (filledOne fs) ≡ length fs = length-filled fs in
         slots-ok (filledOne fs) d (omega arith) g k
 
-    slots-ok : {room own slot : ℕ} {ts : List SlotType} {c c₁ : Cur} (fs : List Place) → Slots room own slot ts c c₁ → room + length fs ≡ 63
-        → Codes s table own slot ts → OkIn (shut fs) c₁ → OkIn (shut (place (orderOf table own) slot ts ∷ fs)) c
+    slots-ok : {room own slot : ℕ} {ts : List SlotType} {c c₁ : Cur} (fs : List Place) → Slots τ room own slot ts c c₁ → room + length fs ≡ 63
+        → Codes τ s table own slot ts → OkIn (shut fs) c₁ → OkIn (shut (place (orderOf table own) slot ts ∷ fs)) c
     slots-ok fs full h g k = k
     slots-ok fs (member-value a q d) h g k = value-ok slot-stands (G.in-value (a .content)) a (g .0) q (slots-ok fs d h (g .1) k)
     slots-ok fs (an-object {own = own} {slot = slot} {t = t} {ts = ts} o a d) h g k =
@@ -501,22 +502,22 @@ module _ (s : List ℕ) (raw : List Row) where
     slots-ok fs (a-null {t = t} {ts = ts} e q d) h g k =
         nulls-ok (t ∷ ts) fs null 1 refl refl refl refl tt tt (null-end _) (omega arith) (rw e) refl q (slots-ok fs d h (g .1) k)
     slots-ok fs (a-run {own = own} {slot = slot} {k = n} {t = t} {ts = ts} e a b f u q d) h g k =
-        nulls-ok (t ∷ ts) fs (nulls n) n refl refl refl refl tt tt (nulls-end _ n) b f u q (slots-ok fs d h (run-codes s table own slot n (t ∷ ts) u g) k)
+        nulls-ok (t ∷ ts) fs (nulls n) n refl refl refl refl tt tt (nulls-end _ n) b f u q (slots-ok fs d h (run-codes τ s table own slot n (t ∷ ts) u g) k)
     slots-ok fs (a-long-run {own = own} {slot = slot} {k = n} {t = t} {ts = ts} e a b f u q d) h g k =
-        nulls-ok (t ∷ ts) fs (manyNulls n) n refl refl refl refl tt tt refl b f u q (slots-ok fs d h (run-codes s table own slot n (t ∷ ts) u g) k)
+        nulls-ok (t ∷ ts) fs (manyNulls n) n refl refl refl refl tt tt refl b f u q (slots-ok fs d h (run-codes τ s table own slot n (t ∷ ts) u g) k)
     slots-ok fs (a-library t a b n q d) h g k = library-ok b n q (slots-ok fs d h g k)
 
-  objects-ok : {c : Cur} → Objects c → OkIn [] c
+  objects-ok : {c : Cur} → Objects τ c → OkIn [] c
   unfolding shut
   objects-ok (the-end q) = end-ok q refl
   objects-ok (one-object a d) = object-ok [] a top-stands (λ c g e. G.top-object g) refl (objects-ok d)
   objects-ok (one-string a b q d) = string-ok top-stands (G.top-string (b .characters)) b q (objects-ok d)
-  objects-ok (one-array a b q d f) = array-ok b q (body-ok [] d refl (array-codes s table _ b) (objects-ok f))
+  objects-ok (one-array a b q d f) = array-ok b q (body-ok [] d refl (array-codes τ s table _ b) (objects-ok f))
   objects-ok (one-library a b n q d) = library-ok b n q (objects-ok d)
 
 -- ---- the whole stream
 
-module _ (s : List ℕ) (root h : ℕ) (rs : List Rec) (is : List Row) where
+module _ (τ : Terms) (s : List ℕ) (root h : ℕ) (rs : List Rec) (is : List Row) where
   abbrev first : Row
   first = rowOf 0 0 (header root h) root 0 0 0 0
 
@@ -524,7 +525,7 @@ module _ (s : List ℕ) (root h : ℕ) (rs : List Rec) (is : List Row) where
   raw = first ∷ is
 
   -- after the header
-  begins : s ≡ enc (header root h) ++ encs rs → ((i : ℕ) → among i (refsOf rs) ≡ true → eqb (objectRow i raw) 0 ≡ false) → At s raw 17 1 [] rs is
+  begins : s ≡ enc (header root h) ++ encs rs → ((i : ℕ) → among i (refsOf rs) ≡ true → eqb (objectRow i raw) 0 ≡ false) → At τ s raw 17 1 [] rs is
   unfolding linked findFrom
   begins e t =
       record {
@@ -546,7 +547,7 @@ module _ (s : List ℕ) (root h : ℕ) (rs : List Rec) (is : List Row) where
   unfolding says linked linkOf
   root-is = refl
 
-  good-linked : Ordered (objectsIn (linked raw)) (orderOf (linked raw) (objectRow root raw)) → At s raw 17 1 [] rs is → Objects (cur 17 1 [] rs is)
+  good-linked : Ordered (objectsIn (linked raw)) (orderOf (linked raw) (objectRow root raw)) → At τ s raw 17 1 [] rs is → Objects τ (cur 17 1 [] rs is)
       → Good (says s (linked raw))
   unfolding says
   good-linked o w d =
@@ -555,17 +556,17 @@ module _ (s : List ℕ) (root h : ℕ) (rs : List Rec) (is : List Row) where
         rooted = subst (λ (k : ℕ). 0 < k) (sym root-is) (o .some);
         root-in = subst (λ (k : ℕ). k ≤ objectsIn (linked raw)) (sym root-is) (o .inside);
         nodes-fit = subst (λ (k : ℕ). Fits (objectsIn (linked raw)) k [] (nodesFrom s (linked raw) (linked raw))) none-before
-            (first-says (Fits (objectsIn (linked raw)) (orderOf (linked raw) 1) []) (objects-ok s raw d .leads w));
+            (first-says (Fits (objectsIn (linked raw)) (orderOf (linked raw) 1) []) (objects-ok τ s raw d .leads w));
       }
 
 -- what an accepted list says is good
-pub said-good : (s : List ℕ) (rows : List Row) → Reading s rows → Good (says s rows)
-said-good s rows r =
-    let all = raw s (r .root) (r .header-id) (r .rs) (r .is) in
-    let it = first s (r .root) (r .header-id) (r .rs) (r .is) in
-    let w = shown-more it (header (r .root) (r .header-id)) 0 0 (r .root) 0 0 0 0 refl refl refl (objects-shown (r .objects-are)) in
+pub said-good : (τ : Terms) (s : List ℕ) (rows : List Row) → Reading τ s rows → Good (says s rows)
+said-good τ s rows r =
+    let all = raw τ s (r .root) (r .header-id) (r .rs) (r .is) in
+    let it = first τ s (r .root) (r .header-id) (r .rs) (r .is) in
+    let w = shown-more it (header (r .root) (r .header-id)) 0 0 (r .root) 0 0 0 0 refl refl refl (objects-shown τ (r .objects-are)) in
     let there : (i : ℕ) → among i (idsOf (r .rs)) ≡ true → eqb (objectRow i all) 0 ≡ false =
     id-there (header (r .root) (r .header-id) ∷ r .rs) all w in
-    subst (λ (x : List Row). Good (says s x)) (sym (rows-are r))
-    (good-linked s (r .root) (r .header-id) (r .rs) (r .is) (target-ordered all (r .root) (there (r .root) (r .rooted)))
-    (begins s (r .root) (r .header-id) (r .rs) (r .is) (r .bytes-are) (λ i m. there i (r .targets i m))) (r .objects-are))
+    subst (λ (x : List Row). Good (says s x)) (sym (rows-are τ r))
+    (good-linked τ s (r .root) (r .header-id) (r .rs) (r .is) (target-ordered all (r .root) (there (r .root) (r .rooted)))
+    (begins τ s (r .root) (r .header-id) (r .rs) (r .is) (r .bytes-are) (λ i m. there i (r .targets i m))) (r .objects-are))

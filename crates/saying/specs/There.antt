@@ -9,6 +9,7 @@ use lib.ListN.{length, getD, drop, length-drop, length-append}
 use lib.Dec.{eqb}
 use lib.Seq.{drop-drop, take-at, drop-at, getD-drop}
 use borrow.Author.Tests.{lt-ltb, le-leb, ne-eqb}
+use Rattle.format.specs.Terms.{Terms}
 use Rattle.format.specs.declared.PrimitiveCode.{PrimitiveCode}
 use Rattle.format.specs.declared.Coded.the-variants as D
 use Rattle.format.specs.declared.Setting.{Setting}
@@ -106,7 +107,7 @@ module _ (s : List ℕ) (t : Prefixed) (q : List ℕ) (p : ℕ) (d : drop p s �
         let z : p + t .width + n ≡ p + length (bytesIn t) = omega arith in
         span-there s p n (p + t .width) w k ∙ ap (λ (e : ℕ). record { from = p + t .width; to = e }) z
 
-module _ (s : List ℕ) (t : Prefixed) (q : List ℕ) (p : ℕ) (n : Name t) (d : drop p s ≡ bytesIn t ++ q) where
+module _ (τ : Terms) (s : List ℕ) (t : Prefixed) (q : List ℕ) (p : ℕ) (n : Name τ t) (d : drop p s ≡ bytesIn t ++ q) where
   name-span : spanAt s p ≡ record { from = p + t .width; to = p + length (bytesIn t) }
   name-span = span-is s t q p d (n .prefix) (n .characters .short)
 
@@ -119,20 +120,20 @@ module _ (s : List ℕ) (t : Prefixed) (q : List ℕ) (p : ℕ) (n : Name t) (d 
 -- ---- values
 
 -- a value of a fixed size has no prefix and this size
-sized-is : {c : PrimitiveCode} {n : ℕ} (s : List ℕ) (p w m : ℕ) → Sized c n → PrefixIf (hasPrefix c) w m → (w ≡ 0) × (sizeFrom s c p ≡ n) × (0 < n)
-sized-is s p w m a-byte e = (e, refl, omega arith)
-sized-is s p w m an-sbyte e = (e, refl, omega arith)
-sized-is s p w m an-int16 e = (e, refl, omega arith)
-sized-is s p w m a-uint16 e = (e, refl, omega arith)
-sized-is s p w m an-int32 e = (e, refl, omega arith)
-sized-is s p w m a-uint32 e = (e, refl, omega arith)
-sized-is s p w m a-single e = (e, refl, omega arith)
-sized-is s p w m an-int64 e = (e, refl, omega arith)
-sized-is s p w m a-uint64 e = (e, refl, omega arith)
-sized-is s p w m a-double e = (e, refl, omega arith)
-sized-is s p w m a-time-span e = (e, refl, omega arith)
+sized-is : (τ : Terms) {c : PrimitiveCode} {n : ℕ} (s : List ℕ) (p w m : ℕ) → Sized c n → PrefixIf τ (hasPrefix c) w m → (w ≡ 0) × (sizeFrom s c p ≡ n) × (0 < n)
+sized-is τ s p w m a-byte e = (e, refl, omega arith)
+sized-is τ s p w m an-sbyte e = (e, refl, omega arith)
+sized-is τ s p w m an-int16 e = (e, refl, omega arith)
+sized-is τ s p w m a-uint16 e = (e, refl, omega arith)
+sized-is τ s p w m an-int32 e = (e, refl, omega arith)
+sized-is τ s p w m a-uint32 e = (e, refl, omega arith)
+sized-is τ s p w m a-single e = (e, refl, omega arith)
+sized-is τ s p w m an-int64 e = (e, refl, omega arith)
+sized-is τ s p w m a-uint64 e = (e, refl, omega arith)
+sized-is τ s p w m a-double e = (e, refl, omega arith)
+sized-is τ s p w m a-time-span e = (e, refl, omega arith)
 
-module _ (s : List ℕ) (v : Prefixed) (q : List ℕ) (p : ℕ) (d : drop p s ≡ bytesIn v ++ q) where
+module _ (τ : Terms) (s : List ℕ) (v : Prefixed) (q : List ℕ) (p : ℕ) (d : drop p s ≡ bytesIn v ++ q) where
   -- a value without a prefix
   bare-span : (c : PrimitiveCode) → v .width ≡ 0 → sizeFrom s c p ≡ length (v .text) → 0 < length (v .text)
       → valueSpan s c p ≡ record { from = p + v .width; to = p + length (bytesIn v) }
@@ -154,11 +155,11 @@ module _ (s : List ℕ) (v : Prefixed) (q : List ℕ) (p : ℕ) (d : drop p s �
       ap (λ (x : ℕ). getD s x 0) (sym u) ∙ (sym (getD-drop p s 0 0) ∙ ap (λ (x : List ℕ). getD x 0 0) f) in
       rw (i, e) (width-told k g q .0)
 
-  span-by : (c : PrimitiveCode) (x : List ℕ) → v .text ≡ x → Content c x → PrefixIf (hasPrefix c) (v .width) (length (v .text))
+  span-by : (c : PrimitiveCode) (x : List ℕ) → v .text ≡ x → Content c x → PrefixIf τ (hasPrefix c) (v .width) (length (v .text))
       → valueSpan s c p ≡ record { from = p + v .width; to = p + length (bytesIn v) }
   unfolding valueSpan
   span-by c x f (number g e) w =
-      let y = sized-is s p (v .width) (length (v .text)) g w in
+      let y = sized-is τ s p (v .width) (length (v .text)) g w in
       let l = ap length f in
       bare-span c (y .0) (y .1 ∙ (sym e ∙ sym l)) (omega (arith, y .2))
   span-by c x f (boolean h) w = let l = ap length f in bare-span c w (sym l) (omega arith)
@@ -166,10 +167,10 @@ module _ (s : List ℕ) (v : Prefixed) (q : List ℕ) (p : ℕ) (d : drop p s �
   span-by c x f (exact g h) w = let l = ap length f in span-is s v q p d w (omega arith)
   span-by c x f (moment e g) w = let l = ap length f in bare-span c w (sym (l ∙ e)) (omega arith)
 
-module _ (s : List ℕ) (c : PrimitiveCode) where
-  module _ (v : Prefixed) (q : List ℕ) (p : ℕ) (g : Value c v) (d : drop p s ≡ bytesIn v ++ q) where
+module _ (τ : Terms) (s : List ℕ) (c : PrimitiveCode) where
+  module _ (v : Prefixed) (q : List ℕ) (p : ℕ) (g : Value τ c v) (d : drop p s ≡ bytesIn v ++ q) where
     value-span : valueSpan s c p ≡ record { from = p + v .width; to = p + length (bytesIn v) }
-    value-span = span-by s v q p d c (v .text) refl (g .content) (g .prefix)
+    value-span = span-by τ s v q p d c (v .text) refl (g .content) (g .prefix)
 
     pub content-is : contentFrom s c p ≡ v .text
     content-is = rw value-span (behind-is s v q p d)
@@ -178,7 +179,7 @@ module _ (s : List ℕ) (c : PrimitiveCode) where
     value-after = ap (λ (x : Span). x .to) value-span
 
   -- the items of an array
-  pub items-there : (n : ℕ) (vs : List Prefixed) (q : List ℕ) (p : ℕ) → Values c n vs → drop p s ≡ itemsBytes vs ++ q → itemsFrom s c n p ≡ textsOf vs
+  pub items-there : (n : ℕ) (vs : List Prefixed) (q : List ℕ) (p : ℕ) → Values τ c n vs → drop p s ≡ itemsBytes vs ++ q → itemsFrom s c n p ≡ textsOf vs
   unfolding itemsFrom
   items-there n vs q p none d = refl
   items-there n vs q p (more {n = m} {v = v} {vs = us} g gs) d =
@@ -204,25 +205,25 @@ module _ (s q : List ℕ) (c : PrimitiveCode) (p : ℕ) (d : drop p s ≡ codeNu
 -- ---- details
 
 -- what is asked of a detail by itself, whatever is known from earlier records
-abbrev pub OwnDetail : Detail Prefixed ℕ → Type 0
-OwnDetail (primitive c) = Unit {0}
-OwnDetail text = Unit {0}
-OwnDetail object = Unit {0}
-OwnDetail (system n) = Name n
-OwnDetail (class n l) = Name n × Positive l
-OwnDetail objects = Unit {0}
-OwnDetail texts = Unit {0}
-OwnDetail (primitives c) = Unit {0}
+abbrev pub OwnDetail : Terms → Detail Prefixed ℕ → Type 0
+OwnDetail τ (primitive c) = Unit {0}
+OwnDetail τ text = Unit {0}
+OwnDetail τ object = Unit {0}
+OwnDetail τ (system n) = Name τ n
+OwnDetail τ (class n l) = Name τ n × Positive l
+OwnDetail τ objects = Unit {0}
+OwnDetail τ texts = Unit {0}
+OwnDetail τ (primitives c) = Unit {0}
 
-pub own-detail : (es : List Entry) (d : Detail Prefixed ℕ) → GoodDetail es d → OwnDetail d
-own-detail es (primitive c) g = tt
-own-detail es text g = tt
-own-detail es object g = tt
-own-detail es (system n) g = g
-own-detail es (class n l) g = (g .0, g .1 .sign)
-own-detail es objects g = tt
-own-detail es texts g = tt
-own-detail es (primitives c) g = tt
+pub own-detail : (τ : Terms) (es : List Entry) (d : Detail Prefixed ℕ) → GoodDetail τ es d → OwnDetail τ d
+own-detail τ es (primitive c) g = tt
+own-detail τ es text g = tt
+own-detail τ es object g = tt
+own-detail τ es (system n) g = g
+own-detail τ es (class n l) g = (g .0, g .1 .sign)
+own-detail τ es objects g = tt
+own-detail τ es texts g = tt
+own-detail τ es (primitives c) g = tt
 
 module _ (s q : List ℕ) (p : ℕ) where
   -- the place after a number
@@ -233,15 +234,15 @@ module _ (s q : List ℕ) (p : ℕ) where
       rw (le-leb (p + 4) (length s) (omega (arith, simp length-drop at (ap length d))))
 
 -- the place after a detail, and what it says
-module _ (s q : List ℕ) (p : ℕ) where
-  info-there : (d : Detail Prefixed ℕ) → OwnDetail d → drop p s ≡ infoBytes d ++ q → afterInfo s (typeByte d) p ≡ p + length (infoBytes d)
+module _ (τ : Terms) (s q : List ℕ) (p : ℕ) where
+  info-there : (d : Detail Prefixed ℕ) → OwnDetail τ d → drop p s ≡ infoBytes d ++ q → afterInfo s (typeByte d) p ≡ p + length (infoBytes d)
   unfolding afterInfo
   info-there (primitive c) g d = code-past s q c p d
   info-there text g d = omega arith
   info-there object g d = omega arith
-  info-there (system n) g d = text-there s n q p g d .1
+  info-there (system n) g d = text-there τ s n q p g d .1
   info-there (class n l) g d =
-      let x = text-there s n (leBytes 4 l ++ q) p (g .0) (d ∙ append-assoc (bytesIn n) (leBytes 4 l) q) in
+      let x = text-there τ s n (leBytes 4 l ++ q) p (g .0) (d ∙ append-assoc (bytesIn n) (leBytes 4 l) q) in
       let m = p + length (bytesIn n) in
       let k : m + 4 ≡ p + length (bytesIn n ++ leBytes 4 l) = simp (length-append, length-leBytes) (omega arith) in
       rw (x .1) (number-after s q m l (x .2) ∙ k)
@@ -250,56 +251,56 @@ module _ (s q : List ℕ) (p : ℕ) where
   info-there (primitives c) g d = code-past s q c p d
 
   module _ (rows : List Row) where
-    detail-is : (d : Detail Prefixed ℕ) → OwnDetail d → drop p s ≡ infoBytes d ++ q → detailFrom s rows (typeByte d) p ≡ named (libraryName s rows) d
+    detail-is : (d : Detail Prefixed ℕ) → OwnDetail τ d → drop p s ≡ infoBytes d ++ q → detailFrom s rows (typeByte d) p ≡ named (libraryName s rows) d
     unfolding detailFrom
     detail-is (primitive c) g d = ap primitive (code-there s q c p d)
     detail-is text g d = refl
     detail-is object g d = refl
-    detail-is (system n) g d = ap system (text-is s n q p g d)
+    detail-is (system n) g d = ap system (text-is τ s n q p g d)
     detail-is (class n l) g d =
-        let x = text-there s n (leBytes 4 l ++ q) p (g .0) (d ∙ append-assoc (bytesIn n) (leBytes 4 l) q) in
+        let x = text-there τ s n (leBytes 4 l ++ q) p (g .0) (d ∙ append-assoc (bytesIn n) (leBytes 4 l) q) in
         rw (x .0, x .1, number-there s q l (p + length (bytesIn n)) (x .2) (positive-bits l (g .1)))
     detail-is objects g d = refl
     detail-is texts g d = refl
     detail-is (primitives c) g d = ap primitives (code-there s q c p d)
 
-    pub detail-there : (d : Detail Prefixed ℕ) → OwnDetail d → drop p s ≡ infoBytes d ++ q
+    pub detail-there : (d : Detail Prefixed ℕ) → OwnDetail τ d → drop p s ≡ infoBytes d ++ q
         → (detailFrom s rows (typeByte d) p ≡ named (libraryName s rows) d) × (afterInfo s (typeByte d) p ≡ p + length (infoBytes d))
         × (drop (p + length (infoBytes d)) s ≡ q)
     detail-there d g f = (detail-is d g f, info-there d g f, rest-there s (infoBytes d) q p (p + length (infoBytes d)) refl f)
 
 -- ---- members
 
-pub data OwnMembers : List (Member Prefixed ℕ) → Type 0 where
-  no-member : OwnMembers []
-  own-member : {m : Member Prefixed ℕ} {ms : List (Member Prefixed ℕ)} → Name (m .name) → OwnDetail (m .type) → OwnMembers ms → OwnMembers (m ∷ ms)
+pub data OwnMembers (τ : Terms) : List (Member Prefixed ℕ) → Type 0 where
+  no-member : OwnMembers τ []
+  own-member : {m : Member Prefixed ℕ} {ms : List (Member Prefixed ℕ)} → Name τ (m .name) → OwnDetail τ (m .type) → OwnMembers τ ms → OwnMembers τ (m ∷ ms)
 
-pub own-members : {es : List Entry} {ms : List (Member Prefixed ℕ)} → Members es ms → OwnMembers ms
-own-members no-more = no-member
-own-members {es} (member {m = m} n g gs) = own-member n (own-detail es (m .type) g) (own-members gs)
+pub own-members : (τ : Terms) {es : List Entry} {ms : List (Member Prefixed ℕ)} → Members τ es ms → OwnMembers τ ms
+own-members τ no-more = no-member
+own-members τ {es} (member {m = m} n g gs) = own-member n (own-detail τ es (m .type) g) (own-members τ gs)
 
-module _ (s : List ℕ) where
-  pub names-there : (ms : List (Member Prefixed ℕ)) (q : List ℕ) (p : ℕ) → OwnMembers ms → drop p s ≡ namesBytes ms ++ q
+module _ (τ : Terms) (s : List ℕ) where
+  pub names-there : (ms : List (Member Prefixed ℕ)) (q : List ℕ) (p : ℕ) → OwnMembers τ ms → drop p s ≡ namesBytes ms ++ q
       → afterTexts s (length ms) p ≡ p + length (namesBytes ms)
   unfolding afterTexts
   names-there [] q p no-member d = omega arith
   names-there (m ∷ ms) q p (own-member n g gs) d =
-      let x = text-there s (m .name) (namesBytes ms ++ q) p n (d ∙ append-assoc (bytesIn (m .name)) (namesBytes ms) q) in
+      let x = text-there τ s (m .name) (namesBytes ms ++ q) p n (d ∙ append-assoc (bytesIn (m .name)) (namesBytes ms) q) in
       let a = p + length (bytesIn (m .name)) in
       let k : a + length (namesBytes ms) ≡ p + length (bytesIn (m .name) ++ namesBytes ms) = simp length-append (omega arith) in
       ap (afterTexts s (length ms)) (x .1) ∙ (names-there ms q a gs (x .2) ∙ k)
 
   module _ (rows : List Row) where
-    pub members-there : (ms : List (Member Prefixed ℕ)) (x y z : List ℕ) (a b c : ℕ) → OwnMembers ms
+    pub members-there : (ms : List (Member Prefixed ℕ)) (x y z : List ℕ) (a b c : ℕ) → OwnMembers τ ms
         → drop a s ≡ namesBytes ms ++ x → drop b s ≡ typesBytes ms ++ y → drop c s ≡ infosBytes ms ++ z
         → membersFrom s rows (length ms) a b c ≡ namedAll (libraryName s rows) ms
     unfolding membersFrom
     members-there [] x y z a b c no-member d e f = refl
     members-there (m ∷ ms) x y z a b c (own-member n g gs) d e f =
-        let u = text-there s (m .name) (namesBytes ms ++ x) a n (d ∙ append-assoc (bytesIn (m .name)) (namesBytes ms) x) in
+        let u = text-there τ s (m .name) (namesBytes ms ++ x) a n (d ∙ append-assoc (bytesIn (m .name)) (namesBytes ms) x) in
         let t = byte-there s (typesBytes ms ++ y) (typeByte (m .type)) b e in
         let v = byte-rest s (typesBytes ms ++ y) (typeByte (m .type)) b e in
-        let w = detail-there s (infosBytes ms ++ z) c rows (m .type) g (f ∙ append-assoc (infoBytes (m .type)) (infosBytes ms) z) in
+        let w = detail-there τ s (infosBytes ms ++ z) c rows (m .type) g (f ∙ append-assoc (infoBytes (m .type)) (infosBytes ms) z) in
         rw (u .0, u .1, t, w .0, w .1)
         (ap (λ (l : List (Member (List ℕ) (List ℕ))). record { name = m .name .text; type = named (libraryName s rows) (m .type) } ∷ l)
         (members-there ms x y z (a + length (bytesIn (m .name))) (b + 1) (c + length (infoBytes (m .type))) gs (u .2) v (w .2)))
@@ -389,59 +390,59 @@ pub row-linked : {r : Rec} {at : ℕ} {w : Row} (link : ℕ) → RowOf r at w �
 row-linked link g = record { kind-is = g .kind-is; offset-is = g .offset-is; end-is = g .end-is; count-is = g .count-is }
 
 -- the items of an array of this item type: inside the record where they are primitive
-abbrev pub ItemsOf : Detail Prefixed ℕ → ℕ → List Prefixed → Type 0
-ItemsOf (primitive c) n vs = Values c n vs
-ItemsOf text n vs = vs ≡ []
-ItemsOf object n vs = vs ≡ []
-ItemsOf (system x) n vs = vs ≡ []
-ItemsOf (class x l) n vs = vs ≡ []
-ItemsOf objects n vs = vs ≡ []
-ItemsOf texts n vs = vs ≡ []
-ItemsOf (primitives c) n vs = vs ≡ []
+abbrev pub ItemsOf : Terms → Detail Prefixed ℕ → ℕ → List Prefixed → Type 0
+ItemsOf τ (primitive c) n vs = Values τ c n vs
+ItemsOf τ text n vs = vs ≡ []
+ItemsOf τ object n vs = vs ≡ []
+ItemsOf τ (system x) n vs = vs ≡ []
+ItemsOf τ (class x l) n vs = vs ≡ []
+ItemsOf τ objects n vs = vs ≡ []
+ItemsOf τ texts n vs = vs ≡ []
+ItemsOf τ (primitives c) n vs = vs ≡ []
 
-pub no-items : (d : Detail Prefixed ℕ) (n : ℕ) → takesRecords (slotFor d) ≡ true → ItemsOf d n []
-no-items (primitive c) n e = apart e
-no-items text n e = refl
-no-items object n e = refl
-no-items (system x) n e = refl
-no-items (class x l) n e = refl
-no-items objects n e = refl
-no-items texts n e = refl
-no-items (primitives c) n e = refl
+pub no-items : (τ : Terms) (d : Detail Prefixed ℕ) (n : ℕ) → takesRecords (slotFor d) ≡ true → ItemsOf τ d n []
+no-items τ (primitive c) n e = apart e
+no-items τ text n e = refl
+no-items τ object n e = refl
+no-items τ (system x) n e = refl
+no-items τ (class x l) n e = refl
+no-items τ objects n e = refl
+no-items τ texts n e = refl
+no-items τ (primitives c) n e = refl
 
 -- what is asked of a record by itself
-abbrev pub GoodRec : Rec → Type 0
-GoodRec (header r h) = Unit {0}
-GoodRec (classById i k) = Unit {0}
-GoodRec (systemClass i n ms) = Name n × OwnMembers ms
-GoodRec (libraryClass i n ms l) = Name n × OwnMembers ms × (l < 4294967296)
-GoodRec (string i x) = Name x
-GoodRec (array i t ns d vs) = Shape t ns × OwnDetail d × ItemsOf d (product ns) vs
-GoodRec (typedPrimitive c v) = Value c v
-GoodRec (reference i) = Unit {0}
-GoodRec null = Unit {0}
-GoodRec (nulls n) = Unit {0}
-GoodRec (manyNulls n) = Unit {0}
-GoodRec end = Unit {0}
-GoodRec (library i n) = Name n
-GoodRec (primitiveArray i n c vs) = Values c n vs
-GoodRec (objectArray i n) = Unit {0}
-GoodRec (stringArray i n) = Unit {0}
-GoodRec (value c v) = Value c v
+abbrev pub GoodRec : Terms → Rec → Type 0
+GoodRec τ (header r h) = Unit {0}
+GoodRec τ (classById i k) = Unit {0}
+GoodRec τ (systemClass i n ms) = Name τ n × OwnMembers τ ms
+GoodRec τ (libraryClass i n ms l) = Name τ n × OwnMembers τ ms × (l < 4294967296)
+GoodRec τ (string i x) = Name τ x
+GoodRec τ (array i t ns d vs) = Shape t ns × OwnDetail τ d × ItemsOf τ d (product ns) vs
+GoodRec τ (typedPrimitive c v) = Value τ c v
+GoodRec τ (reference i) = Unit {0}
+GoodRec τ null = Unit {0}
+GoodRec τ (nulls n) = Unit {0}
+GoodRec τ (manyNulls n) = Unit {0}
+GoodRec τ end = Unit {0}
+GoodRec τ (library i n) = Name τ n
+GoodRec τ (primitiveArray i n c vs) = Values τ c n vs
+GoodRec τ (objectArray i n) = Unit {0}
+GoodRec τ (stringArray i n) = Unit {0}
+GoodRec τ (value c v) = Value τ c v
 
-pub own-array : {es : List Entry} {r : Rec} {kind id count : ℕ} {ts : List SlotType} → Array es r kind id count ts → GoodRec r
-own-array (of-objects h) = tt
-own-array (of-strings h) = tt
-own-array (of-primitives h g) = g
-own-array {es} (of-any {ns = ns} {d = d} g e h f k) = (g, own-detail es d h, no-items d (product ns) f)
-own-array (of-values {b = b} {vs = vs} g e h) = (g, tt, subst (λ (m : ℕ). Values b m vs) e h)
+pub own-array : (τ : Terms) {es : List Entry} {r : Rec} {kind id count : ℕ} {ts : List SlotType} → Array τ es r kind id count ts → GoodRec τ r
+own-array τ (of-objects h) = tt
+own-array τ (of-strings h) = tt
+own-array τ (of-primitives h g) = g
+own-array τ {es} (of-any {ns = ns} {d = d} g e h f k) = (g, own-detail τ es d h, no-items τ d (product ns) f)
+own-array τ (of-values {b = b} {vs = vs} g e h) = (g, tt, subst (λ (m : ℕ). Values τ b m vs) e h)
 
 -- the items by the bytes after the item type
-module _ (s q : List ℕ) (p n : ℕ) (vs : List Prefixed) where
-  items-of-there : (d : Detail Prefixed ℕ) → ItemsOf d n vs → drop p s ≡ infoBytes d ++ (itemsBytes vs ++ q)
+module _ (τ : Terms) (s q : List ℕ) (p n : ℕ) (vs : List Prefixed) where
+  items-of-there : (d : Detail Prefixed ℕ) → ItemsOf τ d n vs → drop p s ≡ infoBytes d ++ (itemsBytes vs ++ q)
       → pick (eqb (typeByte d) 0) (itemsFrom s (codeFrom s p) n (p + length (infoBytes d))) [] ≡ textsOf vs
   items-of-there (primitive c) g d =
-      rw (code-there s (itemsBytes vs ++ q) c p d) (items-there s c n vs q (p + 1) g (byte-rest s (itemsBytes vs ++ q) (codeNumber c) p d))
+      rw (code-there s (itemsBytes vs ++ q) c p d) (items-there τ s c n vs q (p + 1) g (byte-rest s (itemsBytes vs ++ q) (codeNumber c) p d))
   items-of-there text g d = sym (ap textsOf g)
   items-of-there object g d = sym (ap textsOf g)
   items-of-there (system x) g d = sym (ap textsOf g)
@@ -475,8 +476,8 @@ length-types (m ∷ ms) = ap suc (length-types ms)
 
 -- ---- classes
 
-module _ (s : List ℕ) (rows : List Row) (w : Row) (at : ℕ) where
-  class-like : (k e : ℕ) (n : Prefixed) (ms : List (Member Prefixed ℕ)) (q : List ℕ) → Name n → OwnMembers ms → drop (at + 5) s ≡ classBytes n ms ++ q
+module _ (τ : Terms) (s : List ℕ) (rows : List Row) (w : Row) (at : ℕ) where
+  class-like : (k e : ℕ) (n : Prefixed) (ms : List (Member Prefixed ℕ)) (q : List ℕ) → Name τ n → OwnMembers τ ms → drop (at + 5) s ≡ classBytes n ms ++ q
       → (from : From) → pick (eqb k 5) (theLibrary (libraryName s rows (numberFrom s (e - 4)))) theSystem ≡ from
       → classFrom s rows (like k at e (length ms) w) ≡ classOfAll (libraryName s rows) (n .text) from ms
   unfolding classFrom
@@ -484,7 +485,7 @@ module _ (s : List ℕ) (rows : List Row) (w : Row) (at : ℕ) where
       let types = typesBytes ms ++ infosBytes ms in
       let names = namesBytes ms ++ types in
       let count = leBytes 4 (length ms) in
-      let t = text-there s n ((count ++ names) ++ q) (at + 5) g (d ∙ append-assoc (bytesIn n) (count ++ names) q) in
+      let t = text-there τ s n ((count ++ names) ++ q) (at + 5) g (d ∙ append-assoc (bytesIn n) (count ++ names) q) in
       let a = at + 5 + length (bytesIn n) + 4 in
       let d1 = number-rest s (names ++ q) (length ms) (at + 5 + length (bytesIn n)) (t .2 ∙ append-assoc count names q) in
       let d2 : drop a s ≡ namesBytes ms ++ (types ++ q) = d1 ∙ append-assoc (namesBytes ms) types q in
@@ -493,9 +494,9 @@ module _ (s : List ℕ) (rows : List Row) (w : Row) (at : ℕ) where
       rest-there s (namesBytes ms) (types ++ q) a b refl d2 ∙ append-assoc (typesBytes ms) (infosBytes ms) q in
       let d4 : drop (b + length ms) s ≡ infosBytes ms ++ q =
       rest-there s (typesBytes ms) (infosBytes ms ++ q) b (b + length ms) (ap (λ (x : ℕ). b + x) (sym (length-types ms))) d3 in
-      rw (t .0, t .1, names-there s ms (types ++ q) a gs d2, f, members-there s rows ms (types ++ q) (infosBytes ms ++ q) q a b (b + length ms) gs d2 d3 d4)
+      rw (t .0, t .1, names-there τ s ms (types ++ q) a gs d2, f, members-there τ s rows ms (types ++ q) (infosBytes ms ++ q) q a b (b + length ms) gs d2 d3 d4)
 
-  module _ (q : List ℕ) (i : ℕ) (n : Prefixed) (ms : List (Member Prefixed ℕ)) (g : Name n) (gs : OwnMembers ms) where
+  module _ (q : List ℕ) (i : ℕ) (n : Prefixed) (ms : List (Member Prefixed ℕ)) (g : Name τ n) (gs : OwnMembers τ ms) where
     pub system-class-from : drop at s ≡ enc (systemClass i n ms) ++ q → RowOf (systemClass i n ms) at w
         → classFrom s rows w ≡ classOfAll (libraryName s rows) (n .text) theSystem ms
     unfolding enc
@@ -545,37 +546,37 @@ module _ (s : List ℕ) (rows : List Row) (w : Row) (at : ℕ) where
   string-array-said i n r = ap (whatFrom s rows) (row-like w (r .kind-is) refl refl (r .count-is))
 
 -- by the row and the bytes at its place
-module _ (s : List ℕ) (rows : List Row) (w : Row) (at : ℕ) (q : List ℕ) where
-  pub system-class-said : (i : ℕ) (n : Prefixed) (ms : List (Member Prefixed ℕ)) → Name n → OwnMembers ms → drop at s ≡ enc (systemClass i n ms) ++ q
+module _ (τ : Terms) (s : List ℕ) (rows : List Row) (w : Row) (at : ℕ) (q : List ℕ) where
+  pub system-class-said : (i : ℕ) (n : Prefixed) (ms : List (Member Prefixed ℕ)) → Name τ n → OwnMembers τ ms → drop at s ≡ enc (systemClass i n ms) ++ q
       → RowOf (systemClass i n ms) at w → whatFrom s rows w ≡ anObject (classOfAll (libraryName s rows) (n .text) theSystem ms)
   unfolding whatFrom
   system-class-said i n ms g gs d r =
       let z = row-like w (r .kind-is) refl refl refl in
-      ap (whatFrom s rows) z ∙ ap anObject (ap (classFrom s rows) (sym z) ∙ system-class-from s rows w at q i n ms g gs d r)
+      ap (whatFrom s rows) z ∙ ap anObject (ap (classFrom s rows) (sym z) ∙ system-class-from τ s rows w at q i n ms g gs d r)
 
-  pub library-class-said : (i : ℕ) (n : Prefixed) (ms : List (Member Prefixed ℕ)) (l : ℕ) → Name n → OwnMembers ms → l < 4294967296
+  pub library-class-said : (i : ℕ) (n : Prefixed) (ms : List (Member Prefixed ℕ)) (l : ℕ) → Name τ n → OwnMembers τ ms → l < 4294967296
       → drop at s ≡ enc (libraryClass i n ms l) ++ q → RowOf (libraryClass i n ms l) at w
       → whatFrom s rows w ≡ anObject (classOfAll (libraryName s rows) (n .text) (theLibrary (libraryName s rows l)) ms)
   unfolding whatFrom
   library-class-said i n ms l g gs h d r =
       let z = row-like w (r .kind-is) refl refl refl in
-      ap (whatFrom s rows) z ∙ ap anObject (ap (classFrom s rows) (sym z) ∙ library-class-from s rows w at q i n ms g gs l h d r)
+      ap (whatFrom s rows) z ∙ ap anObject (ap (classFrom s rows) (sym z) ∙ library-class-from τ s rows w at q i n ms g gs l h d r)
 
-  pub string-said : (i : ℕ) (x : Prefixed) → Name x → drop at s ≡ enc (string i x) ++ q → RowOf (string i x) at w → whatFrom s rows w ≡ aString (x .text)
+  pub string-said : (i : ℕ) (x : Prefixed) → Name τ x → drop at s ≡ enc (string i x) ++ q → RowOf (string i x) at w → whatFrom s rows w ≡ aString (x .text)
   unfolding enc whatFrom
   string-said i x g d r =
       ap (whatFrom s rows) (row-like w (r .kind-is) (r .offset-is) refl refl)
-      ∙ ap aString (text-is s x q (at + 5) g (after-id s q at 6 i (bytesIn x) d))
+      ∙ ap aString (text-is τ s x q (at + 5) g (after-id s q at 6 i (bytesIn x) d))
 
-  pub typed-primitive-said : (c : PrimitiveCode) (v : Prefixed) → Value c v → drop at s ≡ enc (typedPrimitive c v) ++ q → RowOf (typedPrimitive c v) at w
+  pub typed-primitive-said : (c : PrimitiveCode) (v : Prefixed) → Value τ c v → drop at s ≡ enc (typedPrimitive c v) ++ q → RowOf (typedPrimitive c v) at w
       → whatFrom s rows w ≡ aPrimitive c (v .text)
   unfolding enc whatFrom
   typed-primitive-said c v g d r =
       let f : codeFrom s (at + 1) ≡ c = code-there s (bytesIn v ++ q) c (at + 1) (byte-rest s (codeNumber c ∷ (bytesIn v ++ q)) 8 at d) in
       let a : drop (at + 2) s ≡ bytesIn v ++ q = rest-there s (8 ∷ codeNumber c ∷ []) (bytesIn v ++ q) at (at + 2) (omega arith) d in
-      ap (whatFrom s rows) (row-like w (r .kind-is) (r .offset-is) refl refl) ∙ rw f (ap (aPrimitive c) (content-is s c v q (at + 2) g a))
+      ap (whatFrom s rows) (row-like w (r .kind-is) (r .offset-is) refl refl) ∙ rw f (ap (aPrimitive c) (content-is τ s c v q (at + 2) g a))
 
-  pub primitive-array-said : (i n : ℕ) (c : PrimitiveCode) (vs : List Prefixed) → Values c n vs → drop at s ≡ enc (primitiveArray i n c vs) ++ q
+  pub primitive-array-said : (i n : ℕ) (c : PrimitiveCode) (vs : List Prefixed) → Values τ c n vs → drop at s ≡ enc (primitiveArray i n c vs) ++ q
       → RowOf (primitiveArray i n c vs) at w → whatFrom s rows w ≡ aPrimitiveArray n c (textsOf vs)
   unfolding enc whatFrom
   primitive-array-said i n c vs g d r =
@@ -587,17 +588,17 @@ module _ (s : List ℕ) (rows : List Row) (w : Row) (at : ℕ) (q : List ℕ) wh
       let f : codeFrom s (at + 9) ≡ c = code-there s (x ++ q) c (at + 9) b in
       let e : drop (at + 10) s ≡ x ++ q = rest-there s (codeNumber c ∷ []) (x ++ q) (at + 9) (at + 10) (omega arith) b in
       ap (whatFrom s rows) (row-like w (r .kind-is) (r .offset-is) refl (r .count-is))
-      ∙ rw f (ap (aPrimitiveArray n c) (items-there s c n vs q (at + 10) g e))
+      ∙ rw f (ap (aPrimitiveArray n c) (items-there τ s c n vs q (at + 10) g e))
 
   -- a member value, by the code of the slot that its row names
-  pub value-said : (c : PrimitiveCode) (v : Prefixed) → Value c v → valueCode s rows w ≡ c → drop at s ≡ enc (value c v) ++ q → RowOf (value c v) at w
+  pub value-said : (c : PrimitiveCode) (v : Prefixed) → Value τ c v → valueCode s rows w ≡ c → drop at s ≡ enc (value c v) ++ q → RowOf (value c v) at w
       → whatFrom s rows w ≡ aValue c (v .text)
   unfolding enc
   value-said c v g e d r =
       value-row s rows w (r .kind-is) ∙ (ap (λ (x : PrimitiveCode). aValue x (contentFrom s x (w .offset))) e
-      ∙ (ap (λ (x : ℕ). aValue c (contentFrom s c x)) (r .offset-is) ∙ ap (aValue c) (content-is s c v q at g d)))
+      ∙ (ap (λ (x : ℕ). aValue c (contentFrom s c x)) (r .offset-is) ∙ ap (aValue c) (content-is τ s c v q at g d)))
 
-  pub array-said : (i t : ℕ) (ns : List ℕ) (x : Detail Prefixed ℕ) (vs : List Prefixed) → Shape t ns → OwnDetail x → ItemsOf x (product ns) vs
+  pub array-said : (i t : ℕ) (ns : List ℕ) (x : Detail Prefixed ℕ) (vs : List Prefixed) → Shape t ns → OwnDetail τ x → ItemsOf τ x (product ns) vs
       → drop at s ≡ enc (array i t ns x vs) ++ q → RowOf (array i t ns x vs) at w → whatFrom s rows w ≡ anArray t ns (named (libraryName s rows) x) (textsOf vs)
   unfolding enc whatFrom arrayFrom
   array-said i t ns x vs g h y d r =
@@ -614,7 +615,7 @@ module _ (s : List ℕ) (rows : List Row) (w : Row) (at : ℕ) (q : List ℕ) wh
       let p = at + 10 + 4 * length ns in
       let f = rest-there s (numbersBytes ns) (item ++ q) (at + 10) p (omega arith) c in
       let u : drop (p + 1) s ≡ infoBytes x ++ (itemsBytes vs ++ q) = byte-rest s (items ++ q) (typeByte x) p f ∙ append-assoc (infoBytes x) (itemsBytes vs) q in
-      let z = detail-there s (itemsBytes vs ++ q) (p + 1) rows x h u in
+      let z = detail-there τ s (itemsBytes vs ++ q) (p + 1) rows x h u in
       ap (whatFrom s rows) (row-like w (r .kind-is) (r .offset-is) refl (r .count-is))
       ∙ rw (
         byte-there s ((rank ++ (numbersBytes ns ++ item)) ++ q) t (at + 5) a,
@@ -624,11 +625,11 @@ module _ (s : List ℕ) (rows : List Row) (w : Row) (at : ℕ) (q : List ℕ) wh
         z .0,
         z .1,
       )
-      (ap (anArray t ns (named (libraryName s rows) x)) (items-of-there s q (p + 1) (product ns) vs x y u))
+      (ap (anArray t ns (named (libraryName s rows) x)) (items-of-there τ s q (p + 1) (product ns) vs x y u))
 
-  pub library-said : (i : ℕ) (n : Prefixed) → Name n → drop at s ≡ enc (library i n) ++ q → w .offset ≡ at → textFrom s (w .offset + 5) ≡ n .text
+  pub library-said : (i : ℕ) (n : Prefixed) → Name τ n → drop at s ≡ enc (library i n) ++ q → w .offset ≡ at → textFrom s (w .offset + 5) ≡ n .text
   unfolding enc
-  library-said i n g d z = ap (λ (p : ℕ). textFrom s (p + 5)) z ∙ text-is s n q (at + 5) g (after-id s q at 12 i (bytesIn n) d)
+  library-said i n g d z = ap (λ (p : ℕ). textFrom s (p + 5)) z ∙ text-is τ s n q (at + 5) g (after-id s q at 12 i (bytesIn n) d)
 
 -- ---- nodes
 
@@ -668,25 +669,26 @@ module _ (s : List ℕ) (rows : List Row) (w : Row) where
   one : {x : What} → whatFrom s rows w ≡ x → inSlot (whatFrom s rows w) ∷ [] ≡ inSlot x ∷ []
   one e = ap (λ (x : What). inSlot x ∷ []) e
 
+module _ (τ : Terms) (s : List ℕ) (rows : List Row) (w : Row) where
   -- a null, or a run of them, is spread; any other record says what it says by itself
-  pub nodes-there : (of : ℕ → Class) (order : ℕ → ℕ) (q : List ℕ) (at : ℕ) (r : Rec) → drop at s ≡ enc r ++ q → RowOf r at w → GoodRec r
+  pub nodes-there : (of : ℕ → Class) (order : ℕ → ℕ) (q : List ℕ) (at : ℕ) (r : Rec) → drop at s ≡ enc r ++ q → RowOf r at w → GoodRec τ r
       → LinkIs s rows of order r w
-      → nodesOf s rows w ≡ pick (isNulls (kindOf r)) run (map inSlot (saidBy (libraryName s rows) of order r))
-  nodes-there of order q at (header a h) d r g l = by-kind 0 (r .kind-is)
-  nodes-there of order q at (classById i k) d r g l = by-kind 1 (r .kind-is) ∙ one (class-by-id-said s rows w at i k r ∙ ap anObject l)
-  nodes-there of order q at (systemClass i n ms) d r g l = by-kind 4 (r .kind-is) ∙ one (system-class-said s rows w at q i n ms (g .0) (g .1) d r)
+      → nodesOf s rows w ≡ pick (isNulls (kindOf r)) (run s rows w) (map (inSlot s rows w) (saidBy (libraryName s rows) of order r))
+  nodes-there of order q at (header a h) d r g l = by-kind s rows w 0 (r .kind-is)
+  nodes-there of order q at (classById i k) d r g l = by-kind s rows w 1 (r .kind-is) ∙ one s rows w (class-by-id-said s rows w at i k r ∙ ap anObject l)
+  nodes-there of order q at (systemClass i n ms) d r g l = by-kind s rows w 4 (r .kind-is) ∙ one s rows w (system-class-said τ s rows w at q i n ms (g .0) (g .1) d r)
   nodes-there of order q at (libraryClass i n ms k) d r g l =
-      by-kind 5 (r .kind-is) ∙ one (library-class-said s rows w at q i n ms k (g .0) (g .1) (g .2) d r)
-  nodes-there of order q at (string i x) d r g l = by-kind 6 (r .kind-is) ∙ one (string-said s rows w at q i x g d r)
-  nodes-there of order q at (array i t ns x vs) d r g l = by-kind 7 (r .kind-is) ∙ one (array-said s rows w at q i t ns x vs (g .0) (g .1) (g .2) d r)
-  nodes-there of order q at (typedPrimitive c v) d r g l = by-kind 8 (r .kind-is) ∙ one (typed-primitive-said s rows w at q c v g d r)
-  nodes-there of order q at (reference i) d r g l = by-kind 9 (r .kind-is) ∙ one (reference-said s rows w at i r ∙ ap aReference l)
-  nodes-there of order q at null d r g l = by-kind 10 (r .kind-is)
-  nodes-there of order q at (nulls n) d r g l = by-kind 13 (r .kind-is)
-  nodes-there of order q at (manyNulls n) d r g l = by-kind 14 (r .kind-is)
-  nodes-there of order q at end d r g l = by-kind 11 (r .kind-is)
-  nodes-there of order q at (library i n) d r g l = by-kind 12 (r .kind-is)
-  nodes-there of order q at (primitiveArray i n c vs) d r g l = by-kind 15 (r .kind-is) ∙ one (primitive-array-said s rows w at q i n c vs g d r)
-  nodes-there of order q at (objectArray i n) d r g l = by-kind 16 (r .kind-is) ∙ one (object-array-said s rows w at i n r)
-  nodes-there of order q at (stringArray i n) d r g l = by-kind 17 (r .kind-is) ∙ one (string-array-said s rows w at i n r)
-  nodes-there of order q at (value c v) d r g l = by-kind 32 (r .kind-is) ∙ one (value-said s rows w at q c v g l d r)
+      by-kind s rows w 5 (r .kind-is) ∙ one s rows w (library-class-said τ s rows w at q i n ms k (g .0) (g .1) (g .2) d r)
+  nodes-there of order q at (string i x) d r g l = by-kind s rows w 6 (r .kind-is) ∙ one s rows w (string-said τ s rows w at q i x g d r)
+  nodes-there of order q at (array i t ns x vs) d r g l = by-kind s rows w 7 (r .kind-is) ∙ one s rows w (array-said τ s rows w at q i t ns x vs (g .0) (g .1) (g .2) d r)
+  nodes-there of order q at (typedPrimitive c v) d r g l = by-kind s rows w 8 (r .kind-is) ∙ one s rows w (typed-primitive-said τ s rows w at q c v g d r)
+  nodes-there of order q at (reference i) d r g l = by-kind s rows w 9 (r .kind-is) ∙ one s rows w (reference-said s rows w at i r ∙ ap aReference l)
+  nodes-there of order q at null d r g l = by-kind s rows w 10 (r .kind-is)
+  nodes-there of order q at (nulls n) d r g l = by-kind s rows w 13 (r .kind-is)
+  nodes-there of order q at (manyNulls n) d r g l = by-kind s rows w 14 (r .kind-is)
+  nodes-there of order q at end d r g l = by-kind s rows w 11 (r .kind-is)
+  nodes-there of order q at (library i n) d r g l = by-kind s rows w 12 (r .kind-is)
+  nodes-there of order q at (primitiveArray i n c vs) d r g l = by-kind s rows w 15 (r .kind-is) ∙ one s rows w (primitive-array-said τ s rows w at q i n c vs g d r)
+  nodes-there of order q at (objectArray i n) d r g l = by-kind s rows w 16 (r .kind-is) ∙ one s rows w (object-array-said s rows w at i n r)
+  nodes-there of order q at (stringArray i n) d r g l = by-kind s rows w 17 (r .kind-is) ∙ one s rows w (string-array-said s rows w at i n r)
+  nodes-there of order q at (value c v) d r g l = by-kind s rows w 32 (r .kind-is) ∙ one s rows w (value-said τ s rows w at q c v g l d r)

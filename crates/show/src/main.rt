@@ -1,9 +1,12 @@
 // Shows a list to people: at most 65,535 bytes from standard input, a table of 1,024 rows. The rows are those of the listing, with names instead of
-// numbers, indented by owner; a refusal has its name, its number, its place and the bytes around that place.
+// numbers, indented by owner; a refusal has its name, its number, its place and the bytes around that place. With the word `--lenient` length prefixes may
+// be padded.
 use format::ReadAnswer;
 use format::Refusal;
 use format::Row;
+use format::Setting;
 use libc::STDIN_FILENO;
+use options::ForOne;
 use spelling::number;
 use spelling::say;
 ghost use Prim.Native.Nat.{_≤_};
@@ -60,21 +63,21 @@ fn margin(table: &[u32], i: usize, r: Row) {
 }
 
 // The rows from 0 up to `end`, one a line.
-fn rows(s: &[u8], table: &[u32], end: usize) {
+fn rows(s: &[u8], table: &[u32], end: usize, setting: Setting) {
     let mut i: usize = 0;
     while i < end {
         margin(table, i, members::row_at(table, i));
-        telling::row(s, table, i);
+        telling::row(s, table, i, setting);
         say(b"\n");
         i += 1;
     }
 }
 
-fn accepted(s: &[u8], table: &[u32], end: usize) {
+fn accepted(s: &[u8], table: &[u32], end: usize, setting: Setting) {
     say(b"accepted, ");
     number(end as u64);
     say(b" rows\n  row   bytes         what stands there\n");
-    rows(s, table, end);
+    rows(s, table, end, setting);
 }
 
 // What a list needs of this program, where the program has too little of it.
@@ -88,9 +91,9 @@ fn limits(r: Refusal) {
     }
 }
 
-fn answer(s: &[u8], table: &[u32], a: ReadAnswer) {
+fn answer(s: &[u8], table: &[u32], a: ReadAnswer, setting: Setting) {
     match a {
-        ReadAnswer::Accepted(n) => accepted(s, table, n),
+        ReadAnswer::Accepted(n) => accepted(s, table, n, setting),
         ReadAnswer::Refused(r, place) => {
             say(b"refused: ");
             refusals::refusal(r, place);
@@ -100,7 +103,8 @@ fn answer(s: &[u8], table: &[u32], a: ReadAnswer) {
     }
 }
 
-fn main() {
+// The list under a setting.
+fn list(setting: Setting) {
     let mut space = io::large_buffer();
     let n = io::read_full(STDIN_FILENO, &mut space);
     if n == 65536 {
@@ -110,6 +114,13 @@ fn main() {
         return;
     }
     let mut table = [0u32; 8192];
-    let a = reader::read(&space[..n], &mut table);
-    answer(&space[..n], &table, a);
+    let a = reader::read(&space[..n], &mut table, setting);
+    answer(&space[..n], &table, a, setting);
+}
+
+fn main() {
+    match options::one() {
+        ForOne::Take(setting) => list(setting),
+        ForOne::Wrong => options::usage(b"show [--lenient]"),
+    }
 }

@@ -6,6 +6,7 @@ use mathlib.Core.List.{List}
 use lib.ListN.{length}
 use lib.Dec.{eqb}
 use borrow.Author.Tests.{lt-ltb, le-leb}
+use Rattle.format.specs.declared.Setting.{Setting}
 use Rattle.format.specs.declared.Refusal.the-variants as R
 use Rattle.format.specs.declared.Text.the-variants as T
 use Rattle.format.specs.declared.Span.{Span}
@@ -25,13 +26,13 @@ use Rattle.spans.specs.Spans.{span-there}
 
 -- ---- strings
 
-module _ (s : List ℕ) (p a e : ℕ) (q : stringAt s p ≡ T.Part a e) where
+module _ (σ : Setting) (s : List ℕ) (p a e : ℕ) (q : stringAt σ s p ≡ T.Part a e) where
   pub string-span : spanAt s p ≡ record { from = a; to = e }
   unfolding textAt judgedAt
   string-span =
-      let w = string-told s p a e q in
+      let w = string-told σ s p a e q in
       let t = judged-taken wellFormed R.BadText s a (w .0) e (w .1 .ends) in
-      span-there s p (w .0) a (lenient-alike s p (w .0) a (w .1 .says)) (t .room) ∙ ap (λ (z : ℕ). record { from = a; to = z }) (sym (t .ends))
+      span-there s p (w .0) a (lenient-alike σ s p (w .0) a (w .1 .says)) (t .room) ∙ ap (λ (z : ℕ). record { from = a; to = z }) (sym (t .ends))
 
   pub string-after : afterText s p ≡ e
   string-after = ap (λ (x : Span). x .to) string-span
@@ -41,17 +42,17 @@ module _ (s : List ℕ) (p a e : ℕ) (q : stringAt s p ≡ T.Part a e) where
 
 -- ---- names
 
-pub name-after : (s : List ℕ) (p e : ℕ) → nameAt s p ≡ F.End e → afterText s p ≡ e
-name-after s p e q =
-    let w = name-told s p e q in
-    string-after s p (w .0) e (w .1)
+pub name-after : (σ : Setting) (s : List ℕ) (p e : ℕ) → nameAt σ s p ≡ F.End e → afterText s p ≡ e
+name-after σ s p e q =
+    let w = name-told σ s p e q in
+    string-after σ s p (w .0) e (w .1)
 
-pub names-after : (s : List ℕ) (n p e : ℕ) → times (nameAt s) n p ≡ F.End e → afterTexts s n p ≡ e
+pub names-after : (σ : Setting) (s : List ℕ) (n p e : ℕ) → times (nameAt σ s) n p ≡ F.End e → afterTexts s n p ≡ e
 unfolding times afterTexts
-names-after s zero p e q = cc
-names-after s (suc n) p e q =
-    let x = through (times (nameAt s) n) (nameAt s p) e q in
-    rw (name-after s p (x .0) (x .1)) (names-after s n (x .0) e (x .2))
+names-after σ s zero p e q = cc
+names-after σ s (suc n) p e q =
+    let x = through (times (nameAt σ s) n) (nameAt σ s p) e q in
+    rw (name-after σ s p (x .0) (x .1)) (names-after σ s n (x .0) e (x .2))
 
 -- ---- details
 
@@ -67,18 +68,18 @@ module _ (s : List ℕ) (p e : ℕ) where
       let u = u32-says s p (w .0) e (w .1) in
       rw (le-leb (p + 4) (length s) (u .within)) (sym (u .next))
 
-pub info-after : (s : List ℕ) (type p e : ℕ) → infoAt s type p ≡ F.End e → afterInfo s type p ≡ e
+pub info-after : (σ : Setting) (s : List ℕ) (type p e : ℕ) → infoAt σ s type p ≡ F.End e → afterInfo s type p ≡ e
 unfolding infoAt afterInfo
-info-after s type p e q = go (eqb type 0 || eqb type 7) (eqb type 3) (eqb type 4) q
+info-after σ s type p e q = go (eqb type 0 || eqb type 7) (eqb type 3) (eqb type 4) q
   where
-    class : onEnd (libraryIdAt s) (nameAt s p) ≡ F.End e → afterNumber s (afterText s p) ≡ e
+    class : onEnd (libraryIdAt s) (nameAt σ s p) ≡ F.End e → afterNumber s (afterText s p) ≡ e
     class q =
-        let x = through (libraryIdAt s) (nameAt s p) e q in
-        rw (name-after s p (x .0) (x .1)) (library-after s (x .0) e (x .2))
+        let x = through (libraryIdAt s) (nameAt σ s p) e q in
+        rw (name-after σ s p (x .0) (x .1)) (library-after s (x .0) e (x .2))
 
-    go : (x y z : Bool) → pick x (codeAt s p) (pick y (nameAt s p) (pick z (onEnd (libraryIdAt s) (nameAt s p)) (F.End p))) ≡ F.End e
+    go : (x y z : Bool) → pick x (codeAt s p) (pick y (nameAt σ s p) (pick z (onEnd (libraryIdAt s) (nameAt σ s p)) (F.End p))) ≡ F.End e
         → pick x (past (length s) p) (pick y (afterText s p) (pick z (afterNumber s (afterText s p)) p)) ≡ e
     go true y z q = code-after s p e q
-    go false true z q = name-after s p e q
+    go false true z q = name-after σ s p e q
     go false false true q = class q
     go false false false q = cc

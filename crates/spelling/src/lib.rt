@@ -1,8 +1,8 @@
 // Spells out what stands in the bytes of a stream, for people: numbers, texts with their control characters and quotation marks escaped, and primitive values by their
 // code. Every stream and every place is taken. What is written cannot be promised; the programs' stored outputs hold it.
 use floats::Form;
+use format::Span;
 use libc::STDOUT_FILENO;
-use peeking::Span;
 use peeking::byte_at;
 use peeking::on;
 use peeking::u16_at;

@@ -8,6 +8,7 @@ use lib.ListN.{length, getD, take}
 use lib.Seq.{length-take-le, take-suc, getD-take, getD-append-seam}
 use lib.Dec.{ltb, eqb}
 use borrow.Author.Tests.{ltb-false, eqb-true, eqb-false}
+use Rattle.format.specs.Terms.{Terms}
 use Rattle.format.specs.declared.Where.the-variants as W
 use Rattle.format.specs.declared.Row.{Row}
 use Rattle.format.specs.Rows.{blank, isObject, objectRow, findFrom, isLost, linked}
@@ -42,19 +43,19 @@ module _ (s : List ℕ) (front : List Row) (last : Row) where
       let e : length all - 1 ≡ length front = omega arith in
       ap (λ (i : ℕ). getD all i blank) e ∙ getD-append-seam front last [] blank
 
-whole-stands : (s : List ℕ) (rows : List Row) (at : ℕ) → Whole s rows at → length s ≤ at → length rows ≤ length s → length s ≤ 16777216
-    → Standing s rows
+whole-stands : (τ : Terms) (s : List ℕ) (rows : List Row) (at : ℕ) → Whole τ s rows at → length s ≤ at → length rows ≤ length s → length s ≤ 16777216
+    → Standing τ s rows
 unfolding endOf
-whole-stands s rows at w h c f =
+whole-stands τ s rows at w h c f =
     let front = w .front in
     let last = w .last in
     let n = length-more front last in
-    let placed = each-more front last (Placed s) (λ i l. w .each i l .0) (w .placed) in
+    let placed = each-more front last (Placed τ s) (λ i l. w .each i l .0) (w .placed) in
     let final = each-more front last (λ before r. r .kind ≡ 11 → length before ≡ length front) (λ i l e. absurd (w .each i l .1 e)) (λ e. refl) in
-    let m = stood-moves (w .placed .said) in
+    let m = stood-moves τ (w .placed .said) in
     let e = w .end in
     let k = ap length (w .parts) in
-    subst (λ (rows : List Row). Standing s rows) (sym (w .parts)) (record {
+    subst (λ (rows : List Row). Standing τ s rows) (sym (w .parts)) (record {
       each = λ i l. placed i l .said;
       kinds = λ i l. placed i l .known;
       headed = placed 0 (omega arith) .headed refl;
@@ -77,34 +78,34 @@ whole-stands s rows at w h c f =
 -- ---- the whole stream
 
 -- before the first step, and after the header's
-pub start-gathered : (s : List ℕ) → Gathered s start
+pub start-gathered : (τ : Terms) (s : List ℕ) → Gathered τ s start
 unfolding endOf
-start-gathered s = record { each = λ i h. absurd (omega arith); place = refl; owners = (apart refl, tt) }
+start-gathered τ s = record { each = λ i h. absurd (omega arith); place = refl; owners = (apart refl, tt) }
 
-pub header-gathered : (s : List ℕ) (room : ℕ) → NextGathered s (recordStep s room start W.Start)
+pub header-gathered : (τ : Terms) (s : List ℕ) (room : ℕ) → NextGathered τ s (recordStep τ s room start W.Start)
 unfolding allowed
-header-gathered s room = record-gathered s room start (start-gathered s) W.Start (λ k t. (λ e. refl, λ e. eqb-true k 0 t))
+header-gathered τ s room = record-gathered τ s room start (start-gathered τ s) W.Start (λ k t. (λ e. refl, λ e. eqb-true k 0 t))
 
 -- what the rows of a stream that is taken say as they are read, with room for so many
-pub record Raw (s : List ℕ) (room : ℕ) (raw : List Row) : Type 0 where
-  pub stands : Standing s raw
+pub record Raw (τ : Terms) (s : List ℕ) (room : ℕ) (raw : List Row) : Type 0 where
+  pub stands : Standing τ s raw
   pub root : objectRow (getD raw 0 blank .id) raw ≡ 0 → ⊥
   pub targets : (i : ℕ) → i < length raw → getD raw i blank .kind ≡ 9 → objectRow (getD raw i blank .id) raw ≡ 0 → ⊥
   pub roomy : length raw ≤ room
 
-abbrev RawOf : List ℕ → ℕ → Outcome → Type 0
-RawOf s room (accepted raw) = Raw s room raw
-RawOf s room (refused r place) = Unit {0}
+abbrev RawOf : Terms → List ℕ → ℕ → Outcome → Type 0
+RawOf τ s room (accepted raw) = Raw τ s room raw
+RawOf τ s room (refused r place) = Unit {0}
 
-module _ (s : List ℕ) (room : ℕ) (fits : length s ≤ 16777216) where
-  finish-taken : (rows : List Row) (at : ℕ) → Whole s rows at → (length rows ≤ room) × (length rows ≤ length s) → RawOf s room (finish s rows at)
+module _ (τ : Terms) (s : List ℕ) (room : ℕ) (fits : length s ≤ 16777216) where
+  finish-taken : (rows : List Row) (at : ℕ) → Whole τ s rows at → (length rows ≤ room) × (length rows ≤ length s) → RawOf τ s room (finish s rows at)
   unfolding finish
   finish-taken rows at w c =
-      picked (RawOf s room) (ltb at (length s)) (λ t. tt)
-      (λ t. picked (RawOf s room) (eqb (objectRow (getD rows 0 blank .id) rows) 0) (λ u. tt)
-      (λ u. picked (RawOf s room) (eqb (findFrom (isLost rows) 0 rows) 0)
+      picked (RawOf τ s room) (ltb at (length s)) (λ t. tt)
+      (λ t. picked (RawOf τ s room) (eqb (objectRow (getD rows 0 blank .id) rows) 0) (λ u. tt)
+      (λ u. picked (RawOf τ s room) (eqb (findFrom (isLost rows) 0 rows) 0)
       (λ v. record {
-        stands = whole-stands s rows at w (ltb-false at (length s) t) (c .1) fits;
+        stands = whole-stands τ s rows at w (ltb-false at (length s) t) (c .1) fits;
         root = eqb-false (objectRow (getD rows 0 blank .id) rows) 0 u;
         targets = λ i h k.
             let r = getD rows i blank in
@@ -115,50 +116,50 @@ module _ (s : List ℕ) (room : ℕ) (fits : length s ≤ 16777216) where
       (λ v. tt)))
 
   -- after a step, where what follows says it
-  next-taken : (f : State → Outcome) → ((st : State) → Gathered s st → 0 < length (st .rows) → Fine s room st → RawOf s room (f st))
-      → (at : ℕ) (x : Next) → NextGathered s x → NextFine s room at x → RawOf s room (onward s f x)
+  next-taken : (f : State → Outcome) → ((st : State) → Gathered τ s st → 0 < length (st .rows) → Fine s room st → RawOf τ s room (f st))
+      → (at : ℕ) (x : Next) → NextGathered τ s x → NextFine s room at x → RawOf τ s room (onward s f x)
   next-taken f g at (go st) w v = g st (w .0) (w .1) (v .0)
   next-taken f g at (ended rows end) w v = finish-taken rows end w v
   next-taken f g at (refuse r place) w v = tt
 
-  run-taken : (k : ℕ) (st : State) → Gathered s st → 0 < length (st .rows) → Fine s room st → RawOf s room (run k s room st)
+  run-taken : (k : ℕ) (st : State) → Gathered τ s st → 0 < length (st .rows) → Fine s room st → RawOf τ s room (run τ k s room st)
   unfolding run
   run-taken zero st w n f = tt
-  run-taken (suc k) st w n f = next-taken (run k s room) (run-taken k) (st .at) (step s room st) (step-gathered s room st w n) (step-fine s room st f)
+  run-taken (suc k) st w n f = next-taken (run τ k s room) (run-taken k) (st .at) (step τ s room st) (step-gathered τ s room st w n) (step-fine τ s room st f)
 
-  begin-onward : (x : Next) → onward s (run (length s) s room) x ≡ begin s room x
+  begin-onward : (x : Next) → onward s (run τ (length s) s room) x ≡ begin τ s room x
   begin-onward (go st) = refl
   begin-onward (ended rows at) = refl
   begin-onward (refuse r place) = refl
 
-  header-taken : RawOf s room (begin s room (recordStep s room start W.Start))
+  header-taken : RawOf τ s room (begin τ s room (recordStep τ s room start W.Start))
   header-taken =
-      subst (λ (x : Outcome). RawOf s room x) (begin-onward (recordStep s room start W.Start))
-      (next-taken (run (length s) s room) (run-taken (length s)) 0 (recordStep s room start W.Start) (header-gathered s room)
-      (record-fine s room start (record { inside = omega arith; counted = omega arith; roomy = omega arith; shallow = omega arith }) W.Start))
+      subst (λ (x : Outcome). RawOf τ s room x) (begin-onward (recordStep τ s room start W.Start))
+      (next-taken (run τ (length s) s room) (run-taken (length s)) 0 (recordStep τ s room start W.Start) (header-gathered τ s room)
+      (record-fine τ s room start (record { inside = omega arith; counted = omega arith; roomy = omega arith; shallow = omega arith }) W.Start))
 
-pub raw-stands : (s : List ℕ) (room : ℕ) (raw : List Row) → rawOf s room ≡ accepted raw → Raw s room raw
+pub raw-stands : (τ : Terms) (s : List ℕ) (room : ℕ) (raw : List Row) → rawOf τ s room ≡ accepted raw → Raw τ s room raw
 unfolding rawOf
-raw-stands s room raw e =
-    subst (λ (x : Outcome). RawOf s room x) e
-    (picked (RawOf s room) (ltb 16777216 (length s)) (λ t. tt) (λ t. header-taken s room (ltb-false 16777216 (length s) t)))
+raw-stands τ s room raw e =
+    subst (λ (x : Outcome). RawOf τ s room x) e
+    (picked (RawOf τ s room) (ltb 16777216 (length s)) (λ t. tt) (λ t. header-taken τ s room (ltb-false 16777216 (length s) t)))
 
 -- the rows of a stream that is taken, and as they were read
-pub record Taken (s : List ℕ) (room : ℕ) (rows : List Row) : Type 0 where
+pub record Taken (τ : Terms) (s : List ℕ) (room : ℕ) (rows : List Row) : Type 0 where
   pub raw : List Row
   pub same : rows ≡ linked raw
-  pub reads : rawOf s room ≡ accepted raw
-  pub stands : Standing s raw
+  pub reads : rawOf τ s room ≡ accepted raw
+  pub stands : Standing τ s raw
   pub roomy : length rows ≤ room
 
-pub accepted-stands : (s : List ℕ) (room : ℕ) (rows : List Row) → readOf s room ≡ accepted rows → Taken s room rows
+pub accepted-stands : (τ : Terms) (s : List ℕ) (room : ℕ) (rows : List Row) → readOf τ s room ≡ accepted rows → Taken τ s room rows
 unfolding readOf
-accepted-stands s room rows e = go (rawOf s room) refl e
+accepted-stands τ s room rows e = go (rawOf τ s room) refl e
   where
-    go : (o : Outcome) → rawOf s room ≡ o → withLinks o ≡ accepted rows → Taken s room rows
+    go : (o : Outcome) → rawOf τ s room ≡ o → withLinks o ≡ accepted rows → Taken τ s room rows
     go (accepted raw) q e =
         let same : rows ≡ linked raw = cc in
-        let w = raw-stands s room raw q in
+        let w = raw-stands τ s room raw q in
         let l = ap length same ∙ length-linked raw in
         let a = w .roomy in
         record { raw = raw; same = same; reads = q; stands = w .stands; roomy = omega arith }

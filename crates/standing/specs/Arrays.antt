@@ -7,6 +7,7 @@ use native.Mathlib.Omega.{arith}
 use lib.ListN.{length, getD}
 use lib.Dec.{ltb, leb, eqb}
 use borrow.Author.Tests.{ne-eqb}
+use Rattle.format.specs.Terms.{Terms}
 use Rattle.format.specs.declared.SlotType.{SlotType}
 use Rattle.format.specs.declared.SlotType.the-variants as S
 use Rattle.format.specs.declared.Number32.{Number32}
@@ -40,13 +41,13 @@ pub record Slotted (s : List ℕ) (at count end : ℕ) : Type 0 where
   pub ends : end ≡ at + 9
 
 -- 15: a code, and the items
-pub record Primitives (s : List ℕ) (at count end : ℕ) : Type 0 where
+pub record Primitives (τ : Terms) (s : List ℕ) (at count end : ℕ) : Type 0 where
   pub count-at : u32At s (at + 5) ≡ N32.Value count (at + 9)
   pub code-at : codeAt s (at + 9) ≡ F.End (at + 10)
   pub items : at + 10 ≤ end
-  pub items-at : itemsAt s (coded (primitiveOf (getD s (at + 9) 0))) count (at + 10) ≡ F.End end
+  pub items-at : itemsAt (τ .setting) s (coded (primitiveOf (getD s (at + 9) 0))) count (at + 10) ≡ F.End end
 
-module _ (s : List ℕ) (at : ℕ) where
+module _ (τ : Terms) (s : List ℕ) (at : ℕ) where
   -- the length, by the place of the record
   count-there : (id p n q : ℕ) → u32At s (at + 1) ≡ N32.Value id p → u32At s p ≡ N32.Value n q → (u32At s (at + 5) ≡ N32.Value n (at + 9)) × (q ≡ at + 9)
   count-there id p n q a b =
@@ -68,20 +69,20 @@ module _ (s : List ℕ) (at : ℕ) where
         picked (Of P) (negative n) (λ d. tt) (λ d. record { count-at = e .0; ends = e .1 })))
         (λ b. tt))
 
-    of-primitives : Of (λ h. Primitives s at (h .count) (h .end)) (primitiveArrayAt s rows at)
+    of-primitives : Of (λ h. Primitives τ s at (h .count) (h .end)) (primitiveArrayAt τ s rows at)
     unfolding primitiveArrayAt
     of-primitives =
-        let P : Head → Type 0 = λ h. Primitives s at (h .count) (h .end) in
+        let P : Head → Type 0 = λ h. Primitives τ s at (h .count) (h .end) in
         of-number P _ (u32At s (at + 1)) (λ id p a.
         picked (Of P) (goodId rows id) (λ b.
         of-number P _ (u32At s p) (λ n q c.
         picked (Of P) (negative n) (λ d. tt) (λ d.
-        of-field P (withItems s (coded (primitiveOf (getD s q 0))) id n) (codeAt s q) (λ x f.
+        of-field P (withItems τ s (coded (primitiveOf (getD s q 0))) id n) (codeAt s q) (λ x f.
         let code = coded (primitiveOf (getD s q 0)) in
-        of-field P _ (itemsAt s code n x) (λ end g.
+        of-field P _ (itemsAt (τ .setting) s code n x) (λ end g.
         let e = count-there id p n q a c in
         let u = code-told s q x f in
-        let v = items-kept code n .moves s x end (omega arith) g in
+        let v = items-kept (τ .setting) code n .moves s x end (omega arith) g in
         let k : q ≡ at + 9 = e .1 in
         let l : x ≡ at + 10 = omega arith in
         record {
@@ -89,32 +90,32 @@ module _ (s : List ℕ) (at : ℕ) where
           code-at = subst (λ (q : ℕ). codeAt s q ≡ F.End (at + 10)) k (f ∙ ap F.End l);
           items = omega arith;
           items-at =
-              subst (λ (q : ℕ). itemsAt s (coded (primitiveOf (getD s q 0))) n (at + 10) ≡ F.End end) k
-              (subst (λ (x : ℕ). itemsAt s code n x ≡ F.End end) l g);
+              subst (λ (q : ℕ). itemsAt (τ .setting) s (coded (primitiveOf (getD s q 0))) n (at + 10) ≡ F.End end) k
+              (subst (λ (x : ℕ). itemsAt (τ .setting) s code n x ≡ F.End end) l g);
         })))))
         (λ b. tt))
 
 -- ---- kind 7: array type, rank, lengths, the type byte and the detail of the items
 
 -- where items end whose type's detail ends at `at`: primitive items after as many values, others where they begin
-abbrev Ended : List ℕ → SlotType → ℕ → Head → Type 0
-Ended s (S.Primitive c) at h = itemsAt s c (h .count) at ≡ F.End (h .end)
-Ended s S.Text at h = h .end ≡ at
-Ended s S.Object at h = h .end ≡ at
-Ended s S.SystemClass at h = h .end ≡ at
-Ended s S.Class at h = h .end ≡ at
-Ended s S.ObjectArray at h = h .end ≡ at
-Ended s S.StringArray at h = h .end ≡ at
-Ended s (S.PrimitiveArray c) at h = h .end ≡ at
+abbrev Ended : Terms → List ℕ → SlotType → ℕ → Head → Type 0
+Ended τ s (S.Primitive c) at h = itemsAt (τ .setting) s c (h .count) at ≡ F.End (h .end)
+Ended τ s S.Text at h = h .end ≡ at
+Ended τ s S.Object at h = h .end ≡ at
+Ended τ s S.SystemClass at h = h .end ≡ at
+Ended τ s S.Class at h = h .end ≡ at
+Ended τ s S.ObjectArray at h = h .end ≡ at
+Ended τ s S.StringArray at h = h .end ≡ at
+Ended τ s (S.PrimitiveArray c) at h = h .end ≡ at
 
-pub record Array (s : List ℕ) (rows : List Row) (at count end : ℕ) : Type 0 where
+pub record Array (τ : Terms) (s : List ℕ) (rows : List Row) (at count end : ℕ) : Type 0 where
   pub rank : ℕ
   pub info-end : ℕ
   pub rank-at : u32At s (at + 6) ≡ N32.Value rank (at + 10)
   pub type-at : typeByteAt s (at + 10 + 4 * rank) ≡ F.End (at + 10 + 4 * rank + 1)
-  pub info-at : infoKnown s rows (getD s (at + 10 + 4 * rank) 0) (at + 10 + 4 * rank + 1) ≡ F.End info-end
+  pub info-at : infoKnown τ s rows (getD s (at + 10 + 4 * rank) 0) (at + 10 + 4 * rank + 1) ≡ F.End info-end
   pub items : info-end ≤ end
-  pub items-at : getD s (at + 10 + 4 * rank) 0 ≡ 0 → itemsAt s (coded (primitiveOf (getD s (at + 10 + 4 * rank + 1) 0))) count info-end ≡ F.End end
+  pub items-at : getD s (at + 10 + 4 * rank) 0 ≡ 0 → itemsAt (τ .setting) s (coded (primitiveOf (getD s (at + 10 + 4 * rank + 1) 0))) count info-end ≡ F.End end
   pub no-items : (getD s (at + 10 + 4 * rank) 0 ≡ 0 → ⊥) → end ≡ info-end
 
 -- lengths that are taken end at this place
@@ -122,7 +123,7 @@ abbrev EndAt : ℕ → Slots → Type 0
 EndAt e (L.Product n end) = end ≡ e
 EndAt e (L.Fault f) = Unit {0}
 
-module _ (s : List ℕ) where
+module _ (τ : Terms) (s : List ℕ) where
   -- four bytes a length
   lengths-end : (k product at e : ℕ) → at + 4 * k ≡ e → EndAt e (lengthsAt s k product at)
   unfolding lengthsAt
@@ -140,8 +141,8 @@ module _ (s : List ℕ) where
   of-lengths P k (L.Product n end) e q f = subst (λ (e : ℕ). Of P (k n e)) (sym q) (f n)
   of-lengths P k (L.Fault x) e q f = tt
 
-  items-ended : (slot : SlotType) (id n infos at : ℕ) → Of (Ended s slot at) (itemsOf s id n infos at slot)
-  items-ended (S.Primitive c) id n infos at = of-field (Ended s (S.Primitive c) at) _ (itemsAt s c n at) (λ end a. a)
+  items-ended : (slot : SlotType) (id n infos at : ℕ) → Of (Ended τ s slot at) (itemsOf τ s id n infos at slot)
+  items-ended (S.Primitive c) id n infos at = of-field (Ended τ s (S.Primitive c) at) _ (itemsAt (τ .setting) s c n at) (λ end a. a)
   items-ended S.Text id n infos at = refl
   items-ended S.Object id n infos at = refl
   items-ended S.SystemClass id n infos at = refl
@@ -151,8 +152,8 @@ module _ (s : List ℕ) where
   items-ended (S.PrimitiveArray c) id n infos at = refl
 
   -- items end where their type's detail does, or after it
-  ended-after : (slot : SlotType) (at : ℕ) (h : Head) → at ≤ length s → Ended s slot at h → at ≤ h .end
-  ended-after (S.Primitive c) at h l e = let m = items-kept c (h .count) .moves s at (h .end) l e in omega arith
+  ended-after : (slot : SlotType) (at : ℕ) (h : Head) → at ≤ length s → Ended τ s slot at h → at ≤ h .end
+  ended-after (S.Primitive c) at h l e = let m = items-kept (τ .setting) c (h .count) .moves s at (h .end) l e in omega arith
   ended-after S.Text at h l e = omega arith
   ended-after S.Object at h l e = omega arith
   ended-after S.SystemClass at h l e = omega arith
@@ -163,16 +164,16 @@ module _ (s : List ℕ) where
 
   -- only items of type 0 are primitive
   module _ (type code at : ℕ) (h : Head) where
-    ended-items : Ended s (slotOf type code) at h → type ≡ 0 → itemsAt s (coded (primitiveOf code)) (h .count) at ≡ F.End (h .end)
+    ended-items : Ended τ s (slotOf type code) at h → type ≡ 0 → itemsAt (τ .setting) s (coded (primitiveOf code)) (h .count) at ≡ F.End (h .end)
     unfolding slotOf
-    ended-items e z = subst (λ (t : ℕ). Ended s (slotOf t code) at h) z e
+    ended-items e z = subst (λ (t : ℕ). Ended τ s (slotOf t code) at h) z e
 
-    ended-none : Ended s (slotOf type code) at h → (type ≡ 0 → ⊥) → h .end ≡ at
+    ended-none : Ended τ s (slotOf type code) at h → (type ≡ 0 → ⊥) → h .end ≡ at
     unfolding slotOf
     ended-none e n = go (eqb type 1) (eqb type 2) (eqb type 3) (eqb type 4) (eqb type 5) (eqb type 6) (rw (ne-eqb type 0 n) at e)
       where
         go : (b c d f g i : Bool)
-            → Ended s (pick b S.Text (pick c S.Object (pick d S.SystemClass (pick f S.Class (pick g S.ObjectArray (pick i S.StringArray (S.PrimitiveArray (coded (primitiveOf code)))))))))
+            → Ended τ s (pick b S.Text (pick c S.Object (pick d S.SystemClass (pick f S.Class (pick g S.ObjectArray (pick i S.StringArray (S.PrimitiveArray (coded (primitiveOf code)))))))))
             at h → h .end ≡ at
         go true c d f g i e = e
         go false true d f g i e = e
@@ -184,37 +185,37 @@ module _ (s : List ℕ) where
 
   module _ (rows : List Row) (at : ℕ) where
     abbrev ArrayOf : Head → Type 0
-    ArrayOf h = Array s rows at (h .count) (h .end)
+    ArrayOf h = Array τ s rows at (h .count) (h .end)
 
     -- after the lengths
-    of-items : (rank id n : ℕ) → u32At s (at + 6) ≡ N32.Value rank (at + 10) → Of ArrayOf (itemTypeAt s rows id n (at + 10 + 4 * rank))
+    of-items : (rank id n : ℕ) → u32At s (at + 6) ≡ N32.Value rank (at + 10) → Of ArrayOf (itemTypeAt τ s rows id n (at + 10 + 4 * rank))
     unfolding itemTypeAt typedAt
     of-items rank id n r =
         let types : ℕ = at + 10 + 4 * rank in
         of-field ArrayOf _ (typeByteAt s types) (λ infos a.
-        of-field ArrayOf _ (infoKnown s rows (getD s types 0) infos) (λ end b.
+        of-field ArrayOf _ (infoKnown τ s rows (getD s types 0) infos) (λ end b.
         let u = type-told s types infos a in
         let e : infos ≡ types + 1 = u .2 in
-        let v = info-known-moves s rows (getD s types 0) infos end (omega arith) b in
+        let v = info-known-moves τ s rows (getD s types 0) infos end (omega arith) b in
         let slot = slotOf (getD s types 0) (getD s infos 0) in
-        of-more slot end (itemsOf s id n infos end slot) (λ h l.
+        of-more slot end (itemsOf τ s id n infos end slot) (λ h l.
         let there = ended-items (getD s types 0) (getD s infos 0) end h l in
         record {
           rank = rank;
           info-end = end;
           rank-at = r;
           type-at = a ∙ ap F.End e;
-          info-at = subst (λ (p : ℕ). infoKnown s rows (getD s types 0) p ≡ F.End end) e b;
+          info-at = subst (λ (p : ℕ). infoKnown τ s rows (getD s types 0) p ≡ F.End end) e b;
           items = ended-after slot end h (v .1) l;
-          items-at = λ z. subst (λ (p : ℕ). itemsAt s (coded (primitiveOf (getD s p 0))) (h .count) end ≡ F.End (h .end)) e (there z);
+          items-at = λ z. subst (λ (p : ℕ). itemsAt (τ .setting) s (coded (primitiveOf (getD s p 0))) (h .count) end ≡ F.End (h .end)) e (there z);
           no-items = λ z. ended-none (getD s types 0) (getD s infos 0) end h l z;
         }) (items-ended slot id n infos end)))
       where
-        of-more : (slot : SlotType) (e : ℕ) (x : Heading) → ((h : Head) → Ended s slot e h → ArrayOf h) → Of (Ended s slot e) x → Of ArrayOf x
+        of-more : (slot : SlotType) (e : ℕ) (x : Heading) → ((h : Head) → Ended τ s slot e h → ArrayOf h) → Of (Ended τ s slot e) x → Of ArrayOf x
         of-more slot e (H.Fields h) f q = f h q
         of-more slot e (H.Bad x) f q = tt
 
-    of-rank : (id type p : ℕ) → p ≡ at + 6 → Of ArrayOf (rankAt s rows id type p)
+    of-rank : (id type p : ℕ) → p ≡ at + 6 → Of ArrayOf (rankAt τ s rows id type p)
     unfolding rankAt
     of-rank id type p e =
         of-number ArrayOf _ (u32At s p) (λ rank q a.
@@ -223,10 +224,10 @@ module _ (s : List ℕ) where
         let f : q ≡ at + 10 = omega arith in
         let r : u32At s (at + 6) ≡ N32.Value rank (at + 10) = subst (λ (p : ℕ). u32At s p ≡ N32.Value rank (at + 10)) e (a ∙ ap (N32.Value rank) f) in
         let l : q + 4 * rank ≡ at + 10 + 4 * rank = omega arith in
-        of-lengths ArrayOf (itemTypeAt s rows id) (lengthsAt s rank 1 q) (at + 10 + 4 * rank) (lengths-end rank 1 q _ l) (λ n. of-items rank id n r))
+        of-lengths ArrayOf (itemTypeAt τ s rows id) (lengthsAt s rank 1 q) (at + 10 + 4 * rank) (lengths-end rank 1 q _ l) (λ n. of-items rank id n r))
         (λ b. tt))
 
-    of-array : Of ArrayOf (binaryArrayAt s rows at)
+    of-array : Of ArrayOf (binaryArrayAt τ s rows at)
     unfolding binaryArrayAt
     of-array =
         of-number ArrayOf _ (u32At s (at + 1)) (λ id p a.
@@ -240,23 +241,23 @@ module _ (s : List ℕ) where
 
 -- ---- rows
 
-pub texts-heading : (s : List ℕ) (rows : List Row) (k at : ℕ) → k ≡ 17 → headingAt s rows k at ≡ slotArrayAt s rows S.Text at
+pub texts-heading : (τ : Terms) (s : List ℕ) (rows : List Row) (k at : ℕ) → k ≡ 17 → headingAt τ s rows k at ≡ slotArrayAt s rows S.Text at
 unfolding headingAt
-texts-heading s rows k at h = rw h
+texts-heading τ s rows k at h = rw h
 
-module _ {s : List ℕ} {before : List Row} {r : Row} (w : Recorded s before r) where
-  pub array-row : r .kind ≡ 7 → Array s before (r .offset) (r .count) (r .end)
+module _ (τ : Terms) {s : List ℕ} {before : List Row} {r : Row} (w : Recorded τ s before r) where
+  pub array-row : r .kind ≡ 7 → Array τ s before (r .offset) (r .count) (r .end)
   array-row k =
-      row-said w (Array s before (r .offset)) _ (array-heading s before (r .kind) (r .offset) k) (of-array s before (r .offset))
+      row-said τ w (Array τ s before (r .offset)) _ (array-heading τ s before (r .kind) (r .offset) k) (of-array τ s before (r .offset))
 
-  pub primitives-row : r .kind ≡ 15 → Primitives s (r .offset) (r .count) (r .end)
+  pub primitives-row : r .kind ≡ 15 → Primitives τ s (r .offset) (r .count) (r .end)
   primitives-row k =
-      row-said w (Primitives s (r .offset)) _ (primitives-heading s before (r .kind) (r .offset) k) (of-primitives s (r .offset) before)
+      row-said τ w (Primitives τ s (r .offset)) _ (primitives-heading τ s before (r .kind) (r .offset) k) (of-primitives τ s (r .offset) before)
 
   pub objects-row : r .kind ≡ 16 → Slotted s (r .offset) (r .count) (r .end)
   objects-row k =
-      row-said w (Slotted s (r .offset)) _ (objects-heading s before (r .kind) (r .offset) k) (of-slots s (r .offset) before S.Object)
+      row-said τ w (Slotted s (r .offset)) _ (objects-heading τ s before (r .kind) (r .offset) k) (of-slots τ s (r .offset) before S.Object)
 
   pub strings-row : r .kind ≡ 17 → Slotted s (r .offset) (r .count) (r .end)
   strings-row k =
-      row-said w (Slotted s (r .offset)) _ (texts-heading s before (r .kind) (r .offset) k) (of-slots s (r .offset) before S.Text)
+      row-said τ w (Slotted s (r .offset)) _ (texts-heading τ s before (r .kind) (r .offset) k) (of-slots τ s (r .offset) before S.Text)

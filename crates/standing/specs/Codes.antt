@@ -8,6 +8,7 @@ use lib.ListN.{length, getD, take}
 use lib.Seq.{length-take-le, getD-take}
 use lib.Dec.{eqb}
 use borrow.Author.Tests.{lt-ltb, eqb-true, ne-eqb}
+use Rattle.format.specs.Terms.{Terms}
 use Rattle.format.specs.declared.PrimitiveCode.{PrimitiveCode}
 use Rattle.format.specs.declared.SlotType.{SlotType}
 use Rattle.format.specs.declared.SlotType.the-variants as S
@@ -47,7 +48,7 @@ slot-code type code c = go (eqb type 0) (eqb type 1) (eqb type 2) (eqb type 3) (
     go false false false false false false true q = not S.StringArray refl q
     go false false false false false false false q = not (S.PrimitiveArray (coded (primitiveOf code))) refl q
 
-module _ (s : List ℕ) (rows : List Row) where
+module _ (τ : Terms) (s : List ℕ) (rows : List Row) where
   detail-code : (type at : ℕ) (c : PrimitiveCode) → slotOf type (getD s at 0) ≡ S.Primitive c → codeOf (detailFrom s rows type at) ≡ c
   unfolding detailFrom
   detail-code type at c e = let w = slot-code type (getD s at 0) c e in rw (w .0) (w .1)
@@ -71,18 +72,18 @@ module _ (s : List ℕ) (rows : List Row) where
       (ap (λ t. movedBy s k t .slot) (sym (typed-next types infos n (omega arith))) ∙ e)
 
   -- the members of a class are at the places that its row as read says
-  class-members : (r : Row) → TypesIn s r → classFrom s rows r .members
+  class-members : (r : Row) → TypesIn τ s r → classFrom s rows r .members
       ≡ membersFrom s rows (r .count) (afterText s (r .offset + 5) + 4) (r .link) (r .link + r .count)
   unfolding classFrom
   class-members r w =
-      rw (name-after s (r .offset + 5) (w .name-end) (w .named), names-after s (r .count) (w .name-end + 4) (r .link) (w .names))
+      rw (name-after (τ .setting) s (r .offset + 5) (w .name-end) (w .named), names-after (τ .setting) s (r .count) (w .name-end + 4) (r .link) (w .names))
 
   -- a class does not see a link
   class-blind : (f : Row → ℕ) (raw : List Row) (j k : ℕ) → codeIn (classFrom s rows (getD (relinked f raw) j blank) .members) k ≡ codeIn (classFrom s rows (getD raw j blank) .members) k
   unfolding classFrom
   class-blind f raw j k = same-at f raw (λ (r : Row). codeIn (classFrom s rows r .members) k) (λ r l. refl) j
 
-  class-code : (r : Row) (k : ℕ) (c : PrimitiveCode) → TypesIn s r → k < r .count → movedBy s k (firstType s r) .slot ≡ S.Primitive c
+  class-code : (r : Row) (k : ℕ) (c : PrimitiveCode) → TypesIn τ s r → k < r .count → movedBy s k (firstType s r) .slot ≡ S.Primitive c
       → codeIn (classFrom s rows r .members) k ≡ c
   class-code r k c w h e =
       ap (λ (ms : List (Member (List ℕ) (List ℕ))). codeIn ms k) (class-members r w)
@@ -91,9 +92,9 @@ module _ (s : List ℕ) (rows : List Row) where
 -- ---- the rows of an accepted stream
 
 -- the code of the member value in row i
-pub record ValueCode (s : List ℕ) (raw : List Row) (i : ℕ) : Type 0 where
+pub record ValueCode (τ : Terms) (s : List ℕ) (raw : List Row) (i : ℕ) : Type 0 where
   pub code : PrimitiveCode
-  pub reads : valueAt s code (getD raw i blank .offset) ≡ F.End (getD raw i blank .end)
+  pub reads : valueAt (τ .setting) s code (getD raw i blank .offset) ≡ F.End (getD raw i blank .end)
   pub link-is : getD raw i blank .link ≡ codeNumber code
   pub said : valueCode s (linked raw) (getD (linked raw) i blank) ≡ code
   -- the same by rows with any links
@@ -131,9 +132,9 @@ of-all raw i owner j h w =
       class = ap (λ (x : Row). isClass (x .kind)) (sym f) ∙ w .class;
     }
 
-module _ (s : List ℕ) (room : ℕ) (raw : List Row) (e : rawOf s room ≡ accepted raw) (i : ℕ) (h : i < length raw) (k : getD raw i blank .kind ≡ 32) where
-  filled-slot : FromSlot s (take i raw) (getD raw i blank)
-  filled-slot = value-slots s room raw e i h k
+module _ (τ : Terms) (s : List ℕ) (room : ℕ) (raw : List Row) (e : rawOf τ s room ≡ accepted raw) (i : ℕ) (h : i < length raw) (k : getD raw i blank .kind ≡ 32) where
+  filled-slot : FromSlot τ s (take i raw) (getD raw i blank)
+  filled-slot = value-slots τ s room raw e i h k
 
   -- by rows with any links
   said-code : (f : Row → ℕ) → Links raw f → valueCode s (relinked f raw) (getD (relinked f raw) i blank) ≡ filled-slot .code
@@ -146,14 +147,14 @@ module _ (s : List ℕ) (room : ℕ) (raw : List Row) (e : rawOf s room ≡ acce
       let n = length-take-le i raw (omega arith) in
       let o = of-all raw i (r .owner) j h (w .of-class) in
       let c : getD (take i raw) j blank ≡ getD raw j blank = getD-take i raw j blank (omega (arith, w .of-class .inside)) in
-      let t = types-in (raw-stands s room raw e .stands .each j (o .inside)) (o .class) in
+      let t = types-in τ (raw-stands τ s room raw e .stands .each j (o .inside)) (o .class) in
       ap₂ (λ (a b : ℕ). codeIn (classFrom s all (classRowOf all (getD all (a - 1) blank)) .members) b) (same-owner f raw i) (same-slot f raw i)
       ∙ (ap (λ (x : Row). codeIn (classFrom s all x .members) (r .slot)) (class-row-of f raw L (r .owner) j o)
-      ∙ (class-blind s all f raw j (r .slot)
-      ∙ class-code s all (getD raw j blank) (r .slot) (w .code) t (subst (λ (x : Row). r .slot < x .count) c (w .slot-in))
+      ∙ (class-blind τ s all f raw j (r .slot)
+      ∙ class-code τ s all (getD raw j blank) (r .slot) (w .code) t (subst (λ (x : Row). r .slot < x .count) c (w .slot-in))
       (ap (λ (x : Row). movedBy s (r .slot) (firstType s x) .slot) (sym c) ∙ w .typed)))
 
-  pub value-code : ValueCode s raw i
+  pub value-code : ValueCode τ s raw i
   value-code =
       let w = filled-slot in
       record {

@@ -9,6 +9,7 @@ use lib.ListN.{length, getD, take, List·getD-append}
 use lib.Seq.{getD-append-seam}
 use lib.Dec.{ltb, leb, eqb}
 use borrow.Author.Tests.{ltb-false, eqb-true, eqb-false, eq-eqb, ne-eqb, le-ltb}
+use Rattle.format.specs.Terms.{Terms}
 use Rattle.format.specs.declared.PrimitiveCode.{PrimitiveCode}
 use Rattle.format.specs.declared.SlotType.{SlotType}
 use Rattle.format.specs.declared.SlotType.the-variants as S
@@ -210,15 +211,15 @@ pub data Starts (s : List ℕ) (rows : List Row) (k : ℕ) (h : Head) : Type 0 w
   by-class : k ≡ 1 → h .link - 1 < length rows → isClass (getD rows (h .link - 1) blank .kind) ≡ true → h .slots ≡ getD rows (h .link - 1) blank .count
       → h .first ≡ firstType s (getD rows (h .link - 1) blank) → Starts s rows k h
 
-module _ (s : List ℕ) (rows : List Row) (at : ℕ) where
+module _ (τ : Terms) (s : List ℕ) (rows : List Row) (at : ℕ) where
   abbrev EvenHead : Head → Type 0
   EvenHead h = Even (h .first)
 
-  string-even : Of EvenHead (stringRecordAt s rows at)
+  string-even : Of EvenHead (stringRecordAt τ s rows at)
   unfolding stringRecordAt
   string-even =
       of-number EvenHead _ (u32At s (at + 1)) (λ id p a.
-      picked (Of EvenHead) (goodId rows id) (λ b. of-field EvenHead _ (nameAt s p) (λ e c. (refl, refl))) (λ b. tt))
+      picked (Of EvenHead) (goodId rows id) (λ b. of-field EvenHead _ (nameAt (τ .setting) s p) (λ e c. (refl, refl))) (λ b. tt))
 
   slots-even : (slot : SlotType) → isPrimitive slot ≡ false → Of EvenHead (slotArrayAt s rows slot at)
   unfolding slotArrayAt
@@ -228,20 +229,20 @@ module _ (s : List ℕ) (rows : List Row) (at : ℕ) where
       of-number EvenHead _ (u32At s p) (λ n e c. picked (Of EvenHead) (negative n) (λ d. tt) (λ d. (refl, q))))
       (λ b. tt))
 
-  items-even : (code : PrimitiveCode) (id n p : ℕ) → Of EvenHead (withItems s code id n p)
-  items-even code id n p = of-field EvenHead _ (itemsAt s code n p) (λ e c. (refl, refl))
+  items-even : (code : PrimitiveCode) (id n p : ℕ) → Of EvenHead (withItems τ s code id n p)
+  items-even code id n p = of-field EvenHead _ (itemsAt (τ .setting) s code n p) (λ e c. (refl, refl))
 
-  primitives-even : Of EvenHead (primitiveArrayAt s rows at)
+  primitives-even : Of EvenHead (primitiveArrayAt τ s rows at)
   unfolding primitiveArrayAt
   primitives-even =
       of-number EvenHead _ (u32At s (at + 1)) (λ id p a.
       picked (Of EvenHead) (goodId rows id) (λ b.
       of-number EvenHead _ (u32At s p) (λ n q c.
       picked (Of EvenHead) (negative n) (λ d. tt) (λ d.
-      of-field EvenHead (withItems s (coded (primitiveOf (getD s q 0))) id n) (codeAt s q) (λ x f. items-even (coded (primitiveOf (getD s q 0))) id n x))))
+      of-field EvenHead (withItems τ s (coded (primitiveOf (getD s q 0))) id n) (codeAt s q) (λ x f. items-even (coded (primitiveOf (getD s q 0))) id n x))))
       (λ b. tt))
 
-  of-slot : (slot : SlotType) (id n infos p : ℕ) → Of EvenHead (itemsOf s id n infos p slot)
+  of-slot : (slot : SlotType) (id n infos p : ℕ) → Of EvenHead (itemsOf τ s id n infos p slot)
   of-slot (S.Primitive c) id n infos p = items-even c id n p
   of-slot S.Text id n infos p = (refl, refl)
   of-slot S.Object id n infos p = (refl, refl)
@@ -255,19 +256,19 @@ module _ (s : List ℕ) (rows : List Row) (at : ℕ) where
   on-slots k (L.Product n e) f = f n e
   on-slots k (L.Fault x) f = tt
 
-  type-even : (id n types : ℕ) → Of EvenHead (itemTypeAt s rows id n types)
+  type-even : (id n types : ℕ) → Of EvenHead (itemTypeAt τ s rows id n types)
   unfolding itemTypeAt
   type-even id n types =
       of-field EvenHead _ (typeByteAt s types) (λ infos a.
-      of-field EvenHead _ (infoKnown s rows (getD s types 0) infos) (λ e b. of-slot (typedAt s types infos .slot) id n infos e))
+      of-field EvenHead _ (infoKnown τ s rows (getD s types 0) infos) (λ e b. of-slot (typedAt s types infos .slot) id n infos e))
 
-  rank-even : (id type p : ℕ) → Of EvenHead (rankAt s rows id type p)
+  rank-even : (id type p : ℕ) → Of EvenHead (rankAt τ s rows id type p)
   unfolding rankAt
   rank-even id type p =
       of-number EvenHead _ (u32At s p) (λ rank q a.
-      picked (Of EvenHead) (goodRank type rank) (λ b. on-slots (itemTypeAt s rows id) (lengthsAt s rank 1 q) (λ n e. type-even id n e)) (λ b. tt))
+      picked (Of EvenHead) (goodRank type rank) (λ b. on-slots (itemTypeAt τ s rows id) (lengthsAt s rank 1 q) (λ n e. type-even id n e)) (λ b. tt))
 
-  array-even : Of EvenHead (binaryArrayAt s rows at)
+  array-even : Of EvenHead (binaryArrayAt τ s rows at)
   unfolding binaryArrayAt
   array-even =
       of-number EvenHead _ (u32At s (at + 1)) (λ id p a.
@@ -281,20 +282,20 @@ module _ (s : List ℕ) (rows : List Row) (at : ℕ) where
 -- ---- classes in rows
 
 -- a class's type bytes are there, behind a byte or more
-pub record TypesIn (s : List ℕ) (r : Row) : Type 0 where
+pub record TypesIn (τ : Terms) (s : List ℕ) (r : Row) : Type 0 where
   pub some : 0 < r .link
   pub inside : r .link + r .count ≤ length s
   pub name-end : ℕ
-  pub named : nameAt s (r .offset + 5) ≡ F.End name-end
-  pub names : times (nameAt s) (r .count) (name-end + 4) ≡ F.End (r .link)
+  pub named : nameAt (τ .setting) s (r .offset + 5) ≡ F.End name-end
+  pub names : times (nameAt (τ .setting) s) (r .count) (name-end + 4) ≡ F.End (r .link)
 
-module _ {s : List ℕ} {before : List Row} {r : Row} where
-  class-types : (own : Bool) (x : Recorded s before r) → Class s before own (r .offset) (x .head) → TypesIn s r
+module _ (τ : Terms) {s : List ℕ} {before : List Row} {r : Row} where
+  class-types : (own : Bool) (x : Recorded τ s before r) → Class τ s before own (r .offset) (x .head) → TypesIn τ s r
   class-types own x c =
       let h = x .head in
-      let places = class-places s before own (r .offset) h c in
+      let places = class-places τ s before own (r .offset) h c in
       let a = number-moves s (c .counts) (h .count) (c .names) (c .count-at) in
-      let b = names-there s (h .count) (c .names) (h .link) (a .1) (c .names-at) in
+      let b = names-there τ s (h .count) (c .names) (h .link) (a .1) (c .names-at) in
       let d = types-there s (h .count) (h .link) (c .infos) (b .1) (c .types-at) in
       let l = x .same-link in
       let n = x .same-count in
@@ -304,48 +305,47 @@ module _ {s : List ℕ} {before : List Row} {r : Row} where
         some = omega (arith, b .0, a .0);
         inside = omega (arith, d .1);
         name-end = c .counts;
-        named = subst (λ (p : ℕ). nameAt s p ≡ F.End (c .counts)) (places .0) (c .name-at);
+        named = subst (λ (p : ℕ). nameAt (τ .setting) s p ≡ F.End (c .counts)) (places .0) (c .name-at);
         names =
-            subst (λ (p : ℕ). times (nameAt s) (r .count) p ≡ F.End (r .link)) (places .1)
-            (subst (λ (k : ℕ). times (nameAt s) k (c .names) ≡ F.End (r .link)) m (c .names-at ∙ ap F.End (sym l)));
+            subst (λ (p : ℕ). times (nameAt (τ .setting) s) (r .count) p ≡ F.End (r .link)) (places .1)
+            (subst (λ (k : ℕ). times (nameAt (τ .setting) s) k (c .names) ≡ F.End (r .link)) m (c .names-at ∙ ap F.End (sym l)));
       }
 
-  pub types-in : Stood s before r → isClass (r .kind) ≡ true → TypesIn s r
+  pub types-in : Stood τ s before r → isClass (r .kind) ≡ true → TypesIn τ s r
   types-in w t = go (eqb (r .kind) 4) refl t
     where
-      go : (b : Bool) → eqb (r .kind) 4 ≡ b → (b || eqb (r .kind) 5) ≡ true → TypesIn s r
+      go : (b : Bool) → eqb (r .kind) 4 ≡ b → (b || eqb (r .kind) 5) ≡ true → TypesIn τ s r
       go true e t =
           let k = eqb-true (r .kind) 4 e in
-          let x = as-record w (λ q. omega arith) in
-          class-types false x (system-row x k)
+          let x = as-record τ w (λ q. omega arith) in
+          class-types false x (system-row τ x k)
       go false e t =
           let k = eqb-true (r .kind) 5 t in
-          let x = as-record w (λ q. omega arith) in
-          class-types true x (class-row x k)
+          let x = as-record τ w (λ q. omega arith) in
+          class-types true x (class-row τ x k)
 
 -- ---- the first slot of an object
 
 no-object : {A : Type 0} (k n : ℕ) → k ≡ n → isObject n ≡ false → isObject k ≡ true → A
 no-object k n e f t = absurd (let q : true ≡ false = sym t ∙ (ap isObject e ∙ f) in let z : _≡_ {A = ℕ} 0 1 = cc in omega arith)
 
-module _ (s : List ℕ) (rows : List Row) (each : (i : ℕ) → i < length rows → Stood s (take i rows) (getD rows i blank)) (k at : ℕ) (h : Head)
-    (e : headingAt s rows k at ≡ H.Fields h) where
-  even-of : (x : Heading) → headingAt s rows k at ≡ x → Of (EvenHead s rows at) x → Starts s rows k h
-  even-of x q w = alike-slots (of-fields (EvenHead s rows at) x h (sym q ∙ e) w)
+module _ (τ : Terms) (s : List ℕ) (rows : List Row) (each : (i : ℕ) → i < length rows → Stood τ s (take i rows) (getD rows i blank)) (k at : ℕ) (h : Head) (e : headingAt τ s rows k at ≡ H.Fields h) where
+  even-of : (x : Heading) → headingAt τ s rows k at ≡ x → Of (EvenHead τ s rows at) x → Starts s rows k h
+  even-of x q w = alike-slots (of-fields (EvenHead τ s rows at) x h (sym q ∙ e) w)
 
-  class-of : (own : Bool) → isClass k ≡ true → headingAt s rows k at ≡ classAt s rows own at → Starts s rows k h
+  class-of : (own : Bool) → isClass k ≡ true → headingAt τ s rows k at ≡ classAt τ s rows own at → Starts s rows k h
   class-of own c q =
-      let w = class-said s rows at own h (sym q ∙ e) in
-      own-class c (w .slots-are) (w .first-is ∙ ap (typedAt s (h .link)) (class-places s rows own at h w .2))
+      let w = class-said τ s rows at own h (sym q ∙ e) in
+      own-class c (w .slots-are) (w .first-is ∙ ap (typedAt s (h .link)) (class-places τ s rows own at h w .2))
 
   by-id-of : k ≡ 1 → Starts s rows k h
   by-id-of q =
-      let w = class-by-id-said s rows at h (sym (by-id-heading s rows k at q) ∙ e) in
+      let w = class-by-id-said τ s rows at h (sym (by-id-heading τ s rows k at q) ∙ e) in
       let f = class-at (w .class) rows (omega (arith, w .finds, w .some)) in
       let z : classRow (w .class) rows - 1 ≡ h .link - 1 = ap (λ (n : ℕ). n - 1) (sym (w .finds)) in
       let i : h .link - 1 < length rows = omega (arith, f .inside) in
       let c : isClass (getD rows (h .link - 1) blank .kind) ≡ true = subst (λ (j : ℕ). isClass (getD rows j blank .kind) ≡ true) z (f .kind) in
-      let t = types-in (each (h .link - 1) i) c in
+      let t = types-in τ (each (h .link - 1) i) c in
       let x = getD rows (h .link - 1) blank in
       let n : ltb (length s) (x .link + x .count) ≡ false = le-ltb (length s) (x .link + x .count) (t .inside) in
       by-class q i c (w .slots-are ∙ w .same-count)
@@ -354,10 +354,10 @@ module _ (s : List ℕ) (rows : List Row) (each : (i : ℕ) → i < length rows 
   pub starts : Known k → isObject k ≡ true → Starts s rows k h
   starts (N.header q) o = no-object k 0 q refl o
   starts (N.class-by-id q) o = by-id-of q
-  starts (N.system-class q) o = class-of false (ap isClass q) (system-heading s rows k at q)
-  starts (N.class q) o = class-of true (ap isClass q) (class-heading s rows k at q)
-  starts (N.string q) o = even-of (stringRecordAt s rows at) (string-heading s rows k at q) (string-even s rows at)
-  starts (N.binary-array q) o = even-of (binaryArrayAt s rows at) (array-heading s rows k at q) (array-even s rows at)
+  starts (N.system-class q) o = class-of false (ap isClass q) (system-heading τ s rows k at q)
+  starts (N.class q) o = class-of true (ap isClass q) (class-heading τ s rows k at q)
+  starts (N.string q) o = even-of (stringRecordAt τ s rows at) (string-heading τ s rows k at q) (string-even τ s rows at)
+  starts (N.binary-array q) o = even-of (binaryArrayAt τ s rows at) (array-heading τ s rows k at q) (array-even τ s rows at)
   starts (N.typed-primitive q) o = no-object k 8 q refl o
   starts (N.reference q) o = no-object k 9 q refl o
   starts (N.null q) o = no-object k 10 q refl o
@@ -365,9 +365,9 @@ module _ (s : List ℕ) (rows : List Row) (each : (i : ℕ) → i < length rows 
   starts (N.library q) o = no-object k 12 q refl o
   starts (N.nulls q) o = no-object k 13 q refl o
   starts (N.long-nulls q) o = no-object k 14 q refl o
-  starts (N.primitive-array q) o = even-of (primitiveArrayAt s rows at) (primitives-heading s rows k at q) (primitives-even s rows at)
-  starts (N.object-array q) o = even-of (slotArrayAt s rows S.Object at) (objects-heading s rows k at q) (slots-even s rows at S.Object refl)
-  starts (N.string-array q) o = even-of (slotArrayAt s rows S.Text at) (texts-heading s rows k at q) (slots-even s rows at S.Text refl)
+  starts (N.primitive-array q) o = even-of (primitiveArrayAt τ s rows at) (primitives-heading τ s rows k at q) (primitives-even τ s rows at)
+  starts (N.object-array q) o = even-of (slotArrayAt s rows S.Object at) (objects-heading τ s rows k at q) (slots-even τ s rows at S.Object refl)
+  starts (N.string-array q) o = even-of (slotArrayAt s rows S.Text at) (texts-heading τ s rows k at q) (slots-even τ s rows at S.Text refl)
   starts (N.value q) o = no-object k 32 q refl o
 
 -- an object that is opened has its cursor at its first slot
@@ -425,53 +425,53 @@ module _ (s : List ℕ) (st : State) (kind : ℕ) (h : Head) where
 -- ---- member values
 
 -- the row of a member value, after these rows: its code is that of the slot that it fills
-pub record FromSlot (s : List ℕ) (before : List Row) (r : Row) : Type 0 where
+pub record FromSlot (τ : Terms) (s : List ℕ) (before : List Row) (r : Row) : Type 0 where
   pub code : PrimitiveCode
-  pub reads : valueAt s code (r .offset) ≡ F.End (r .end)
+  pub reads : valueAt (τ .setting) s code (r .offset) ≡ F.End (r .end)
   pub link-is : r .link ≡ codeNumber code
   pub class-row : ℕ
   pub of-class : OfClass before (r .owner) class-row
   pub slot-in : r .slot < getD before class-row blank .count
   pub typed : movedBy s (r .slot) (firstType s (getD before class-row blank)) .slot ≡ S.Primitive code
 
-abbrev pub Slotwise : List ℕ → List Row → Type 0
-Slotwise s rows = (i : ℕ) → i < length rows → getD rows i blank .kind ≡ 32 → FromSlot s (take i rows) (getD rows i blank)
+abbrev pub Slotwise : Terms → List ℕ → List Row → Type 0
+Slotwise τ s rows = (i : ℕ) → i < length rows → getD rows i blank .kind ≡ 32 → FromSlot τ s (take i rows) (getD rows i blank)
 
 -- ---- between two steps
 
-pub record Cursors (s : List ℕ) (st : State) : Type 0 where
-  pub each : Slotwise s (st .rows)
+pub record Cursors (τ : Terms) (s : List ℕ) (st : State) : Type 0 where
+  pub each : Slotwise τ s (st .rows)
   pub stack : Stack s (st .rows) (st .stack)
 
-abbrev pub NextCursors : List ℕ → Next → Type 0
-NextCursors s (go st) = Cursors s st
-NextCursors s (ended rows at) = Slotwise s rows
-NextCursors s (refuse r place) = Unit {0}
+abbrev pub NextCursors : Terms → List ℕ → Next → Type 0
+NextCursors τ s (go st) = Cursors τ s st
+NextCursors τ s (ended rows at) = Slotwise τ s rows
+NextCursors τ s (refuse r place) = Unit {0}
 
 not-value : {A : Type 0} (test : ℕ → Bool) (k : ℕ) → test k ≡ true → test 32 ≡ false → k ≡ 32 → A
 not-value test k t f e = absurd (let q : true ≡ false = sym t ∙ (ap test e ∙ f) in let z : _≡_ {A = ℕ} 0 1 = cc in omega arith)
 
-module _ (s : List ℕ) (room : ℕ) (st : State) (w : Gathered s st) (v : Cursors s st) where
-  each-row : (r : Row) → (r .kind ≡ 32 → FromSlot s (st .rows) r) → Slotwise s (st .rows ++ (r ∷ []))
-  each-row r x = each-more (st .rows) r (λ before row. row .kind ≡ 32 → FromSlot s before row) (v .each) x
+module _ (τ : Terms) (s : List ℕ) (room : ℕ) (st : State) (w : Gathered τ s st) (v : Cursors τ s st) where
+  each-row : (r : Row) → (r .kind ≡ 32 → FromSlot τ s (st .rows) r) → Slotwise τ s (st .rows ++ (r ∷ []))
+  each-row r x = each-more (st .rows) r (λ before row. row .kind ≡ 32 → FromSlot τ s before row) (v .each) x
 
-  add-cursors : (r : Row) (o : Open) → (r .kind ≡ 32 → FromSlot s (st .rows) r) → Stack s (st .rows ++ (r ∷ [])) o → NextCursors s (add room st r o)
+  add-cursors : (r : Row) (o : Open) → (r .kind ≡ 32 → FromSlot τ s (st .rows) r) → Stack s (st .rows ++ (r ∷ [])) o → NextCursors τ s (add room st r o)
   unfolding add
   add-cursors r o x y =
-      picked (NextCursors s) (ltb (length (st .rows)) room) (λ t. record { each = each-row r x; stack = y }) (λ t. tt)
+      picked (NextCursors τ s) (ltb (length (st .rows)) room) (λ t. record { each = each-row r x; stack = y }) (λ t. tt)
 
   stack-more : (r : Row) → Stack s (st .rows ++ (r ∷ [])) (st .stack)
   stack-more r = stacked-more s (st .rows) r (st .stack .cur) (st .stack .below) (v .stack)
 
-  fill-cursors : (r : Row) (k : ℕ) (t : Typed) → (r .kind ≡ 32 → FromSlot s (st .rows) r) → t ≡ movedBy s k (st .stack .cur .typed)
-      → (0 < st .stack .cur .left → k ≤ st .stack .cur .left) → NextCursors s (add room st r (filled (st .stack) k t))
+  fill-cursors : (r : Row) (k : ℕ) (t : Typed) → (r .kind ≡ 32 → FromSlot τ s (st .rows) r) → t ≡ movedBy s k (st .stack .cur .typed)
+      → (0 < st .stack .cur .left → k ≤ st .stack .cur .left) → NextCursors τ s (add room st r (filled (st .stack) k t))
   fill-cursors r k t x e h = add-cursors r (filled (st .stack) k t) x (fill-stack s (st .rows ++ (r ∷ [])) (st .stack) k t e h (stack-more r))
 
   next-type : moved s (st .stack .cur .typed) ≡ movedBy s 1 (st .stack .cur .typed)
   next-type = moved-one s (st .stack .cur .typed)
 
   module _ (kind : ℕ) (h : Head) where
-    one-cursors : (kind ≡ 32 → ⊥) → NextCursors s (add room st (rowIn st kind h) (filled (st .stack) 1 (moved s (st .stack .cur .typed))))
+    one-cursors : (kind ≡ 32 → ⊥) → NextCursors τ s (add room st (rowIn st kind h) (filled (st .stack) 1 (moved s (st .stack .cur .typed))))
     one-cursors n = fill-cursors (rowIn st kind h) 1 _ (λ q. absurd (n q)) next-type (λ l. omega arith)
 
     open-cursors : Starts s (st .rows) kind h → (h .slots ≡ 0 → ⊥)
@@ -481,53 +481,53 @@ module _ (s : List ℕ) (room : ℕ) (st : State) (w : Gathered s st) (v : Curso
         let r = rowIn st kind h in
         (first-cursor s st kind h x, omega (arith, n), fill-below s (rows₁ s st kind h) (st .stack .cur) 1 _ next-type (st .stack .below) (λ l. omega arith) (stack-more r))
 
-    object-cursors : isObject kind ≡ true → Starts s (st .rows) kind h → NextCursors s (object room st kind h (moved s (st .stack .cur .typed)))
+    object-cursors : isObject kind ≡ true → Starts s (st .rows) kind h → NextCursors τ s (object room st kind h (moved s (st .stack .cur .typed)))
     unfolding object
     object-cursors i x =
-        picked (NextCursors s) (eqb (h .slots) 0) (λ z. one-cursors (not-value isObject kind i refl))
-        (λ z. picked (NextCursors s) (ltb (length (st .stack .below)) 64)
+        picked (NextCursors τ s) (eqb (h .slots) 0) (λ z. one-cursors (not-value isObject kind i refl))
+        (λ z. picked (NextCursors τ s) (ltb (length (st .stack .below)) 64)
         (λ d. add-cursors (rowIn st kind h) _ (not-value isObject kind i refl) (open-cursors x (eqb-false (h .slots) 0 z)))
         (λ d. tt))
 
-    run-cursors : (kind ≡ 32 → ⊥) → NextCursors s (nullRun s room st kind h)
+    run-cursors : (kind ≡ 32 → ⊥) → NextCursors τ s (nullRun s room st kind h)
     unfolding nullRun
     run-cursors n =
-        picked (NextCursors s) (ltb (st .stack .cur .left) (h .count)) (λ t. tt)
+        picked (NextCursors τ s) (ltb (st .stack .cur .left) (h .count)) (λ t. tt)
         (λ t. over (ltb-false (st .stack .cur .left) (h .count) t) (passedOf s (st .stack .cur .typed) (h .count)) refl)
       where
-        over : h .count ≤ st .stack .cur .left → (p : Passed) → passedOf s (st .stack .cur .typed) (h .count) ≡ p → NextCursors s (runOver room st kind h p)
+        over : h .count ≤ st .stack .cur .left → (p : Passed) → passedOf s (st .stack .cur .typed) (h .count) ≡ p → NextCursors τ s (runOver room st kind h p)
         over l (O.Over t) q = fill-cursors (rowIn st kind h) (h .count) t (λ e. absurd (n e)) (over-by s (h .count) (st .stack .cur .typed) t q) (λ x. l)
         over l O.Crossed q = tt
 
-    end-cursors : NextCursors s (ending room st h)
+    end-cursors : NextCursors τ s (ending room st h)
     unfolding ending
-    end-cursors = picked (NextCursors s) (ltb (length (st .rows)) room) (λ t. each-row (rowIn st 11 h) (λ q. absurd (omega arith))) (λ t. tt)
+    end-cursors = picked (NextCursors τ s) (ltb (length (st .rows)) room) (λ t. each-row (rowIn st 11 h) (λ q. absurd (omega arith))) (λ t. tt)
 
-    good-cursors : (kind ≡ 32 → ⊥) → (isObject kind ≡ true → Starts s (st .rows) kind h) → NextCursors s (act s room st kind (H.Fields h))
+    good-cursors : (kind ≡ 32 → ⊥) → (isObject kind ≡ true → Starts s (st .rows) kind h) → NextCursors τ s (act s room st kind (H.Fields h))
     unfolding act
     good-cursors n x =
-        picked (NextCursors s) (isObject kind) (λ t. object-cursors t (x t))
-        (λ t. picked (NextCursors s) (eqb kind 13 || eqb kind 14) (λ u. run-cursors n)
-        (λ u. picked (NextCursors s) (eqb kind 12) (λ a. add-cursors (rowApart st kind h) (st .stack) (λ q. absurd (n q)) (stack-more (rowApart st kind h)))
-        (λ a. picked (NextCursors s) (eqb kind 11) (λ b. end-cursors) (λ b. one-cursors n))))
+        picked (NextCursors τ s) (isObject kind) (λ t. object-cursors t (x t))
+        (λ t. picked (NextCursors τ s) (eqb kind 13 || eqb kind 14) (λ u. run-cursors n)
+        (λ u. picked (NextCursors τ s) (eqb kind 12) (λ a. add-cursors (rowApart st kind h) (st .stack) (λ q. absurd (n q)) (stack-more (rowApart st kind h)))
+        (λ a. picked (NextCursors τ s) (eqb kind 11) (λ b. end-cursors) (λ b. one-cursors n))))
 
-  stood : (i : ℕ) → i < length (st .rows) → Stood s (take i (st .rows)) (getD (st .rows) i blank)
+  stood : (i : ℕ) → i < length (st .rows) → Stood τ s (take i (st .rows)) (getD (st .rows) i blank)
   stood i h = w .each i h .0 .said
 
   module _ (place : Where) where
-    act-cursors : (kind : ℕ) → kindAt s place (st .at) ≡ K.Taken kind → (x : Heading) → headingAt s (st .rows) kind (st .at) ≡ x → NextCursors s (act s room st kind x)
+    act-cursors : (kind : ℕ) → kindAt s place (st .at) ≡ K.Taken kind → (x : Heading) → headingAt τ s (st .rows) kind (st .at) ≡ x → NextCursors τ s (act s room st kind x)
     unfolding act
     act-cursors kind q (H.Fields h) e =
         let b = kind-byte s place (st .at) kind q in
         let l = taken-low kind (b .known) (b .free) in
-        good-cursors kind h (λ z. omega arith) (starts s (st .rows) stood kind (st .at) h e (allowed-known kind place (b .fits)))
+        good-cursors kind h (λ z. omega arith) (starts τ s (st .rows) stood kind (st .at) h e (allowed-known kind place (b .fits)))
     act-cursors kind q (H.Bad f) e = tt
 
-    kind-cursors : (k : Kind) → kindAt s place (st .at) ≡ k → NextCursors s (onKind s room st k)
-    kind-cursors (K.Taken k) q = act-cursors k q (headingAt s (st .rows) k (st .at)) refl
+    kind-cursors : (k : Kind) → kindAt s place (st .at) ≡ k → NextCursors τ s (onKind τ s room st k)
+    kind-cursors (K.Taken k) q = act-cursors k q (headingAt τ s (st .rows) k (st .at)) refl
     kind-cursors (K.Wrong f) q = tt
 
-    pub record-cursors : NextCursors s (recordStep s room st place)
+    pub record-cursors : NextCursors τ s (recordStep τ s room st place)
     unfolding recordStep
     record-cursors = kind-cursors (kindAt s place (st .at)) refl
 
@@ -536,10 +536,10 @@ module _ (s : List ℕ) (room : ℕ) (st : State) (w : Gathered s st) (v : Curso
     not-even : {A : Type 0} → Even (st .stack .cur .typed) → A
     not-even x = absurd (let e : true ≡ false = ap isPrimitive (sym q) ∙ x .1 in let z : _≡_ {A = ℕ} 0 1 = cc in omega arith)
 
-    from-slot : (end : ℕ) → valueAt s c (st .at) ≡ F.End end → FromSlot s (st .rows) (rowIn st 32 (valueHead c end))
+    from-slot : (end : ℕ) → valueAt (τ .setting) s c (st .at) ≡ F.End end → FromSlot τ s (st .rows) (rowIn st 32 (valueHead c end))
     from-slot end e = go (st .stack .below) (v .stack)
       where
-        at-cursor : Cursor s (st .rows) (st .stack .cur) → 0 < st .stack .cur .left → FromSlot s (st .rows) (rowIn st 32 (valueHead c end))
+        at-cursor : Cursor s (st .rows) (st .stack .cur) → 0 < st .stack .cur .left → FromSlot τ s (st .rows) (rowIn st 32 (valueHead c end))
         at-cursor (even x) l = not-even x
         at-cursor (in-class j x n m t) l = record {
           code = c;
@@ -551,17 +551,17 @@ module _ (s : List ℕ) (room : ℕ) (st : State) (w : Gathered s st) (v : Curso
           typed = ap (λ (t : Typed). t .slot) (sym t) ∙ q;
         }
 
-        go : (gs : List Frame) → Stacked s (st .rows) (st .stack .cur) gs → FromSlot s (st .rows) (rowIn st 32 (valueHead c end))
+        go : (gs : List Frame) → Stacked s (st .rows) (st .stack .cur) gs → FromSlot τ s (st .rows) (rowIn st 32 (valueHead c end))
         go [] x = not-even x
         go (g ∷ gs) x = at-cursor (x .0) (x .1)
 
-    value-cursors : (x : Field) → valueAt s c (st .at) ≡ x → NextCursors s (onValue s room st c x)
+    value-cursors : (x : Field) → valueAt (τ .setting) s c (st .at) ≡ x → NextCursors τ s (onValue s room st c x)
     value-cursors (F.End end) e = fill-cursors (rowIn st 32 (valueHead c end)) 1 _ (λ z. from-slot end e) next-type (λ l. omega arith)
     value-cursors (F.Fault f) e = tt
 
-  slot-cursors : (t : SlotType) → st .stack .cur .typed .slot ≡ t → NextCursors s (bySlot s room st t)
+  slot-cursors : (t : SlotType) → st .stack .cur .typed .slot ≡ t → NextCursors τ s (bySlot τ s room st t)
   unfolding valueStep
-  slot-cursors (S.Primitive c) q = value-cursors c q (valueAt s c (st .at)) refl
+  slot-cursors (S.Primitive c) q = value-cursors c q (valueAt (τ .setting) s c (st .at)) refl
   slot-cursors S.Text q = record-cursors _
   slot-cursors S.Object q = record-cursors _
   slot-cursors S.SystemClass q = record-cursors _
@@ -570,49 +570,49 @@ module _ (s : List ℕ) (room : ℕ) (st : State) (w : Gathered s st) (v : Curso
   slot-cursors S.StringArray q = record-cursors _
   slot-cursors (S.PrimitiveArray c) q = record-cursors _
 
-  pub step-cursors : NextCursors s (step s room st)
+  pub step-cursors : NextCursors τ s (step τ s room st)
   unfolding step
   step-cursors = slot-cursors (st .stack .cur .typed .slot) refl
 
 -- ---- the whole stream
 
-abbrev SlotwiseOf : List ℕ → Outcome → Type 0
-SlotwiseOf s (accepted rows) = Slotwise s rows
-SlotwiseOf s (refused r place) = Unit {0}
+abbrev SlotwiseOf : Terms → List ℕ → Outcome → Type 0
+SlotwiseOf τ s (accepted rows) = Slotwise τ s rows
+SlotwiseOf τ s (refused r place) = Unit {0}
 
-module _ (s : List ℕ) (room : ℕ) where
-  finish-slotwise : (rows : List Row) (at : ℕ) → Slotwise s rows → SlotwiseOf s (finish s rows at)
+module _ (τ : Terms) (s : List ℕ) (room : ℕ) where
+  finish-slotwise : (rows : List Row) (at : ℕ) → Slotwise τ s rows → SlotwiseOf τ s (finish s rows at)
   unfolding finish
   finish-slotwise rows at w =
-      picked (SlotwiseOf s) (ltb at (length s)) (λ t. tt)
-      (λ t. picked (SlotwiseOf s) (eqb (objectRow (getD rows 0 blank .id) rows) 0) (λ u. tt)
-      (λ u. picked (SlotwiseOf s) (eqb (findFrom (isLost rows) 0 rows) 0) (λ x. w) (λ x. tt)))
+      picked (SlotwiseOf τ s) (ltb at (length s)) (λ t. tt)
+      (λ t. picked (SlotwiseOf τ s) (eqb (objectRow (getD rows 0 blank .id) rows) 0) (λ u. tt)
+      (λ u. picked (SlotwiseOf τ s) (eqb (findFrom (isLost rows) 0 rows) 0) (λ x. w) (λ x. tt)))
 
-  next-slotwise : (f : State → Outcome) → ((st : State) → Gathered s st → 0 < length (st .rows) → Cursors s st → SlotwiseOf s (f st))
-      → (x : Next) → NextGathered s x → NextCursors s x → SlotwiseOf s (onward s f x)
+  next-slotwise : (f : State → Outcome) → ((st : State) → Gathered τ s st → 0 < length (st .rows) → Cursors τ s st → SlotwiseOf τ s (f st))
+      → (x : Next) → NextGathered τ s x → NextCursors τ s x → SlotwiseOf τ s (onward s f x)
   next-slotwise f g (go st) w v = g st (w .0) (w .1) v
   next-slotwise f g (ended rows end) w v = finish-slotwise rows end v
   next-slotwise f g (refuse r place) w v = tt
 
-  run-slotwise : (k : ℕ) (st : State) → Gathered s st → 0 < length (st .rows) → Cursors s st → SlotwiseOf s (run k s room st)
+  run-slotwise : (k : ℕ) (st : State) → Gathered τ s st → 0 < length (st .rows) → Cursors τ s st → SlotwiseOf τ s (run τ k s room st)
   unfolding run
   run-slotwise zero st w n v = tt
   run-slotwise (suc k) st w n v =
-      next-slotwise (run k s room) (run-slotwise k) (step s room st) (step-gathered s room st w n) (step-cursors s room st w v)
+      next-slotwise (run τ k s room) (run-slotwise k) (step τ s room st) (step-gathered τ s room st w n) (step-cursors τ s room st w v)
 
-  begin-slotwise : (x : Next) → NextGathered s x → NextCursors s x → SlotwiseOf s (begin s room x)
+  begin-slotwise : (x : Next) → NextGathered τ s x → NextCursors τ s x → SlotwiseOf τ s (begin τ s room x)
   begin-slotwise (go st) w v = run-slotwise (length s) st (w .0) (w .1) v
   begin-slotwise (ended rows end) w v = finish-slotwise rows end v
   begin-slotwise (refuse r place) w v = tt
 
-  raw-slotwise : SlotwiseOf s (rawOf s room)
+  raw-slotwise : SlotwiseOf τ s (rawOf τ s room)
   unfolding rawOf
   raw-slotwise =
-      let g = start-gathered s in
-      picked (SlotwiseOf s) (ltb 16777216 (length s)) (λ t. tt)
-      (λ t. begin-slotwise (recordStep s room start W.Start) (header-gathered s room)
-      (record-cursors s room start g (record { each = λ i h. absurd (omega arith); stack = (refl, refl) }) W.Start))
+      let g = start-gathered τ s in
+      picked (SlotwiseOf τ s) (ltb 16777216 (length s)) (λ t. tt)
+      (λ t. begin-slotwise (recordStep τ s room start W.Start) (header-gathered τ s room)
+      (record-cursors τ s room start g (record { each = λ i h. absurd (omega arith); stack = (refl, refl) }) W.Start))
 
   -- each row of a member value says which slot it fills, and by which code it was read
-  pub value-slots : (raw : List Row) → rawOf s room ≡ accepted raw → Slotwise s raw
-  value-slots raw e = subst (SlotwiseOf s) e raw-slotwise
+  pub value-slots : (raw : List Row) → rawOf τ s room ≡ accepted raw → Slotwise τ s raw
+  value-slots raw e = subst (SlotwiseOf τ s) e raw-slotwise

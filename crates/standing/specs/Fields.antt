@@ -7,6 +7,7 @@ use native.Mathlib.Omega.{arith}
 use lib.ListN.{length, getD}
 use lib.Dec.{eqb}
 use borrow.Author.Tests.{eqb-false}
+use Rattle.format.specs.Terms.{Terms}
 use Rattle.format.specs.declared.Number32.{Number32}
 use Rattle.format.specs.declared.Number32.the-variants as N32
 use Rattle.format.specs.declared.Field.{Field}
@@ -28,7 +29,7 @@ use Rattle.headings.specs.Headings.{by-id-heading, system-heading, class-headin
 use Rattle.standing.specs.Standing.{Recorded}
 
 -- kinds 4 and 5: where each field ends
-pub record Class (s : List ℕ) (rows : List Row) (own : Bool) (at : ℕ) (h : Head) : Type 0 where
+pub record Class (τ : Terms) (s : List ℕ) (rows : List Row) (own : Bool) (at : ℕ) (h : Head) : Type 0 where
   pub name : ℕ
   pub counts : ℕ
   pub names : ℕ
@@ -36,12 +37,12 @@ pub record Class (s : List ℕ) (rows : List Row) (own : Bool) (at : ℕ) (h : H
   pub after : ℕ
   pub id-at : u32At s (at + 1) ≡ N32.Value (h .id) name
   pub free : goodClassId rows (h .id) ≡ true
-  pub name-at : nameAt s name ≡ F.End counts
+  pub name-at : nameAt (τ .setting) s name ≡ F.End counts
   pub count-at : u32At s counts ≡ N32.Value (h .count) names
   pub count-good : negative (h .count) ≡ false
-  pub names-at : times (nameAt s) (h .count) names ≡ F.End (h .link)
+  pub names-at : times (nameAt (τ .setting) s) (h .count) names ≡ F.End (h .link)
   pub types-at : times (typeByteAt s) (h .count) (h .link) ≡ F.End infos
-  pub infos-at : infosAt s rows (h .count) (h .link) infos ≡ F.End after
+  pub infos-at : infosAt τ s rows (h .count) (h .link) infos ≡ F.End after
   pub after-at : afterInfos own s rows after ≡ F.End (h .end)
   pub slots-are : h .slots ≡ h .count
   pub first-is : h .first ≡ typedAt s (h .link) infos
@@ -77,20 +78,20 @@ module _ (P : Head → Type 0) where
   pub of-fields : (x : Heading) (h : Head) → x ≡ H.Fields h → Of P x → P h
   of-fields x h e w = subst (λ (x : Heading). Of P x) e w
 
-module _ (s : List ℕ) (rows : List Row) (at : ℕ) where
+module _ (τ : Terms) (s : List ℕ) (rows : List Row) (at : ℕ) where
   module _ (own : Bool) where
-    of-class : Of (Class s rows own at) (classAt s rows own at)
+    of-class : Of (Class τ s rows own at) (classAt τ s rows own at)
     unfolding classAt membersAt
     of-class =
-        let P = Class s rows own at in
+        let P = Class τ s rows own at in
         of-number P _ (u32At s (at + 1)) (λ id name a.
         picked (Of P) (goodClassId rows id) (λ b.
-        of-field P _ (nameAt s name) (λ counts c.
+        of-field P _ (nameAt (τ .setting) s name) (λ counts c.
         of-number P _ (u32At s counts) (λ n names d.
         picked (Of P) (negative n) (λ e. tt) (λ e.
-        of-field P _ (times (nameAt s) n names) (λ types f.
+        of-field P _ (times (nameAt (τ .setting) s) n names) (λ types f.
         of-field P _ (times (typeByteAt s) n types) (λ infos g.
-        of-field P _ (infosAt s rows n types infos) (λ after i.
+        of-field P _ (infosAt τ s rows n types infos) (λ after i.
         of-field P _ (afterInfos own s rows after) (λ end j.
         record {
           name = name;
@@ -112,8 +113,8 @@ module _ (s : List ℕ) (rows : List Row) (at : ℕ) where
         }))))))))
         (λ b. tt))
 
-    pub class-said : (h : Head) → classAt s rows own at ≡ H.Fields h → Class s rows own at h
-    class-said h e = of-fields (Class s rows own at) _ h e of-class
+    pub class-said : (h : Head) → classAt τ s rows own at ≡ H.Fields h → Class τ s rows own at h
+    class-said h e = of-fields (Class τ s rows own at) _ h e of-class
 
   of-class-by-id : Of (ClassById s rows at) (classByIdAt s rows at)
   unfolding classByIdAt
@@ -143,9 +144,9 @@ module _ (s : List ℕ) (rows : List Row) (at : ℕ) where
 
 -- ---- rows
 
-module _ {s : List ℕ} {before : List Row} {r : Row} (w : Recorded s before r) where
+module _ (τ : Terms) {s : List ℕ} {before : List Row} {r : Row} (w : Recorded τ s before r) where
   -- what good fields of the row's kind say of its count and its end
-  pub row-said : (P : ℕ → ℕ → Type 0) (x : Heading) → headingAt s before (r .kind) (r .offset) ≡ x → Of (λ h. P (h .count) (h .end)) x
+  pub row-said : (P : ℕ → ℕ → Type 0) (x : Heading) → headingAt τ s before (r .kind) (r .offset) ≡ x → Of (λ h. P (h .count) (h .end)) x
       → P (r .count) (r .end)
   row-said P x e v =
       let h = w .head in
@@ -153,31 +154,31 @@ module _ {s : List ℕ} {before : List Row} {r : Row} (w : Recorded s before r) 
       (subst (P (h .count)) (sym (w .same-end)) (of-fields (λ h. P (h .count) (h .end)) x h (sym e ∙ w .fields) v))
 
   pub by-id-row : r .kind ≡ 1 → ClassById s before (r .offset) (w .head)
-  by-id-row k = class-by-id-said s before (r .offset) (w .head) (sym (by-id-heading s before (r .kind) (r .offset) k) ∙ w .fields)
+  by-id-row k = class-by-id-said τ s before (r .offset) (w .head) (sym (by-id-heading τ s before (r .kind) (r .offset) k) ∙ w .fields)
 
-  pub system-row : r .kind ≡ 4 → Class s before false (r .offset) (w .head)
-  system-row k = class-said s before (r .offset) false (w .head) (sym (system-heading s before (r .kind) (r .offset) k) ∙ w .fields)
+  pub system-row : r .kind ≡ 4 → Class τ s before false (r .offset) (w .head)
+  system-row k = class-said τ s before (r .offset) false (w .head) (sym (system-heading τ s before (r .kind) (r .offset) k) ∙ w .fields)
 
-  pub class-row : r .kind ≡ 5 → Class s before true (r .offset) (w .head)
-  class-row k = class-said s before (r .offset) true (w .head) (sym (class-heading s before (r .kind) (r .offset) k) ∙ w .fields)
+  pub class-row : r .kind ≡ 5 → Class τ s before true (r .offset) (w .head)
+  class-row k = class-said τ s before (r .offset) true (w .head) (sym (class-heading τ s before (r .kind) (r .offset) k) ∙ w .fields)
 
 -- the name stands after the ObjectId, the members after their count, the details after a type byte for each member
-pub class-places : (s : List ℕ) (rows : List Row) (own : Bool) (at : ℕ) (h : Head) (w : Class s rows own at h)
+pub class-places : (τ : Terms) (s : List ℕ) (rows : List Row) (own : Bool) (at : ℕ) (h : Head) (w : Class τ s rows own at h)
     → (w .name ≡ at + 5) × (w .names ≡ w .counts + 4) × (w .infos ≡ h .link + h .count)
-class-places s rows own at h w =
+class-places τ s rows own at h w =
     let a = number-moves s (at + 1) (h .id) (w .name) (w .id-at) in
     let b = number-moves s (w .counts) (h .count) (w .names) (w .count-at) in
     (omega arith, b .0, types-end s (h .count) (h .link) (w .infos) (w .types-at))
 
 -- a class record of n members has a byte for each member's type, and ten more
-pub class-room : (s : List ℕ) (rows : List Row) (own : Bool) (at : ℕ) (h : Head) → Class s rows own at h → at + 10 + h .count ≤ h .end
-class-room s rows own at h w =
+pub class-room : (τ : Terms) (s : List ℕ) (rows : List Row) (own : Bool) (at : ℕ) (h : Head) → Class τ s rows own at h → at + 10 + h .count ≤ h .end
+class-room τ s rows own at h w =
     let a = number-moves s (at + 1) (h .id) (w .name) (w .id-at) in
-    let b = name-moves s (w .name) (w .counts) (w .name-at) in
+    let b = name-moves (τ .setting) s (w .name) (w .counts) (w .name-at) in
     let c = number-moves s (w .counts) (h .count) (w .names) (w .count-at) in
-    let d = names-there s (h .count) (w .names) (h .link) (c .1) (w .names-at) in
+    let d = names-there τ s (h .count) (w .names) (h .link) (c .1) (w .names-at) in
     let e = types-there s (h .count) (h .link) (w .infos) (d .1) (w .types-at) in
-    let f = infos-moves s rows (h .count) (h .link) (w .infos) (w .after) (e .1) (w .infos-at) in
+    let f = infos-moves τ s rows (h .count) (h .link) (w .infos) (w .after) (e .1) (w .infos-at) in
     let g = after-moves own (w .after-at) in
     omega arith
   where

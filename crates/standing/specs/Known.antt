@@ -6,6 +6,7 @@ use mathlib.Core.List.{List, [], _∷_, _++_}
 use lib.ListN.{getD, take, drop, take-append-drop}
 use lib.Dec.{eqb}
 use borrow.Author.Tests.{eqb-false, ne-eqb}
+use Rattle.format.specs.Terms.{Terms}
 use Rattle.format.specs.declared.Refusal.the-variants as R
 use Rattle.format.specs.declared.Field.the-variants as F
 use Rattle.format.specs.declared.Row.{Row}
@@ -59,19 +60,20 @@ module _ (s : List ℕ) {before rows : List Row} (later : Later before rows) whe
       let x = through (knownLibrary s before) (libraryIdAt s at) e q in
       rw (x .1) (known-later (x .0) e (x .2))
 
-  pub info-later : (type at e : ℕ) → infoKnown s before type at ≡ F.End e → infoKnown s rows type at ≡ F.End e
+module _ (τ : Terms) (s : List ℕ) {before rows : List Row} (later : Later before rows) where
+  pub info-later : (type at e : ℕ) → infoKnown τ s before type at ≡ F.End e → infoKnown τ s rows type at ≡ F.End e
   unfolding infoKnown
   info-later type at e q =
-      let x = through (λ end. pick (eqb type 4) (knownLibrary s before end) (F.End end)) (infoAt s type at) e q in
+      let x = through (λ end. pick (eqb type 4) (knownLibrary s before end) (F.End end)) (infoAt (τ .setting) s type at) e q in
       rw (x .1) (go (x .0) (eqb type 4) (x .2))
     where
       go : (m : ℕ) (t : Bool) → pick t (knownLibrary s before m) (F.End m) ≡ F.End e → pick t (knownLibrary s rows m) (F.End m) ≡ F.End e
-      go m true q = known-later m e q
+      go m true q = known-later s later m e q
       go m false q = q
 
-  pub infos-later : (n types at e : ℕ) → infosAt s before n types at ≡ F.End e → infosAt s rows n types at ≡ F.End e
+  pub infos-later : (n types at e : ℕ) → infosAt τ s before n types at ≡ F.End e → infosAt τ s rows n types at ≡ F.End e
   unfolding infosAt
   infos-later zero types at e q = q
   infos-later (suc n) types at e q =
-      let x = through (infosAt s before n (types + 1)) (infoKnown s before (getD s types 0) at) e q in
+      let x = through (infosAt τ s before n (types + 1)) (infoKnown τ s before (getD s types 0) at) e q in
       rw (info-later (getD s types 0) at (x .0) (x .1)) (infos-later n (types + 1) (x .0) e (x .2))

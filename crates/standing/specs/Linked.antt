@@ -9,6 +9,7 @@ use lib.ListN.{length, getD, take, length-map, List·getD-eq-default}
 use lib.Seq.{length-take-le, getD-take}
 use lib.Dec.{ltb, eqb}
 use borrow.Author.Tests.{ltb-true, ltb-false, ne-eqb}
+use Rattle.format.specs.Terms.{Terms}
 use Rattle.format.specs.declared.Row.{Row}
 use Rattle.format.specs.Rows.{blank, isObject, isClass, findFrom, objectRow, classRow, libraryRow, withLink, linkOf, linked, boundLink, bound}
 use Rattle.lookups.specs.Find.{Found, object-at, class-at}
@@ -117,13 +118,13 @@ pub record ToClass (rows : List Row) (i link count : ℕ) : Type 0 where
   pub class : isClass (getD rows (link - 1) blank .kind) ≡ true
   pub same-count : count ≡ getD rows (link - 1) blank .count
 
-module _ {s : List ℕ} {raw : List Row} (w : Standing s raw) (i : ℕ) (h : i < length raw) (k : getD raw i blank .kind ≡ 1) where
+module _ (τ : Terms) {s : List ℕ} {raw : List Row} (w : Standing τ s raw) (i : ℕ) (h : i < length raw) (k : getD raw i blank .kind ≡ 1) where
   pub to-class : ToClass raw i (getD raw i blank .link) (getD raw i blank .count)
   to-class =
       let r = getD raw i blank in
-      let v = record-at w i h (λ e. omega arith) in
+      let v = record-at τ w i h (λ e. omega arith) in
       let g = v .head in
-      let x = by-id-row v k in
+      let x = by-id-row τ v k in
       let e : r .link ≡ g .link = v .same-link in
       let n = x .some in
       let q = x .finds in
@@ -176,7 +177,7 @@ to-object-linked : (f : Row → ℕ) (raw : List Row) (id link : ℕ) → ToObje
 to-object-linked f raw id link w =
     record { finds = w .finds ∙ sym (object-all f raw id); some = w .some; found = found-linked f raw isObject id (link - 1) (w .found) }
 
-module _ {s : List ℕ} {room : ℕ} {raw : List Row} (w : Raw s room raw) (f : Row → ℕ) where
+module _ (τ : Terms) {s : List ℕ} {room : ℕ} {raw : List Row} (w : Raw τ s room raw) (f : Row → ℕ) where
   pub reference-link : (i : ℕ) → i < length raw → getD raw i blank .kind ≡ 9 → f (getD raw i blank) ≡ objectRow (getD raw i blank .id) raw
       → ToObject (relinked f raw) (getD raw i blank .id) (getD (relinked f raw) i blank .link)
   reference-link i h k e = to-object-linked f raw _ _ (to-object raw (getD raw i blank .id) _ (link-at f raw i h ∙ e) (w .targets i h k))

@@ -8,6 +8,7 @@ use lib.ListN.{length, getD, take}
 use lib.Seq.{take-suc, take-length}
 use lib.Dec.{eqb}
 use borrow.Author.Tests.{eqb-true}
+use Rattle.format.specs.Terms.{Terms}
 use Rattle.format.specs.declared.Row.{Row}
 use Rattle.format.specs.Bytes.{pick}
 use Rattle.format.specs.Rows.{blank, isClass}
@@ -30,10 +31,10 @@ members-more [] r = omega arith
 members-more (x ∷ rows) r = let e = members-more rows r in omega arith
 
 -- a row has a byte or more for each of its members
-module _ {s : List ℕ} {before : List Row} {r : Row} (w : Stood s before r) where
-  class-members : (own : Bool) (x : Recorded s before r) → Class s before own (r .offset) (x .head) → r .offset + r .count ≤ r .end
+module _ (τ : Terms) {s : List ℕ} {before : List Row} {r : Row} (w : Stood τ s before r) where
+  class-members : (own : Bool) (x : Recorded τ s before r) → Class τ s before own (r .offset) (x .head) → r .offset + r .count ≤ r .end
   class-members own x c =
-      let a = class-room s before own (r .offset) (x .head) c in
+      let a = class-room τ s before own (r .offset) (x .head) c in
       let b = x .same-count in
       let e = x .same-end in
       omega arith
@@ -44,31 +45,31 @@ module _ {s : List ℕ} {before : List Row} {r : Row} (w : Stood s before r) whe
       go : (b : Bool) → eqb (r .kind) 4 ≡ b → (b || eqb (r .kind) 5) ≡ true → r .offset + r .count ≤ r .end
       go true e t =
           let k = eqb-true (r .kind) 4 e in
-          let x = as-record w (λ q. omega arith) in
-          class-members false x (system-row x k)
+          let x = as-record τ w (λ q. omega arith) in
+          class-members false x (system-row τ x k)
       go false e t =
           let k = eqb-true (r .kind) 5 t in
-          let x = as-record w (λ q. omega arith) in
-          class-members true x (class-row x k)
+          let x = as-record τ w (λ q. omega arith) in
+          class-members true x (class-row τ x k)
 
   pub row-members : r .offset + membersOf r ≤ r .end
   row-members =
       picked (λ (n : ℕ). r .offset + n ≤ r .end) (isClass (r .kind)) (λ t. four-or-five t)
-      (λ t. let m = stood-moves w in omega arith)
+      (λ t. let m = stood-moves τ w in omega arith)
 
-module _ {s : List ℕ} {raw : List Row} (w : Standing s raw) where
+module _ (τ : Terms) {s : List ℕ} {raw : List Row} (w : Standing τ s raw) where
   -- the members of the first rows, within the bytes of those rows
   members-through : (i : ℕ) → i < length raw → membersIn (take (suc i) raw) ≤ getD raw i blank .end
   unfolding membersIn
   members-through zero h =
       let r = getD raw 0 blank in
       let e = ap membersIn (take-suc raw 0 blank h) in
-      let m = row-members (w .each 0 h) in
+      let m = row-members τ (w .each 0 h) in
       omega arith
   members-through (suc i) h =
       let r = getD raw (suc i) blank in
       let e = ap membersIn (take-suc raw (suc i) blank h) ∙ members-more (take (suc i) raw) r in
-      let m = row-members (w .each (suc i) h) in
+      let m = row-members τ (w .each (suc i) h) in
       let a = members-through i (omega arith) in
       let n = w .next i h in
       omega arith

@@ -8,6 +8,7 @@ use native.Mathlib.Omega.{arith}
 use lib.ListN.{length, getD, take}
 use lib.Dec.{leb, eqb}
 use borrow.Author.Tests.{leb-true, eqb-true}
+use Rattle.format.specs.Terms.{Terms}
 use Rattle.format.specs.declared.PrimitiveCode.{PrimitiveCode}
 use Rattle.format.specs.declared.Field.the-variants as F
 use Rattle.format.specs.declared.Where.{Where}
@@ -45,29 +46,29 @@ pub data Known (k : ℕ) : Type 0 where
   value : k ≡ 32 → Known k
 
 -- the row of a record: its kind byte and its fields stand at its offset
-pub record Recorded (s : List ℕ) (before : List Row) (r : Row) : Type 0 where
+pub record Recorded (τ : Terms) (s : List ℕ) (before : List Row) (r : Row) : Type 0 where
   pub head : Head
   pub inside : r .offset < length s
   pub byte : getD s (r .offset) 0 ≡ r .kind
   pub low : r .kind ≤ 17
-  pub fields : headingAt s before (r .kind) (r .offset) ≡ H.Fields head
+  pub fields : headingAt τ s before (r .kind) (r .offset) ≡ H.Fields head
   pub same-end : r .end ≡ head .end
   pub same-id : r .id ≡ head .id
   pub same-link : r .link ≡ head .link
   pub same-count : r .count ≡ head .count
 
 -- the row of a member value
-pub record Valued (s : List ℕ) (r : Row) : Type 0 where
+pub record Valued (τ : Terms) (s : List ℕ) (r : Row) : Type 0 where
   pub code : PrimitiveCode
   pub kind : r .kind ≡ 32
-  pub reads : valueAt s code (r .offset) ≡ F.End (r .end)
+  pub reads : valueAt (τ .setting) s code (r .offset) ≡ F.End (r .end)
   pub no-id : r .id ≡ 0
   pub link-is : r .link ≡ codeNumber code
   pub no-count : r .count ≡ 0
 
-pub data Stood (s : List ℕ) (before : List Row) (r : Row) : Type 0 where
-  a-record : Recorded s before r → Stood s before r
-  a-value : Valued s r → Stood s before r
+pub data Stood (τ : Terms) (s : List ℕ) (before : List Row) (r : Row) : Type 0 where
+  a-record : Recorded τ s before r → Stood τ s before r
+  a-value : Valued τ s r → Stood τ s before r
 
 -- no owner, or the number of an object's row plus 1, among the first i
 pub data Owned (rows : List Row) (i owner : ℕ) : Type 0 where
@@ -76,8 +77,8 @@ pub data Owned (rows : List Row) (i owner : ℕ) : Type 0 where
 
 -- ---- all rows
 
-pub record Standing (s : List ℕ) (rows : List Row) : Type 0 where
-  pub each : (i : ℕ) → i < length rows → Stood s (take i rows) (getD rows i blank)
+pub record Standing (τ : Terms) (s : List ℕ) (rows : List Row) : Type 0 where
+  pub each : (i : ℕ) → i < length rows → Stood τ s (take i rows) (getD rows i blank)
   pub kinds : (i : ℕ) → i < length rows → Known (getD rows i blank .kind)
   -- the header is the first row and no other
   pub headed : getD rows 0 blank .kind ≡ 0
@@ -98,32 +99,32 @@ pub record Standing (s : List ℕ) (rows : List Row) : Type 0 where
 
 -- ---- what a row says
 
-module _ {s : List ℕ} {before : List Row} {r : Row} where
-  pub as-record : Stood s before r → (r .kind ≡ 32 → ⊥) → Recorded s before r
+module _ (τ : Terms) {s : List ℕ} {before : List Row} {r : Row} where
+  pub as-record : Stood τ s before r → (r .kind ≡ 32 → ⊥) → Recorded τ s before r
   as-record (a-record x) n = x
   as-record (a-value x) n = absurd (n (x .kind))
 
-  pub as-value : Stood s before r → r .kind ≡ 32 → Valued s r
+  pub as-value : Stood τ s before r → r .kind ≡ 32 → Valued τ s r
   as-value (a-record x) e = let l = x .low in absurd (omega arith)
   as-value (a-value x) e = x
 
   -- a row takes a byte or more, within the stream
-  pub stood-moves : Stood s before r → (r .offset < r .end) × (r .end ≤ length s)
+  pub stood-moves : Stood τ s before r → (r .offset < r .end) × (r .end ≤ length s)
   stood-moves (a-record x) =
-      let m = heading-moves s before (r .kind) (r .offset) (x .head) (x .inside) (x .fields) in
+      let m = heading-moves τ s before (r .kind) (r .offset) (x .head) (x .inside) (x .fields) in
       let e = x .same-end in
       (omega arith, omega arith)
-  stood-moves (a-value x) = value-moves s (x .code) (r .offset) (r .end) (x .reads)
+  stood-moves (a-value x) = value-moves (τ .setting) s (x .code) (r .offset) (r .end) (x .reads)
 
-module _ {s : List ℕ} {rows : List Row} (w : Standing s rows) (i : ℕ) (h : i < length rows) where
-  pub record-at : (getD rows i blank .kind ≡ 32 → ⊥) → Recorded s (take i rows) (getD rows i blank)
-  record-at n = as-record (w .each i h) n
+module _ (τ : Terms) {s : List ℕ} {rows : List Row} (w : Standing τ s rows) (i : ℕ) (h : i < length rows) where
+  pub record-at : (getD rows i blank .kind ≡ 32 → ⊥) → Recorded τ s (take i rows) (getD rows i blank)
+  record-at n = as-record τ (w .each i h) n
 
-  pub value-at : getD rows i blank .kind ≡ 32 → Valued s (getD rows i blank)
-  value-at e = as-value (w .each i h) e
+  pub value-at : getD rows i blank .kind ≡ 32 → Valued τ s (getD rows i blank)
+  value-at e = as-value τ (w .each i h) e
 
   pub row-moves : (getD rows i blank .offset < getD rows i blank .end) × (getD rows i blank .end ≤ length s)
-  row-moves = stood-moves (w .each i h)
+  row-moves = stood-moves τ (w .each i h)
 
 -- ---- a kind that may stand at a place is known
 

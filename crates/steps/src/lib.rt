@@ -5,6 +5,7 @@ use format::Head;
 use format::Heading;
 use format::PrimitiveCode;
 use format::Reader;
+use format::Setting;
 use format::SlotType;
 use format::Typed;
 ghost use mathlib.Core.Path.{_≡_};
@@ -15,6 +16,7 @@ ghost use Rattle.format.specs.Rows.{roomOf};
 ghost use Rattle.format.specs.Machine.{act, valueStep, valueHead};
 ghost use Rattle.kinds.specs.Kinds.{isBrief, Hollow};
 ghost use Rattle.adding.specs.Held.{stateOf, after, Held, Short};
+ghost use Rattle.format.specs.Terms.{terms};
 
 // A record whose fields are good.
 fn take_fields(
@@ -96,12 +98,13 @@ pub fn take_value(
     frames: &[u32; Reader::WORDS],
     m: Reader,
     code: PrimitiveCode,
+    setting: Setting,
 ) -> Step
     requires { ⌜ Held (roomOf (now table)) m × (length (now frames) ≡ 384) × (length (now s) ≤ 16777216) ⌝ }
     ensures { λ q. ⌜ after (now (table .exit)) (now (frames .entry)) q
-        ≡ valueStep (now (s .entry)) (roomOf (now (table .entry))) (stateOf (now (table .entry)) (now (frames .entry)) m) code ⌝ }
+        ≡ valueStep (terms setting) (now (s .entry)) (roomOf (now (table .entry))) (stateOf (now (table .entry)) (now (frames .entry)) m) code ⌝ }
 {
-    let v = values::value_at(s, code, m.at);
+    let v = values::value_at(s, code, m.at, setting);
     match v {
         Field::End(end) => {
             let h = value_head(code, end);

@@ -15,62 +15,62 @@ use Rattle.format.specs.Rows.{blank, rowsOf}
 use Rattle.table.specs.Rows.{length-rowsOf}
 use Rattle.stretches.specs.declared.Stretch.{Stretch}
 
--- MemberPrimitiveTyped whose value, after its kind and its code, is no Decimal
-abbrev pub isPlain : List ℕ → Row → Bool
-isPlain s r = pick (eqb (getD s (r .offset + 1) 0) 5) false (leb (r .offset + 2) (r .end))
+-- MemberPrimitiveTyped whose value, after its kind and its code, is not of the code that is written anew (δ)
+abbrev pub isPlain : ℕ → List ℕ → Row → Bool
+isPlain δ s r = pick (eqb (getD s (r .offset + 1) 0) δ) false (leb (r .offset + 2) (r .end))
 
--- a value that is no Decimal keeps all its bytes; the link of a member value's row is the number of its code
-abbrev pub isKept : List ℕ → Row → Bool
-isKept s r = pick (eqb (r .kind) 32) (pick (eqb (r .link) 5) false true) (pick (eqb (r .kind) 8) (isPlain s r) false)
+-- any other value keeps all its bytes; the link of a member value's row is the number of its code
+abbrev pub isKept : ℕ → List ℕ → Row → Bool
+isKept δ s r = pick (eqb (r .kind) 32) (pick (eqb (r .link) δ) false true) (pick (eqb (r .kind) 8) (isPlain δ s r) false)
 
 -- row r is kept, and its bytes begin at p
-unfoldable pub isNext : List ℕ → ℕ → Row → Bool
-isNext s p r = eqb (r .offset) p && (leb p (r .end) && isKept s r)
+unfoldable pub isNext : ℕ → List ℕ → ℕ → Row → Bool
+isNext δ s p r = eqb (r .offset) p && (leb p (r .end) && isKept δ s r)
 
 -- of rows from number i on, those first ones that are kept and follow one another from p on
-unfoldable pub stretch : List ℕ → ℕ → ℕ → List Row → Stretch
-stretch s i p [] = record { next = i; end = p }
-stretch s i p (r ∷ more) = pick (isNext s p r) (stretch s (i + 1) (r .end) more) (record { next = i; end = p })
+unfoldable pub stretch : ℕ → List ℕ → ℕ → ℕ → List Row → Stretch
+stretch δ s i p [] = record { next = i; end = p }
+stretch δ s i p (r ∷ more) = pick (isNext δ s p r) (stretch δ s (i + 1) (r .end) more) (record { next = i; end = p })
 
 -- ---- one row
 
-module _ (s : List ℕ) (r : Row) where
+module _ (δ : ℕ) (s : List ℕ) (r : Row) where
   module _ (code : ℕ) (x : code ≡ getD s (r .offset + 1) 0) where
-    pub plain-decimal : code ≡ 5 → false ≡ isPlain s r
-    plain-decimal h = rw (← x, eq-eqb _ _ h)
+    pub plain-anew : code ≡ δ → false ≡ isPlain δ s r
+    plain-anew h = rw (← x, eq-eqb _ _ h)
 
-    pub plain-other : (code ≡ 5 → ⊥) → leb (r .offset + 2) (r .end) ≡ isPlain s r
+    pub plain-other : (code ≡ δ → ⊥) → leb (r .offset + 2) (r .end) ≡ isPlain δ s r
     plain-other h = rw (← x, ne-eqb _ _ h)
 
-  pub kept-value : r .kind ≡ 32 → (r .link ≡ 5 → ⊥) → true ≡ isKept s r
+  pub kept-value : r .kind ≡ 32 → (r .link ≡ δ → ⊥) → true ≡ isKept δ s r
   kept-value h k = rw (eq-eqb _ _ h, ne-eqb _ _ k)
 
-  pub kept-decimal : r .kind ≡ 32 → r .link ≡ 5 → false ≡ isKept s r
-  kept-decimal h k = rw (eq-eqb _ _ h, eq-eqb _ _ k)
+  pub kept-anew : r .kind ≡ 32 → r .link ≡ δ → false ≡ isKept δ s r
+  kept-anew h k = rw (eq-eqb _ _ h, eq-eqb _ _ k)
 
-  pub kept-typed : (q : Bool) → r .kind ≡ 8 → q ≡ isPlain s r → q ≡ isKept s r
+  pub kept-typed : (q : Bool) → r .kind ≡ 8 → q ≡ isPlain δ s r → q ≡ isKept δ s r
   kept-typed q h e = e ∙ rw h
 
-  pub kept-none : (r .kind ≡ 32 → ⊥) → (r .kind ≡ 8 → ⊥) → false ≡ isKept s r
+  pub kept-none : (r .kind ≡ 32 → ⊥) → (r .kind ≡ 8 → ⊥) → false ≡ isKept δ s r
   kept-none h k = rw (ne-eqb _ _ h, ne-eqb _ _ k)
 
-module _ (s : List ℕ) (p : ℕ) (r : Row) where
-  pub next-known : (q : Bool) → q ≡ isKept s r → r .offset ≡ p → p ≤ r .end → q ≡ isNext s p r
+module _ (δ : ℕ) (s : List ℕ) (p : ℕ) (r : Row) where
+  pub next-known : (q : Bool) → q ≡ isKept δ s r → r .offset ≡ p → p ≤ r .end → q ≡ isNext δ s p r
   unfolding isNext
   next-known q k h j = rw (eq-eqb _ _ h, le-leb _ _ j) k
 
-  pub next-before : r .offset ≡ p → r .end < p → false ≡ isNext s p r
+  pub next-before : r .offset ≡ p → r .end < p → false ≡ isNext δ s p r
   unfolding isNext
   next-before h j = rw (eq-eqb _ _ h, lt-leb _ _ j)
 
-  pub next-elsewhere : (r .offset ≡ p → ⊥) → false ≡ isNext s p r
+  pub next-elsewhere : (r .offset ≡ p → ⊥) → false ≡ isNext δ s p r
   unfolding isNext
   next-elsewhere h = rw (ne-eqb _ _ h)
 
 -- ---- the loop
 
-module _ (s : List ℕ) (n : ℕ) (t : List ℕ) (i p : ℕ) where
-  pub stretch-end : n ≤ i → stretch s i p (drop i (rowsOf n t)) ≡ record { next = i; end = p }
+module _ (δ : ℕ) (s : List ℕ) (n : ℕ) (t : List ℕ) (i p : ℕ) where
+  pub stretch-end : n ≤ i → stretch δ s i p (drop i (rowsOf n t)) ≡ record { next = i; end = p }
   unfolding stretch
   stretch-end h =
       let l = length-rowsOf n t in
@@ -80,10 +80,10 @@ module _ (s : List ℕ) (n : ℕ) (t : List ℕ) (i p : ℕ) where
     here : drop i (rowsOf n t) ≡ r ∷ drop (i + 1) (rowsOf n t)
     here = let l = length-rowsOf n t in rw (x, add-one) (drop-cons (rowsOf n t) i blank (omega arith))
 
-    pub stretch-stops : isNext s p r ≡ false → stretch s i p (drop i (rowsOf n t)) ≡ record { next = i; end = p }
+    pub stretch-stops : isNext δ s p r ≡ false → stretch δ s i p (drop i (rowsOf n t)) ≡ record { next = i; end = p }
     unfolding stretch
     stretch-stops k = rw (here, k)
 
-    pub stretch-goes : isNext s p r ≡ true → stretch s i p (drop i (rowsOf n t)) ≡ stretch s (i + 1) (r .end) (drop (i + 1) (rowsOf n t))
+    pub stretch-goes : isNext δ s p r ≡ true → stretch δ s i p (drop i (rowsOf n t)) ≡ stretch δ s (i + 1) (r .end) (drop (i + 1) (rowsOf n t))
     unfolding stretch
     stretch-goes k = rw (here, k)

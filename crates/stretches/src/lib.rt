@@ -1,4 +1,5 @@
-// Rows whose values keep all their bytes in the tidy copy and follow one another in the stream: their bytes are one part of it.
+// Rows whose values keep all their bytes in the tidy copy and follow one another in the stream: their bytes are one part of it. `anew` is the code
+// whose values are written anew.
 use format::Row;
 ghost use mathlib.Core.Path.{_≡_};
 ghost use Prim.Native.Nat.{_≤_};
@@ -12,56 +13,62 @@ pub struct Stretch {
     pub end: u32,
 }
 
-// Whether a MemberPrimitiveTyped (2.5.1 in MS-NRBF) is no Decimal, and its value stands behind its kind and its code.
-fn is_plain(s: &[u8], r: Row) -> bool
-    ensures { λ q. ⌜ q ≡ isPlain (now (s .entry)) r ⌝ }
+// Whether a MemberPrimitiveTyped (2.5.1 in MS-NRBF) is not written anew, and its value stands behind its kind and its code.
+fn is_plain(s: &[u8], r: Row, anew: u32) -> bool
+    ensures { λ q. ⌜ q ≡ isPlain anew (now (s .entry)) r ⌝ }
 {
     let at = r.offset as usize;
-    if codes::byte_at(s, at + 1) == 5 {
+    if (codes::byte_at(s, at + 1) as u32) == anew {
         return false;
     }
     at + 2 <= (r.end as usize)
 }
 
-// A value that is no Decimal is kept, whether a member value (MemberPrimitiveUnTyped, 2.5.2) or one with its kind: the prefix of a Decimal
-// may change.
-fn is_kept(s: &[u8], r: Row) -> bool
-    ensures { λ q. ⌜ q ≡ isKept (now (s .entry)) r ⌝ }
+// Any other value is kept, whether a member value (MemberPrimitiveUnTyped, 2.5.2) or one with its kind.
+fn is_kept(s: &[u8], r: Row, anew: u32) -> bool
+    ensures { λ q. ⌜ q ≡ isKept anew (now (s .entry)) r ⌝ }
 {
     if r.kind == 32 {
-        if r.link == 5 {
+        if r.link == anew {
             return false;
         }
         return true;
     }
     if r.kind == 8 {
-        return is_plain(s, r);
+        return is_plain(s, r, anew);
     }
     false
 }
 
 // Whether row r is kept and its bytes begin at this place.
-fn is_next(s: &[u8], place: u32, r: Row) -> bool
-    ensures { λ q. ⌜ q ≡ isNext (now (s .entry)) place r ⌝ }
+fn is_next(s: &[u8], place: u32, r: Row, anew: u32) -> bool
+    ensures { λ q. ⌜ q ≡ isNext anew (now (s .entry)) place r ⌝ }
 {
     if r.offset == place {
         if place <= r.end {
-            return is_kept(s, r);
+            return is_kept(s, r, anew);
         }
     }
     false
 }
 
 // The stretch that begins with row `first` at this place; one of no rows where that row is not kept, or lies elsewhere.
-pub fn stretch_from(s: &[u8], table: &[u32], n: usize, first: usize, place: u32) -> Stretch
+pub fn stretch_from(
+    s: &[u8],
+    table: &[u32],
+    n: usize,
+    first: usize,
+    place: u32,
+    anew: u32,
+) -> Stretch
     requires { ⌜ (first ≤ n) × (n ≤ roomOf (now table)) ⌝ }
-    ensures { λ q. ⌜ q ≡ stretch (now (s .entry)) first place (drop first (rowsOf n (now (table .entry)))) ⌝ }
+    ensures { λ q. ⌜ q ≡ stretch anew (now (s .entry)) first place (drop first (rowsOf n (now (table .entry)))) ⌝ }
 {
     let mut i = first;
     let mut end = place;
     while i < n {
         let r = table::row_at(table, n, i);
-        if !is_next(s, end, r) {
+        if !is_next(s, end, r, anew) {
             return Stretch { next: i, end };
         }
         end = r.end;

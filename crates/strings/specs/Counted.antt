@@ -5,6 +5,7 @@ use mathlib.Core.Bool.{Bool}
 use mathlib.Core.List.{List, _++_}
 use native.Mathlib.Omega.{arith}
 use lib.ListN.{length, drop}
+use Rattle.format.specs.declared.Setting.{Setting}
 use Rattle.format.specs.declared.Refusal.{Refusal}
 use Rattle.format.specs.declared.Setting.the-variants as S
 use Rattle.format.specs.declared.Prefix.the-variants as P
@@ -16,15 +17,15 @@ use Rattle.fields.specs.Judged.{judgedAt, judged-taken, judged-only}
 use Rattle.prefix.specs.Laws.{moves}
 use Rattle.prefix.specs.Both.{only}
 
-module _ (test : List ℕ → Bool) (refusal : Refusal) where
+module _ (σ : Setting) (test : List ℕ → Bool) (refusal : Refusal) where
   -- the prefix at p says n, a is the place after it, and e the place after the n bytes
   pub record Counted (s : List ℕ) (p n a e : ℕ) : Type 0 where
-    pub says : prefixAt S.Strict s p ≡ P.Length n a
+    pub says : prefixAt σ s p ≡ P.Length n a
     pub ends : judgedAt test refusal s a n ≡ F.End e
 
   pub counted-moves : (s : List ℕ) (p n a e : ℕ) → Counted s p n a e → (p < a) × (a ≤ e) × (e ≤ length s)
   counted-moves s p n a e c =
-      let m = moves S.Strict s p n a (c .says) in
+      let m = moves σ s p n a (c .says) in
       let w = judged-taken test refusal s a n e (c .ends) in
       (m .0, omega arith, omega arith)
 
@@ -33,8 +34,8 @@ module _ (test : List ℕ → Bool) (refusal : Refusal) where
   counted-only s t rest p q n a e c d =
       let m = counted-moves s p n a e c in
       let d2 = halves s t rest p a e q (omega arith) (m .1) d in
-      let f = only S.Strict s t (part s a (e - a) ++ rest) p q n a (c .says) d2 in
-      let i = moves S.Strict t q n (q + (a - p)) f in
+      let f = only σ s t (part s a (e - a) ++ rest) p q n a (c .says) d2 in
+      let i = moves σ t q n (q + (a - p)) f in
       let l = length-part s p (a - p) (omega arith) in
       let w = stands-at t (part s p (a - p)) (part s a (e - a) ++ rest) q (a - p) l (omega arith) d2 in
       let g = judged-only test refusal s t rest a (q + (a - p)) n e (c .ends) (w .room) (w .after) in

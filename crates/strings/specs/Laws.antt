@@ -5,6 +5,7 @@ use mathlib.Core.Bool.{true}
 use mathlib.Core.List.{List, _++_}
 use native.Mathlib.Omega.{arith}
 use lib.ListN.{length, drop}
+use Rattle.format.specs.declared.Setting.{Setting}
 use Rattle.format.specs.declared.Refusal.{Refusal}
 use Rattle.format.specs.declared.Refusal.the-variants as R
 use Rattle.format.specs.declared.Setting.the-variants as S
@@ -22,16 +23,16 @@ use Rattle.strings.specs.Counted.{Counted, counted-moves, counted-only}
 
 -- ---- the answers
 
-module _ (s : List ℕ) (p : ℕ) where
-  pub string-prefix : (f : Refusal) → prefixAt S.Strict s p ≡ P.Fault f → stringAt s p ≡ T.Fault f
+module _ (σ : Setting) (s : List ℕ) (p : ℕ) where
+  pub string-prefix : (f : Refusal) → prefixAt σ s p ≡ P.Fault f → stringAt σ s p ≡ T.Fault f
   unfolding stringAt
   string-prefix f h = rw h
 
-  pub string-text : (n a : ℕ) (f : Refusal) → prefixAt S.Strict s p ≡ P.Length n a → textAt s a n ≡ F.Fault f → stringAt s p ≡ T.Fault f
+  pub string-text : (n a : ℕ) (f : Refusal) → prefixAt σ s p ≡ P.Length n a → textAt s a n ≡ F.Fault f → stringAt σ s p ≡ T.Fault f
   unfolding stringAt
   string-text n a f h g = rw (h, g)
 
-  pub string-part : (n a e : ℕ) → prefixAt S.Strict s p ≡ P.Length n a → textAt s a n ≡ F.End e → stringAt s p ≡ T.Part a e
+  pub string-part : (n a e : ℕ) → prefixAt σ s p ≡ P.Length n a → textAt s a n ≡ F.End e → stringAt σ s p ≡ T.Part a e
   unfolding stringAt
   string-part n a e h g = rw (h, g)
 
@@ -50,38 +51,38 @@ prefix-told s a e (P.Length n m) q =
 prefix-told s a e (P.Fault f) q = no-part f a e q
 
 -- at p stands a string of n bytes, its text from a to e
-abbrev pub CountedText : List ℕ → ℕ → ℕ → ℕ → ℕ → Type 0
-CountedText s p n a e = Counted wellFormed R.BadText s p n a e
+abbrev pub CountedText : Setting → List ℕ → ℕ → ℕ → ℕ → ℕ → Type 0
+CountedText σ s p n a e = Counted σ wellFormed R.BadText s p n a e
 
-pub string-told : (s : List ℕ) (p a e : ℕ) → stringAt s p ≡ T.Part a e → (n : ℕ) × CountedText s p n a e
+pub string-told : (σ : Setting) (s : List ℕ) (p a e : ℕ) → stringAt σ s p ≡ T.Part a e → (n : ℕ) × CountedText σ s p n a e
 unfolding stringAt textAt judgedAt
-string-told s p a e q =
-    let w = prefix-told s a e (prefixAt S.Strict s p) q in
+string-told σ s p a e q =
+    let w = prefix-told s a e (prefixAt σ s p) q in
     (w .0, record { says = w .1; ends = w .2 })
 
-counted-part : (s : List ℕ) (p n a e : ℕ) → CountedText s p n a e → stringAt s p ≡ T.Part a e
+counted-part : (σ : Setting) (s : List ℕ) (p n a e : ℕ) → CountedText σ s p n a e → stringAt σ s p ≡ T.Part a e
 unfolding textAt judgedAt
-counted-part s p n a e c = string-part s p n a e (c .says) (c .ends)
+counted-part σ s p n a e c = string-part σ s p n a e (c .says) (c .ends)
 
 -- ---- where it stands
 
-pub string-moves : (s : List ℕ) (p a e : ℕ) → stringAt s p ≡ T.Part a e → (p < a) × (a ≤ e) × (e ≤ length s)
-string-moves s p a e q =
-    let w = string-told s p a e q in
-    counted-moves wellFormed R.BadText s p (w .0) a e (w .1)
+pub string-moves : (σ : Setting) (s : List ℕ) (p a e : ℕ) → stringAt σ s p ≡ T.Part a e → (p < a) × (a ≤ e) × (e ≤ length s)
+string-moves σ s p a e q =
+    let w = string-told σ s p a e q in
+    counted-moves σ wellFormed R.BadText s p (w .0) a e (w .1)
 
-pub string-well : (s : List ℕ) (p a e : ℕ) → stringAt s p ≡ T.Part a e → wellFormed (part s a (e - a)) ≡ true
+pub string-well : (σ : Setting) (s : List ℕ) (p a e : ℕ) → stringAt σ s p ≡ T.Part a e → wellFormed (part s a (e - a)) ≡ true
 unfolding textAt judgedAt
-string-well s p a e q =
-    let w = string-told s p a e q in
+string-well σ s p a e q =
+    let w = string-told σ s p a e q in
     let t = text-taken s a (w .0) e (w .1 .ends) in
     let k : e - a ≡ w .0 = omega arith in
     rw k (t .good)
 
 -- ---- no other bytes
 
-pub string-only : (s t rest : List ℕ) (p q a e : ℕ) → stringAt s p ≡ T.Part a e → drop q t ≡ part s p (e - p) ++ rest
-    → stringAt t q ≡ T.Part (q + (a - p)) (q + (e - p))
-string-only s t rest p q a e h d =
-    let w = string-told s p a e h in
-    counted-part t q (w .0) (q + (a - p)) (q + (e - p)) (counted-only wellFormed R.BadText s t rest p q (w .0) a e (w .1) d)
+pub string-only : (σ : Setting) (s t rest : List ℕ) (p q a e : ℕ) → stringAt σ s p ≡ T.Part a e → drop q t ≡ part s p (e - p) ++ rest
+    → stringAt σ t q ≡ T.Part (q + (a - p)) (q + (e - p))
+string-only σ s t rest p q a e h d =
+    let w = string-told σ s p a e h in
+    counted-part σ t q (w .0) (q + (a - p)) (q + (e - p)) (counted-only σ wellFormed R.BadText s t rest p q (w .0) a e (w .1) d)

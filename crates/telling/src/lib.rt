@@ -2,9 +2,10 @@
 // stream and every table. What is written cannot be promised; the programs' stored outputs hold it.
 use format::Row;
 use format::RowAnswer;
+use format::Setting;
+use format::Span;
 use members::named_row;
 use members::row_at;
-use peeking::Span;
 use peeking::on;
 use spelling::number;
 use spelling::say;
@@ -174,12 +175,12 @@ fn class(s: &[u8], r: Row) {
 }
 
 // A string with its text, as the text view has it.
-fn string(s: &[u8], table: &[u32], row: usize, r: Row) {
+fn string(s: &[u8], table: &[u32], row: usize, r: Row, setting: Setting) {
     defined(r);
-    match view::row_question(s, table, row) {
+    match view::row_question(s, table, row, setting) {
         RowAnswer::HasText => {
             say(b": \"");
-            spelling::text(view::text_view(s, table, row));
+            spelling::text(view::text_view(s, table, row, setting));
             say(b"\"");
         }
         RowAnswer::NoSuchRow => say(b" without text"),
@@ -251,14 +252,14 @@ fn member(s: &[u8], table: &[u32], r: Row) {
 }
 
 // What a row says.
-fn record(s: &[u8], table: &[u32], row: usize, r: Row) {
+fn record(s: &[u8], table: &[u32], row: usize, r: Row, setting: Setting) {
     let at = r.offset as usize;
     let kind = r.kind;
     match kind {
         0 => header(r),
         1 => class_by_id(s, table, r),
         4 | 5 => class(s, r),
-        6 => string(s, table, row, r),
+        6 => string(s, table, row, r, setting),
         7 => array(s, r),
         8 => typed(s, on(s, at, 2), peeking::byte_at(s, on(s, at, 1))),
         9 => arrow(r.id, r.link),
@@ -302,13 +303,13 @@ fn slots(s: &[u8], table: &[u32], owner: Row, first: u32, count: u32) {
     slot_name(s, table, owner, members::last_of(first, count));
 }
 
-// What a row says, after the slot that it fills.
-pub fn row(s: &[u8], table: &[u32], i: usize) {
+// What a row says, after the slot that it fills; the text of a string by the setting that its list was read with.
+pub fn row(s: &[u8], table: &[u32], i: usize, setting: Setting) {
     let r = row_at(table, i);
     if r.owner != 0 {
         let owner = row_at(table, named_row(r.owner));
         slots(s, table, owner, r.slot, members::filled(r));
         say(b": ");
     }
-    record(s, table, i, r);
+    record(s, table, i, r, setting);
 }

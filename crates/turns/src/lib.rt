@@ -3,6 +3,7 @@ use adding::Step;
 use format::Kind;
 use format::PrimitiveCode;
 use format::Reader;
+use format::Setting;
 use format::SlotType;
 use format::Where;
 ghost use mathlib.Core.Path.{_≡_};
@@ -18,6 +19,7 @@ ghost use Rattle.kinds.specs.Kinds.{isBrief};
 ghost use Rattle.frames.specs.Frames.{saved};
 ghost use Rattle.adding.specs.Held.{stateOf, after, Held};
 ghost use Rattle.turns.specs.Due.{dueOf};
+ghost use Rattle.format.specs.Terms.{terms};
 
 // What a slot waits for: a member value, or a kind byte where one stands.
 pub enum Due {
@@ -57,14 +59,15 @@ fn long_step(
     frames: &mut [u32; Reader::WORDS],
     m: Reader,
     kind: u8,
+    setting: Setting,
 ) -> Step
     requires { ⌜ Held (roomOf (now table)) m × (m .at < length (now s)) × (length (now frames) ≡ 384) × (length (now s) ≤ 16777216) × (isBrief kind ≡ false) ⌝ }
     ensures { λ q. ⌜ (after (now (table .exit)) (now (frames .exit)) q
         ≡ act (now (s .entry)) (roomOf (now (table .entry))) (stateOf (now (table .entry)) (now (frames .entry)) m) kind
-        (headingAt (now (s .entry)) (rowsOf (m .rows) (now (table .entry))) kind (m .at)))
+        (headingAt (terms setting) (now (s .entry)) (rowsOf (m .rows) (now (table .entry))) kind (m .at)))
         × (length (now (frames .exit)) ≡ 384) ⌝ }
 {
-    let h = headings::heading_at(s, table, m.rows, kind, m.at);
+    let h = headings::heading_at(s, table, m.rows, kind, m.at, setting);
     steps::take(s, table, frames, m, kind as u32, h)
 }
 
@@ -74,16 +77,17 @@ pub fn header_step(
     table: &mut [u32],
     frames: &mut [u32; Reader::WORDS],
     m: Reader,
+    setting: Setting,
 ) -> Step
     requires { ⌜ Held (roomOf (now table)) m × (length (now frames) ≡ 384) × (length (now s) ≤ 16777216) ⌝ }
     ensures { λ q. ⌜ (after (now (table .exit)) (now (frames .exit)) q
-        ≡ recordStep (now (s .entry)) (roomOf (now (table .entry))) (stateOf (now (table .entry)) (now (frames .entry)) m) W.Start)
+        ≡ recordStep (terms setting) (now (s .entry)) (roomOf (now (table .entry))) (stateOf (now (table .entry)) (now (frames .entry)) m) W.Start)
         × (length (now (frames .exit)) ≡ 384) ⌝ }
 {
     let at = m.at;
     let k = kinds::kind_at(s, Where::Start, at);
     match k {
-        Kind::Taken(kind) => long_step(s, table, frames, m, kind),
+        Kind::Taken(kind) => long_step(s, table, frames, m, kind, setting),
         Kind::Wrong(f) => Step::Refuse(f, at),
     }
 }
@@ -96,23 +100,24 @@ fn record_step(
     frames: &mut [u32; Reader::WORDS],
     m: Reader,
     w: Where,
+    setting: Setting,
 ) -> Step
     requires { ⌜ Held (roomOf (now table)) m × (length (now frames) ≡ 384) × (length (now s) ≤ 16777216) ⌝ }
     ensures { λ q. ⌜ (after (now (table .exit)) (now (frames .exit)) q
-        ≡ recordStep (now (s .entry)) (roomOf (now (table .entry))) (stateOf (now (table .entry)) (now (frames .entry)) m) w)
+        ≡ recordStep (terms setting) (now (s .entry)) (roomOf (now (table .entry))) (stateOf (now (table .entry)) (now (frames .entry)) m) w)
         × (length (now (frames .exit)) ≡ 384) ⌝ }
 {
     let at = m.at;
     if kinds::is_brief_at(s, w, at) {
         let kind = s[at];
-        let h = headings::brief_at(s, table, m.rows, kind, at);
+        let h = headings::brief_at(s, table, m.rows, kind, at, setting);
         return steps::take_brief(s, table, frames, m, kind as u32, h);
     }
     let k = kinds::kind_at(s, w, at);
     match k {
         Kind::Taken(kind) => {
             let n = m;
-            let q = long_step(s, table, frames, n, kind);
+            let q = long_step(s, table, frames, n, kind, setting);
             q
         }
         Kind::Wrong(f) => Step::Refuse(f, at),
@@ -120,20 +125,26 @@ fn record_step(
 }
 
 // A member value at once, or a record.
-pub fn one_step(s: &[u8], table: &mut [u32], frames: &mut [u32; Reader::WORDS], m: Reader) -> Step
+pub fn one_step(
+    s: &[u8],
+    table: &mut [u32],
+    frames: &mut [u32; Reader::WORDS],
+    m: Reader,
+    setting: Setting,
+) -> Step
     requires { ⌜ Held (roomOf (now table)) m × (length (now frames) ≡ 384) × (length (now s) ≤ 16777216) ⌝ }
     ensures { λ q. ⌜ (after (now (table .exit)) (now (frames .exit)) q
-        ≡ step (now (s .entry)) (roomOf (now (table .entry))) (stateOf (now (table .entry)) (now (frames .entry)) m))
+        ≡ step (terms setting) (now (s .entry)) (roomOf (now (table .entry))) (stateOf (now (table .entry)) (now (frames .entry)) m))
         × (length (now (frames .exit)) ≡ 384) ⌝ }
 {
     let typed = m.top.typed;
     let slot = typed.slot;
     let d = due_in(slot);
     match d {
-        Due::Value(c) => steps::take_value(s, table, frames, m, c),
+        Due::Value(c) => steps::take_value(s, table, frames, m, c, setting),
         Due::Record(w) => {
             let v = where_in(m.depth, w);
-            record_step(s, table, frames, m, v)
+            record_step(s, table, frames, m, v, setting)
         }
     }
 }

@@ -8,6 +8,7 @@ use native.Mathlib.Decide.{decLt}
 use lib.ListN.{length, getD}
 use lib.Dec.{ltb, leb, eqb}
 use borrow.Author.Tests.{lt-ltb, le-ltb, le-leb, lt-leb, leb-true}
+use Rattle.format.specs.declared.Setting.{Setting}
 use Rattle.format.specs.declared.Refusal.{Refusal}
 use Rattle.format.specs.declared.Refusal.the-variants as R
 use Rattle.format.specs.declared.PrimitiveCode.{PrimitiveCode}
@@ -117,27 +118,27 @@ module _ (s : List ℕ) (p e : ℕ) where
 
 -- ---- names
 
-pub name-told : (s : List ℕ) (p e : ℕ) → nameAt s p ≡ F.End e → (a : ℕ) × (stringAt s p ≡ T.Part a e)
+pub name-told : (σ : Setting) (s : List ℕ) (p e : ℕ) → nameAt σ s p ≡ F.End e → (a : ℕ) × (stringAt σ s p ≡ T.Part a e)
 unfolding nameAt
-name-told s p e q = go (stringAt s p) refl q
+name-told σ s p e q = go (stringAt σ s p) refl q
   where
-    go : (r : Text) → stringAt s p ≡ r → endOf r ≡ F.End e → (a : ℕ) × (stringAt s p ≡ T.Part a e)
+    go : (r : Text) → stringAt σ s p ≡ r → endOf r ≡ F.End e → (a : ℕ) × (stringAt σ s p ≡ T.Part a e)
     go (T.Part a x) h q =
         let z : x ≡ e = cc in
         (a, h ∙ ap (T.Part a) z)
     go (T.Fault f) h q = absurd (no-end f e q)
 
-pub name-moves : (s : List ℕ) (p e : ℕ) → nameAt s p ≡ F.End e → (p < e) × (e ≤ length s)
-name-moves s p e q =
-    let w = name-told s p e q in
-    let m = string-moves s p (w .0) e (w .1) in
+pub name-moves : (σ : Setting) (s : List ℕ) (p e : ℕ) → nameAt σ s p ≡ F.End e → (p < e) × (e ≤ length s)
+name-moves σ s p e q =
+    let w = name-told σ s p e q in
+    let m = string-moves σ s p (w .0) e (w .1) in
     (omega arith, omega arith)
 
-pub name-local : Local nameAt
-name-local =
+pub name-local : (σ : Setting) → Local (nameAt σ)
+name-local σ =
     record {
-      moves = λ s p e q. let m = name-moves s p e q in (omega arith, m .1);
-      only = λ s t rest p q e h d. let w = name-told s p e h in name-end t q (q + (w .0 - p)) (q + (e - p)) (string-only s t rest p q (w .0) e (w .1) d);
+      moves = λ s p e q. let m = name-moves σ s p e q in (omega arith, m .1);
+      only = λ s t rest p q e h d. let w = name-told σ s p e h in name-end σ t q (q + (w .0 - p)) (q + (e - p)) (string-only σ s t rest p q (w .0) e (w .1) d);
     }
 
 -- ---- LibraryIds
@@ -181,9 +182,9 @@ times-within field size moves (suc n) p e m h g q =
     let b = times-within field size moves n (x .0) e m (omega arith) g (x .2) in
     (omega arith, b .1)
 
-module _ (s : List ℕ) (n p e m : ℕ) (h : p ≤ m) (g : length s ≤ m) where
-  pub names-within : times (nameAt s) n p ≡ F.End e → (p + n ≤ e) × (e ≤ m)
-  names-within q = times-within (nameAt s) (length s) (name-moves s) n p e m h g q
+module _ (σ : Setting) (s : List ℕ) (n p e m : ℕ) (h : p ≤ m) (g : length s ≤ m) where
+  pub names-within : times (nameAt σ s) n p ≡ F.End e → (p + n ≤ e) × (e ≤ m)
+  names-within q = times-within (nameAt σ s) (length s) (name-moves σ s) n p e m h g q
 
 pub types-end : (s : List ℕ) (n p e : ℕ) → times (typeByteAt s) n p ≡ F.End e → e ≡ p + n
 unfolding times
@@ -194,46 +195,46 @@ types-end s (suc n) p e q =
     let b = types-end s n (x .0) e (x .2) in
     omega arith
 
-pub names-kept : (n : ℕ) → Kept (λ s p. times (nameAt s) n p)
-names-kept n = times-kept nameAt (local-kept nameAt name-local) n
+pub names-kept : (σ : Setting) (n : ℕ) → Kept (λ s p. times (nameAt σ s) n p)
+names-kept σ n = times-kept (nameAt σ) (local-kept (nameAt σ) (name-local σ)) n
 
 pub types-kept : (n : ℕ) → Kept (λ s p. times (typeByteAt s) n p)
 types-kept n = times-kept typeByteAt (local-kept typeByteAt type-local) n
 
 -- ---- details
 
-class-kept : Kept (λ s p. onEnd (libraryIdAt s) (nameAt s p))
-class-kept = then-kept nameAt libraryIdAt (local-kept nameAt name-local) (local-kept libraryIdAt library-local)
+class-kept : (σ : Setting) → Kept (λ s p. onEnd (libraryIdAt s) (nameAt σ s p))
+class-kept σ = then-kept (nameAt σ) libraryIdAt (local-kept (nameAt σ) (name-local σ)) (local-kept libraryIdAt library-local)
 
 none-kept : Kept (λ s p. F.End p)
 unfolding times
 none-kept = times-kept codeAt (local-kept codeAt code-local) 0
 
-pub info-kept : (b : ℕ) → Kept (λ s p. infoAt s b p)
+pub info-kept : (σ : Setting) (b : ℕ) → Kept (λ s p. infoAt σ s b p)
 unfolding infoAt
-info-kept b = go (eqb b 0 || eqb b 7) (eqb b 3) (eqb b 4)
+info-kept σ b = go (eqb b 0 || eqb b 7) (eqb b 3) (eqb b 4)
   where
-    go : (x y z : Bool) → Kept (λ s p. pick x (codeAt s p) (pick y (nameAt s p) (pick z (onEnd (libraryIdAt s) (nameAt s p)) (F.End p))))
+    go : (x y z : Bool) → Kept (λ s p. pick x (codeAt s p) (pick y (nameAt σ s p) (pick z (onEnd (libraryIdAt s) (nameAt σ s p)) (F.End p))))
     go true y z = local-kept codeAt code-local
-    go false true z = local-kept nameAt name-local
-    go false false true = class-kept
+    go false true z = local-kept (nameAt σ) (name-local σ)
+    go false false true = class-kept σ
     go false false false = none-kept
 
 -- also where it begins past the end: a detail ends within the stream, or where it begins
-pub info-within : (s : List ℕ) (b p e m : ℕ) → p ≤ m → length s ≤ m → infoAt s b p ≡ F.End e → (p ≤ e) × (e ≤ m)
+pub info-within : (σ : Setting) (s : List ℕ) (b p e m : ℕ) → p ≤ m → length s ≤ m → infoAt σ s b p ≡ F.End e → (p ≤ e) × (e ≤ m)
 unfolding infoAt
-info-within s b p e m h g q = go (eqb b 0 || eqb b 7) (eqb b 3) (eqb b 4) q
+info-within σ s b p e m h g q = go (eqb b 0 || eqb b 7) (eqb b 3) (eqb b 4) q
   where
-    class : onEnd (libraryIdAt s) (nameAt s p) ≡ F.End e → (p ≤ e) × (e ≤ length s)
+    class : onEnd (libraryIdAt s) (nameAt σ s p) ≡ F.End e → (p ≤ e) × (e ≤ length s)
     class q =
-        let x = through (libraryIdAt s) (nameAt s p) e q in
-        let u = name-moves s p (x .0) (x .1) in
+        let x = through (libraryIdAt s) (nameAt σ s p) e q in
+        let u = name-moves σ s p (x .0) (x .1) in
         let v = library-moves s (x .0) e (x .2) in
         (omega arith, omega arith)
 
-    go : (x y z : Bool) → pick x (codeAt s p) (pick y (nameAt s p) (pick z (onEnd (libraryIdAt s) (nameAt s p)) (F.End p))) ≡ F.End e
+    go : (x y z : Bool) → pick x (codeAt s p) (pick y (nameAt σ s p) (pick z (onEnd (libraryIdAt s) (nameAt σ s p)) (F.End p))) ≡ F.End e
         → (p ≤ e) × (e ≤ m)
     go true y z q = let w = code-moves s p e q in (omega arith, omega arith)
-    go false true z q = let w = name-moves s p e q in (omega arith, omega arith)
+    go false true z q = let w = name-moves σ s p e q in (omega arith, omega arith)
     go false false true q = let w = class q in (omega arith, omega arith)
     go false false false q = let w : p ≡ e = cc in (omega arith, omega arith)

@@ -3,15 +3,16 @@
 use format::Field;
 use format::Number32;
 use format::Refusal;
+use format::Setting;
 use format::Text;
 ghost use mathlib.Core.Path.{_≡_};
 ghost use Rattle.format.specs.Values.{onEnd, times};
 ghost use Rattle.format.specs.Types.{typeByteAt, nameAt, positive, libraryIdAt, infoAt};
 
-pub fn name_at(s: &[u8], at: usize) -> Field
-    ensures { λ r. ⌜ r ≡ nameAt (now (s .entry)) at ⌝ }
+pub fn name_at(s: &[u8], at: usize, setting: Setting) -> Field
+    ensures { λ r. ⌜ r ≡ nameAt setting (now (s .entry)) at ⌝ }
 {
-    match strings::string_at(s, at) {
+    match strings::string_at(s, at, setting) {
         Text::Part(_, end) => Field::End(end),
         Text::Fault(f) => Field::Fault(f),
     }
@@ -44,36 +45,36 @@ pub fn library_id_at(s: &[u8], at: usize) -> Field
 }
 
 // A class name and a LibraryId.
-fn class_at(s: &[u8], at: usize) -> Field
-    ensures { λ r. ⌜ r ≡ onEnd (libraryIdAt (now (s .entry))) (nameAt (now (s .entry)) at) ⌝ }
+fn class_at(s: &[u8], at: usize, setting: Setting) -> Field
+    ensures { λ r. ⌜ r ≡ onEnd (libraryIdAt (now (s .entry))) (nameAt setting (now (s .entry)) at) ⌝ }
 {
-    match name_at(s, at) {
+    match name_at(s, at, setting) {
         Field::End(next) => library_id_at(s, next),
         Field::Fault(f) => Field::Fault(f),
     }
 }
 
 // The detail of a type: a primitive code, a class name, a class name and a LibraryId, or nothing, which ends where it begins.
-pub fn info_at(s: &[u8], kind: u8, at: usize) -> Field
-    ensures { λ r. ⌜ r ≡ infoAt (now (s .entry)) kind at ⌝ }
+pub fn info_at(s: &[u8], kind: u8, at: usize, setting: Setting) -> Field
+    ensures { λ r. ⌜ r ≡ infoAt setting (now (s .entry)) kind at ⌝ }
 {
     match kind {
         0 => codes::code_at(s, at),
         7 => codes::code_at(s, at),
-        3 => name_at(s, at),
-        4 => class_at(s, at),
+        3 => name_at(s, at, setting),
+        4 => class_at(s, at, setting),
         _ => Field::End(at),
     }
 }
 
 // n names, one after the other: the first that is bad or missing decides.
-pub fn names_at(s: &[u8], n: u32, at: usize) -> Field
-    ensures { λ r. ⌜ r ≡ times (nameAt (now (s .entry))) n at ⌝ }
+pub fn names_at(s: &[u8], n: u32, at: usize, setting: Setting) -> Field
+    ensures { λ r. ⌜ r ≡ times (nameAt setting (now (s .entry))) n at ⌝ }
 {
     let mut left = n;
     let mut p = at;
     while left > 0 {
-        match name_at(s, p) {
+        match name_at(s, p, setting) {
             Field::End(next) => {
                 p = next;
             }

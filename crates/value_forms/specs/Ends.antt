@@ -7,6 +7,7 @@ use native.Mathlib.Omega.{arith}
 use native.Mathlib.Nat.{mul-le-mul-right}
 use lib.ListN.{length, getD}
 use borrow.Author.Tests.{lt-ltb, le-ltb, le-leb, lt-leb, eq-eqb, ne-eqb}
+use Rattle.format.specs.declared.Setting.{Setting}
 use Rattle.format.specs.declared.Refusal.the-variants as R
 use Rattle.format.specs.declared.PrimitiveCode.{PrimitiveCode}
 use Rattle.format.specs.declared.PrimitiveCode.the-variants as C
@@ -102,26 +103,26 @@ module _ (s : List ℕ) (p : ℕ) where
 -- ---- values of a fixed size
 
 -- a value of a code that has a size is so many bytes, whatever they are
-value-bytes : (s : List ℕ) (code : PrimitiveCode) (p : ℕ) → (sizeOf code ≡ 0 → ⊥) → bytesAt s p (sizeOf code) ≡ valueAt s code p
+value-bytes : (σ : Setting) (s : List ℕ) (code : PrimitiveCode) (p : ℕ) → (sizeOf code ≡ 0 → ⊥) → bytesAt s p (sizeOf code) ≡ valueAt σ s code p
 unfolding valueAt
-value-bytes s C.Boolean p h = absurd (h (omega arith))
-value-bytes s C.Byte p h = refl
-value-bytes s C.Char p h = absurd (h (omega arith))
-value-bytes s C.Decimal p h = absurd (h (omega arith))
-value-bytes s C.Double p h = refl
-value-bytes s C.Int16 p h = refl
-value-bytes s C.Int32 p h = refl
-value-bytes s C.Int64 p h = refl
-value-bytes s C.SByte p h = refl
-value-bytes s C.Single p h = refl
-value-bytes s C.TimeSpan p h = refl
-value-bytes s C.DateTime p h = absurd (h (omega arith))
-value-bytes s C.UInt16 p h = refl
-value-bytes s C.UInt32 p h = refl
-value-bytes s C.UInt64 p h = refl
+value-bytes σ s C.Boolean p h = absurd (h (omega arith))
+value-bytes σ s C.Byte p h = refl
+value-bytes σ s C.Char p h = absurd (h (omega arith))
+value-bytes σ s C.Decimal p h = absurd (h (omega arith))
+value-bytes σ s C.Double p h = refl
+value-bytes σ s C.Int16 p h = refl
+value-bytes σ s C.Int32 p h = refl
+value-bytes σ s C.Int64 p h = refl
+value-bytes σ s C.SByte p h = refl
+value-bytes σ s C.Single p h = refl
+value-bytes σ s C.TimeSpan p h = refl
+value-bytes σ s C.DateTime p h = absurd (h (omega arith))
+value-bytes σ s C.UInt16 p h = refl
+value-bytes σ s C.UInt32 p h = refl
+value-bytes σ s C.UInt64 p h = refl
 
-pub value-sized : (s : List ℕ) (code : PrimitiveCode) (p size : ℕ) → size ≡ sizeOf code → (size ≡ 0 → ⊥) → bytesAt s p size ≡ valueAt s code p
-value-sized s code p size e h = ap (bytesAt s p) e ∙ value-bytes s code p (λ z. h (e ∙ z))
+pub value-sized : (σ : Setting) (s : List ℕ) (code : PrimitiveCode) (p size : ℕ) → size ≡ sizeOf code → (size ≡ 0 → ⊥) → bytesAt s p size ≡ valueAt σ s code p
+value-sized σ s code p size e h = ap (bytesAt s p) e ∙ value-bytes σ s code p (λ z. h (e ∙ z))
 
 -- ---- items
 
@@ -147,11 +148,11 @@ pub size-times : (code : PrimitiveCode) (size n : ℕ) → size ≡ sizeOf code 
 size-times code size n e = rw e (mul-le-mul-right n (size-small code))
 
 -- the size as code has it
-module _ (s : List ℕ) (code : PrimitiveCode) (n p size : ℕ) (e : size ≡ sizeOf code) where
-  pub items-each : size ≡ 0 → itemsAt s code n p ≡ times (valueAt s code) n p
+module _ (σ : Setting) (s : List ℕ) (code : PrimitiveCode) (n p size : ℕ) (e : size ≡ sizeOf code) where
+  pub items-each : size ≡ 0 → itemsAt σ s code n p ≡ times (valueAt σ s code) n p
   unfolding itemsAt
   items-each h = rw (eq-eqb (sizeOf code) 0 (sym e ∙ h))
 
-  pub items-bytes : (size ≡ 0 → ⊥) → itemsAt s code n p ≡ bytesAt s p (size * n)
+  pub items-bytes : (size ≡ 0 → ⊥) → itemsAt σ s code n p ≡ bytesAt s p (size * n)
   unfolding itemsAt
   items-bytes h = rw (ne-eqb (sizeOf code) 0 (λ z. h (e ∙ z)), e)

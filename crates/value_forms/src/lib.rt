@@ -82,10 +82,10 @@ fn decimal_text(s: &[u8], at: usize, count: usize) -> Field
     }
 }
 
-pub fn decimal_at(s: &[u8], at: usize) -> Field
-    ensures { λ r. ⌜ r ≡ decimalAt (now (s .entry)) at ⌝ }
+pub fn decimal_at(s: &[u8], at: usize, setting: Setting) -> Field
+    ensures { λ r. ⌜ r ≡ decimalAt setting (now (s .entry)) at ⌝ }
 {
-    match prefix::prefix_at(s, at, Setting::Strict) {
+    match prefix::prefix_at(s, at, setting) {
         Prefix::Length(n, next) => decimal_text(s, next, n as usize),
         Prefix::Fault(f) => Field::Fault(f),
     }

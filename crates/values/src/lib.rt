@@ -2,6 +2,7 @@
 // missing are cut short, whatever the place is, before the bytes are judged.
 use format::Field;
 use format::PrimitiveCode;
+use format::Setting;
 ghost use mathlib.Core.Path.{_≡_};
 ghost use Rattle.format.specs.Values.{sizeOf, valueAt};
 
@@ -28,14 +29,14 @@ pub fn size_of(code: PrimitiveCode) -> usize
     }
 }
 
-pub fn value_at(s: &[u8], code: PrimitiveCode, at: usize) -> Field
-    ensures { λ r. ⌜ r ≡ valueAt (now (s .entry)) code at ⌝ }
+pub fn value_at(s: &[u8], code: PrimitiveCode, at: usize, setting: Setting) -> Field
+    ensures { λ r. ⌜ r ≡ valueAt setting (now (s .entry)) code at ⌝ }
 {
     match code {
         PrimitiveCode::Boolean => value_forms::boolean_at(s, at),
         PrimitiveCode::Byte => value_forms::bytes_at(s, at, 1),
         PrimitiveCode::Char => value_forms::char_at(s, at),
-        PrimitiveCode::Decimal => value_forms::decimal_at(s, at),
+        PrimitiveCode::Decimal => value_forms::decimal_at(s, at, setting),
         PrimitiveCode::Double => value_forms::bytes_at(s, at, 8),
         PrimitiveCode::Int16 => value_forms::bytes_at(s, at, 2),
         PrimitiveCode::Int32 => value_forms::bytes_at(s, at, 4),
@@ -51,13 +52,13 @@ pub fn value_at(s: &[u8], code: PrimitiveCode, at: usize) -> Field
 }
 
 // The same value on the short way: one of a code that has a size is one comparison, and the others have a result of their own.
-pub fn value_soon(s: &[u8], code: PrimitiveCode, at: usize) -> Field
-    ensures { λ r. ⌜ r ≡ valueAt (now (s .entry)) code at ⌝ }
+pub fn value_soon(s: &[u8], code: PrimitiveCode, at: usize, setting: Setting) -> Field
+    ensures { λ r. ⌜ r ≡ valueAt setting (now (s .entry)) code at ⌝ }
 {
     let size = size_of(code);
     if size != 0 {
         return value_forms::bytes_at(s, at, size);
     }
-    let q = value_at(s, code, at);
+    let q = value_at(s, code, at, setting);
     q
 }

@@ -3,14 +3,15 @@
 use format::Number32;
 use format::Refusal;
 use format::RowAnswer;
+use format::Setting;
 use format::Text;
 ghost use mathlib.Core.Path.{_≡_};
 ghost use Rattle.format.specs.View.{recordText, rowText};
 ghost use Rattle.format.specs.Promises.{QuestionPromise, ViewPromise};
 
 // The text of a whole string record at a place.
-fn record_text(s: &[u8], at: usize) -> Text
-    ensures { λ r. ⌜ r ≡ recordText (now (s .entry)) at ⌝ }
+fn record_text(s: &[u8], at: usize, setting: Setting) -> Text
+    ensures { λ r. ⌜ r ≡ recordText setting (now (s .entry)) at ⌝ }
 {
     if s.len() <= at {
         return Text::Fault(Refusal::NoSuchRow);
@@ -21,7 +22,7 @@ fn record_text(s: &[u8], at: usize) -> Text
     match num::u32_at(s, at + 1) {
         Number32::Value(id, next) => {
             if types::is_positive(id) {
-                return strings::string_at(s, next);
+                return strings::string_at(s, next, setting);
             }
             Text::Fault(Refusal::NoSuchRow)
         }
@@ -30,8 +31,8 @@ fn record_text(s: &[u8], at: usize) -> Text
 }
 
 // Where the text of a row stands: only a record that ends at the end word is the row's own.
-pub fn row_text(s: &[u8], table: &[u32], row: usize) -> Text
-    ensures { λ r. ⌜ r ≡ rowText (now (s .entry)) (now (table .entry)) row ⌝ }
+pub fn row_text(s: &[u8], table: &[u32], row: usize, setting: Setting) -> Text
+    ensures { λ r. ⌜ r ≡ rowText setting (now (s .entry)) (now (table .entry)) row ⌝ }
 {
     let n = table::room(table);
     if n <= row {
@@ -42,7 +43,7 @@ pub fn row_text(s: &[u8], table: &[u32], row: usize) -> Text
         return Text::Fault(Refusal::NoSuchRow);
     }
     let end = r.end as usize;
-    match record_text(s, r.offset as usize) {
+    match record_text(s, r.offset as usize, setting) {
         Text::Part(from, to) => {
             if to == end {
                 return Text::Part(from, to);
@@ -54,20 +55,20 @@ pub fn row_text(s: &[u8], table: &[u32], row: usize) -> Text
 }
 
 // Whether a row has text.
-pub fn row_question(s: &[u8], table: &[u32], row: usize) -> RowAnswer
-    ensures { λ r. ⌜ QuestionPromise (now (s .entry)) (now (table .entry)) row r ⌝ }
+pub fn row_question(s: &[u8], table: &[u32], row: usize, setting: Setting) -> RowAnswer
+    ensures { λ r. ⌜ QuestionPromise setting (now (s .entry)) (now (table .entry)) row r ⌝ }
 {
-    match row_text(s, table, row) {
+    match row_text(s, table, row, setting) {
         Text::Part(_, _) => RowAnswer::HasText,
         Text::Fault(_) => RowAnswer::NoSuchRow,
     }
 }
 
 // The text of a row, or nothing.
-pub fn text_view<'a>(s: &'a [u8], table: &[u32], row: usize) -> &'a [u8]
-    ensures { λ r. ⌜ ViewPromise (now (s .entry)) (now (table .entry)) row (now r) ⌝ }
+pub fn text_view<'a>(s: &'a [u8], table: &[u32], row: usize, setting: Setting) -> &'a [u8]
+    ensures { λ r. ⌜ ViewPromise setting (now (s .entry)) (now (table .entry)) row (now r) ⌝ }
 {
-    match row_text(s, table, row) {
+    match row_text(s, table, row, setting) {
         Text::Part(from, to) => &s[from..to],
         Text::Fault(_) => &s[0..0],
     }

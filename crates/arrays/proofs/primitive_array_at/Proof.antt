@@ -13,13 +13,13 @@ primitive-array-at-spec =
     (λ c κs. search needs)
     (λ c. search needs)
     (λ c. search needs)
-    (λ c. sym (primitive-array-is _ _ _ ∙ id-short _ _ _ (sym (c .before .before .u32-at .ensures) ∙ c .enum-told .given .1)))
+    (λ c. sym (primitive-array-is _ _ _ _ ∙ id-short _ _ _ (sym (c .before .before .u32-at .ensures) ∙ c .enum-told .given .1)))
     (λ c κs. search needs)
     (λ c κs. search needs)
     (λ c.
     let v = c .before .before .before .before in
     c .primitive-length-at .ensures
-    ∙ sym (primitive-array-is _ _ _ ∙ id-free _ _ _ _ _ (sym (v .before .before .u32-at .ensures) ∙ v .id .given .1) (sym (c .before .before .is-free-id .ensures) ∙ c .before .if1 .taken)))
+    ∙ sym (primitive-array-is _ _ _ _ ∙ id-free _ _ _ _ _ (sym (v .before .before .u32-at .ensures) ∙ v .id .given .1) (sym (c .before .before .is-free-id .ensures) ∙ c .before .if1 .taken)))
     (λ c.
     let v = c .before .before .before in
-    sym (primitive-array-is _ _ _ ∙ id-bad _ _ _ _ _ (sym (v .before .before .u32-at .ensures) ∙ v .id .given .1) (sym (c .before .is-free-id .ensures) ∙ c .if1 .left))))
+    sym (primitive-array-is _ _ _ _ ∙ id-bad _ _ _ _ _ (sym (v .before .before .u32-at .ensures) ∙ v .id .given .1) (sym (c .before .is-free-id .ensures) ∙ c .if1 .left))))

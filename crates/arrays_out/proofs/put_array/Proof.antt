@@ -23,4 +23,4 @@ put-array-spec =
     (λ c κs. (search needs, search needs, omega (arith, c .before .before .before .before .before .before .before .before .item-type .ensures, item-below (c .before .before .before .before .before .before .before .before .before .before .before .before .args .s .now) (c .before .before .before .before .before .before .before .before .before .before .before .before .args .r) (λ i. omega (arith, c .before .before .before .before .before .before .before .before .before .before .shared-slice-known .given i)) (omega arith))))
     (λ c κs. search needs)
     (λ c. search needs)
-    (λ c. joined-as _ _ _ _ _ _ _ _ _ _ (array-is _ _ _ _ _ _ (c .before .before .before .before .before .before .before .before .before .before .before .byte-at .ensures) (c .before .before .before .before .before .before .before .before .before .before .before .before .item-type .ensures) (c .before .before .before .before .before .before .before .before .before .before .after-info .ensures)) (c .before .before .before .before .before .before .before .before .put-need-info .kept .0) (c .before .before .before .before .before .least .ensures) (c .before .before .before .before .before .before .before .before .put-need-info .ensures) (c .before .before .before .put-body .ensures) (c .add-up .ensures)))
+    (λ c. joined-as _ _ _ _ _ _ _ _ _ _ (array-is _ _ _ _ _ _ _ (c .before .before .before .before .before .before .before .before .before .before .before .byte-at .ensures) (c .before .before .before .before .before .before .before .before .before .before .before .before .item-type .ensures) (c .before .before .before .before .before .before .before .before .before .before .after-info .ensures)) (c .before .before .before .before .before .before .before .before .put-need-info .kept .0) (c .before .before .before .before .before .least .ensures) (c .before .before .before .before .before .before .before .before .put-need-info .ensures) (c .before .before .before .put-body .ensures) (c .add-up .ensures)))

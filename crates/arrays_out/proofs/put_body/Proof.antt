@@ -17,4 +17,4 @@ put-body-spec =
     (λ c κs. search needs)
     (λ c κs. search needs)
     (λ c. search needs)
-    (λ c. joined-as _ _ _ _ _ _ _ _ _ _ (body-is _ _ _ _ _) (c .before .before .before .before .before .before .before .before .put-object-head .kept .0) (c .before .before .before .before .before .least .ensures) (c .before .before .before .before .before .before .before .before .put-object-head .ensures) (c .before .before .before .put-array-fields .ensures) (c .add-up .ensures)))
+    (λ c. joined-as _ _ _ _ _ _ _ _ _ _ (body-is _ _ _ _ _ _) (c .before .before .before .before .before .before .before .before .put-object-head .kept .0) (c .before .before .before .before .before .least .ensures) (c .before .before .before .before .before .before .before .before .put-object-head .ensures) (c .before .before .before .put-array-fields .ensures) (c .add-up .ensures)))

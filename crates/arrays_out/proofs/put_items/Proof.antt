@@ -22,4 +22,4 @@ put-items-spec =
     (λ c κs. search needs)
     (λ c κs. search needs)
     (λ c. search needs)
-    (λ c. joined-as _ _ _ _ _ _ _ _ _ _ (items-is _ _ _ _ _ _ (c .before .before .before .before .before .before .before .before .before .before .before .before .byte-at .ensures) _ (c .before .before .before .before .before .before .before .before .before .before .before .are-decimals .ensures)) (c .before .before .before .before .before .before .before .before .before .put-info .kept .0) (c .before .before .before .before .before .before .least .ensures) (c .before .before .before .before .before .before .before .before .before .put-info .ensures) (c .before .before .before .put-values .ensures) (c .add-up .ensures)))
+    (λ c. joined-as _ _ _ _ _ _ _ _ _ _ (items-is _ _ _ _ _ _ _ (c .before .before .before .before .before .before .before .before .before .before .before .before .byte-at .ensures) _ (c .before .before .before .before .before .before .before .before .before .before .before .are-anew .ensures)) (c .before .before .before .before .before .before .before .before .before .put-info .kept .0) (c .before .before .before .before .before .before .least .ensures) (c .before .before .before .before .before .before .before .before .before .put-info .ensures) (c .before .before .before .put-values .ensures) (c .add-up .ensures)))

@@ -23,7 +23,7 @@ item-info-at-spec =
     let v = d .before .before in
     let i = v .before .before in
     c .items-of .ensures
-    ∙ sym (item-info-good _ _ _ _ _ _ _ (i .before .byte-at .ensures) _ _ _ (sym (i .info-known .ensures) ∙ v .end .given .1) (d .byte-at2 .ensures) (t .slot-of .ensures)))
+    ∙ sym (item-info-good _ _ _ _ _ _ _ _ (i .before .byte-at .ensures) _ _ _ (sym (i .info-known .ensures) ∙ v .end .given .1) (d .byte-at2 .ensures) (t .slot-of .ensures)))
     (λ c.
     let i = c .before .before .before in
-    sym (item-info-bad _ _ _ _ _ _ _ (i .before .byte-at .ensures) _ (sym (i .info-known .ensures) ∙ c .before .f .given .1))))
+    sym (item-info-bad _ _ _ _ _ _ _ _ (i .before .byte-at .ensures) _ (sym (i .info-known .ensures) ∙ c .before .f .given .1))))

@@ -15,5 +15,5 @@ item-type-at-spec =
     (λ c. search needs)
     (λ c κs. omega (arith, type-moves _ _ _ (sym (c .before .before .before .type-byte-at .ensures) ∙ c .before .infos .given .1)))
     (λ c. search needs)
-    (λ c. c .item-info-at .ensures ∙ sym (item-type-good _ _ _ _ _ _ (sym (c .before .before .before .before .type-byte-at .ensures) ∙ c .before .before .infos .given .1)))
-    (λ c. sym (item-type-bad _ _ _ _ _ _ (sym (c .before .before .before .type-byte-at .ensures) ∙ c .before .f .given .1))))
+    (λ c. c .item-info-at .ensures ∙ sym (item-type-good _ _ _ _ _ _ _ (sym (c .before .before .before .before .type-byte-at .ensures) ∙ c .before .before .infos .given .1)))
+    (λ c. sym (item-type-bad _ _ _ _ _ _ _ (sym (c .before .before .before .type-byte-at .ensures) ∙ c .before .f .given .1))))

@@ -12,13 +12,13 @@ rank-at-spec =
     (λ c κs. search needs)
     (λ c. search needs)
     (λ c. search needs)
-    (λ c. sym (rank-short _ _ _ _ _ (sym (c .before .before .u32-at .ensures) ∙ c .enum-told .given .1)))
+    (λ c. sym (rank-short _ _ _ _ _ _ (sym (c .before .before .u32-at .ensures) ∙ c .enum-told .given .1)))
     (λ c κs. search needs)
     (λ c κs. search needs)
     (λ c.
     let v = c .before .before .before .before in
     c .shape-at .ensures
-    ∙ sym (rank-good _ _ _ _ _ _ _ (sym (v .before .before .u32-at .ensures) ∙ v .rank .given .1) (sym (c .before .before .is-rank .ensures) ∙ c .before .if1 .taken)))
+    ∙ sym (rank-good _ _ _ _ _ _ _ _ (sym (v .before .before .u32-at .ensures) ∙ v .rank .given .1) (sym (c .before .before .is-rank .ensures) ∙ c .before .if1 .taken)))
     (λ c.
     let v = c .before .before .before in
-    sym (rank-bad _ _ _ _ _ _ _ (sym (v .before .before .u32-at .ensures) ∙ v .rank .given .1) (sym (c .before .is-rank .ensures) ∙ c .if1 .left))))
+    sym (rank-bad _ _ _ _ _ _ _ _ (sym (v .before .before .u32-at .ensures) ∙ v .rank .given .1) (sym (c .before .is-rank .ensures) ∙ c .if1 .left))))

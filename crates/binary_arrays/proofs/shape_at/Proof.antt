@@ -13,5 +13,5 @@ shape-at-spec =
     (λ c. search needs)
     (λ c κs. search needs)
     (λ c. search needs)
-    (λ c. c .item-type-at .ensures ∙ sym (shape-good _ _ _ _ _ _ _ (sym (c .before .before .before .before .lengths-at .ensures) ∙ c .before .before .count .given .1)))
-    (λ c. sym (shape-bad _ _ _ _ _ _ (sym (c .before .before .before .lengths-at .ensures) ∙ c .before .f .given .1))))
+    (λ c. c .item-type-at .ensures ∙ sym (shape-good _ _ _ _ _ _ _ _ (sym (c .before .before .before .before .lengths-at .ensures) ∙ c .before .before .count .given .1)))
+    (λ c. sym (shape-bad _ _ _ _ _ _ _ (sym (c .before .before .before .lengths-at .ensures) ∙ c .before .f .given .1))))

@@ -14,8 +14,8 @@ details-at-spec =
     (λ c κs. search needs)
     (λ c.
     c .own-library-at .ensures
-    ∙ sym (details-own _ _ _ _ _ _ _ (c .before .if1 .taken)
+    ∙ sym (details-own _ _ _ _ _ _ _ _ (c .before .if1 .taken)
     (sym (c .before .before .before .before .before .infos-at .ensures) ∙ c .before .before .before .p .given .1)))
     (λ c. search needs)
-    (λ c. sym (details-end _ _ _ _ _ _ _ (c .if1 .left) (sym (c .before .before .before .before .infos-at .ensures) ∙ c .before .before .p .given .1)))
-    (λ c. sym (details-bad _ _ _ _ _ _ _ (sym (c .before .before .before .infos-at .ensures) ∙ c .before .f .given .1))))
+    (λ c. sym (details-end _ _ _ _ _ _ _ _ (c .if1 .left) (sym (c .before .before .before .before .infos-at .ensures) ∙ c .before .before .p .given .1)))
+    (λ c. sym (details-bad _ _ _ _ _ _ _ _ (sym (c .before .before .before .infos-at .ensures) ∙ c .before .f .given .1))))

@@ -12,12 +12,12 @@ info-known-spec =
     (λ c κs. search needs)
     (λ c. search needs)
     (λ c κs.
-    let w = info-before _ _ _ _ (c .if1 .taken) (sym (c .before .before .before .before .info-at .ensures) ∙ c .before .before .end .given .1) in
+    let w = info-before _ _ _ _ _ (c .if1 .taken) (sym (c .before .before .before .before .info-at .ensures) ∙ c .before .before .end .given .1) in
     (c .before .before .before .before .before .before .before .pre, w .0, w .1))
     (λ c.
     c .known-library .ensures
-    ∙ sym (info-class-known _ _ _ _ _
+    ∙ sym (info-class-known _ _ _ _ _ _
     (sym (c .before .before .before .before .before .info-at .ensures) ∙ c .before .before .before .end .given .1) (c .before .if1 .taken)))
     (λ c. search needs)
-    (λ c. sym (info-other-known _ _ _ _ _ (sym (c .before .before .before .before .info-at .ensures) ∙ c .before .before .end .given .1) (c .if1 .left)))
-    (λ c. sym (info-known-bad _ _ _ _ _ (sym (c .before .before .before .info-at .ensures) ∙ c .before .f .given .1))))
+    (λ c. sym (info-other-known _ _ _ _ _ _ (sym (c .before .before .before .before .info-at .ensures) ∙ c .before .before .end .given .1) (c .if1 .left)))
+    (λ c. sym (info-known-bad _ _ _ _ _ _ (sym (c .before .before .before .info-at .ensures) ∙ c .before .f .given .1))))

@@ -13,12 +13,12 @@ members-at-spec =
     (λ c κs. search needs)
     (λ c. search needs)
     (λ c κs.
-    let w = names-there _ _ _ _ (c .before .before .before .before .before .before .pre .2)
+    let w = names-there _ _ _ _ _ (c .before .before .before .before .before .before .pre .2)
     (sym (c .before .before .before .names-at .ensures) ∙ c .before .types .given .1) in
     (c .before .before .before .before .before .before .pre .0, c .before .before .before .before .before .before .pre .1, w .1))
     (λ c. search needs)
     (λ c.
     c .typed-members-at .ensures
-    ∙ sym (names-end _ _ _ _ _ _ _
+    ∙ sym (names-end _ _ _ _ _ _ _ _
     (sym (c .before .before .before .before .names-at .ensures) ∙ c .before .before .types .given .1)))
-    (λ c. sym (names-bad _ _ _ _ _ _ _ (sym (c .before .before .before .names-at .ensures) ∙ c .before .f .given .1))))
+    (λ c. sym (names-bad _ _ _ _ _ _ _ _ (sym (c .before .before .before .names-at .ensures) ∙ c .before .f .given .1))))

@@ -13,17 +13,17 @@ named-class-at-spec =
     (λ c κs. search needs)
     (λ c. search needs)
     (λ c. search needs)
-    (λ c. sym (name-bad _ _ _ _ _ _ (sym (c .before .before .before .name-at .ensures) ∙ c .before .f .given .1)))
+    (λ c. sym (name-bad _ _ _ _ _ _ _ (sym (c .before .before .before .name-at .ensures) ∙ c .before .f .given .1)))
     (λ c κs. search needs)
     (λ c. search needs)
     (λ c. search needs)
     (λ c.
-    sym (count-short _ _ _ _ _ _
+    sym (count-short _ _ _ _ _ _ _
     (sym (c .before .before .before .before .before .before .name-at .ensures) ∙ c .before .before .before .before .next .given .1)
     (sym (c .before .before .u32-at .ensures) ∙ c .enum-told .given .1)))
     (λ c κs. search needs)
     (λ c.
-    sym (count-bad _ _ _ _ _ _
+    sym (count-bad _ _ _ _ _ _ _
     (sym (c .before .before .before .before .before .before .before .before .before .name-at .ensures) ∙ c .before .before .before .before .before .before .before .next .given .1) _ _
     (sym (c .before .before .before .before .before .u32-at .ensures) ∙ c .before .before .before .count .given .1)
     (sym (c .before .is-negative .ensures) ∙ c .if1 .taken)))
@@ -32,7 +32,7 @@ named-class-at-spec =
     (c .before .before .before .before .before .before .before .before .before .before .before .before .pre .0, c .before .before .before .before .before .before .before .before .before .before .before .before .pre .1, w .1))
     (λ c.
     c .members-at .ensures
-    ∙ sym (count-good _ _ _ _ _ _
+    ∙ sym (count-good _ _ _ _ _ _ _
     (sym (c .before .before .before .before .before .before .before .before .before .before .name-at .ensures) ∙ c .before .before .before .before .before .before .before .before .next .given .1) _ _
     (sym (c .before .before .before .before .before .before .u32-at .ensures) ∙ c .before .before .before .before .count .given .1)
     (sym (c .before .before .is-negative .ensures) ∙ c .before .if1 .left))))

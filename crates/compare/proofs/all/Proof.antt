@@ -7,10 +7,10 @@ use Rattle.compare.proofs.all.Statement.{statement}
 use Rattle.compare.proofs.all.Tie as tie
 
 abbrev Inv-loop : tie.InvT-loop
-Inv-loop space₀ table₀ i₀ space table i = (length space ≡ length space₀) × (length table ≡ length table₀)
+Inv-loop space₀ table₀ setting i₀ space table i = (length space ≡ length space₀) × (length table ≡ length table₀)
 
 abbrev μ-loop : tie.MeasureT-loop
-μ-loop space₀ table₀ i₀ space table i = 1000000 - i
+μ-loop space₀ table₀ setting i₀ space table i = 1000000 - i
 
 pub all-spec : {M : Type 1} → statement M
 all-spec =

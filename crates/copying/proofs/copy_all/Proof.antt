@@ -15,10 +15,10 @@ use Rattle.copying.proofs.copy_all.Statement.{statement}
 use Rattle.copying.proofs.copy_all.Tie as tie
 
 abbrev Inv-loop : tie.InvT-loop
-Inv-loop out₀ s table n at₀ w₀ i₀ out at w i = (i ≤ n) × (w .count ≤ 4294967296 * i) × Along (copyOf s (rowsOf n table)) (copyFrom s (rowsOf n table) i w (drop i (rowsOf n table))) out₀ out at
+Inv-loop out₀ s table n anew at₀ w₀ i₀ out at w i = (i ≤ n) × (w .count ≤ 4294967296 * i) × Along (copyOf anew s (rowsOf n table)) (copyFrom anew s (rowsOf n table) i w (drop i (rowsOf n table))) out₀ out at
 
 abbrev μ-loop : tie.MeasureT-loop
-μ-loop out₀ s table n at₀ w₀ i₀ out at w i = n - i
+μ-loop out₀ s table n anew at₀ w₀ i₀ out at w i = n - i
 
 pub copy-all-spec : {M : Type 1} → statement M
 copy-all-spec =
@@ -26,7 +26,7 @@ copy-all-spec =
     (tie.spec
     Inv-loop
     μ-loop
-    (λ c. (omega arith, omega arith, copy-start _ _ _))
+    (λ c. (omega arith, omega arith, copy-start _ _ _ _))
     (λ c κs. search needs)
     (λ c κs. search needs)
     (λ c κs. search needs)
@@ -38,7 +38,7 @@ copy-all-spec =
     (λ c.
     let a = c .before .before .before .before .before .before .before .before .before .before .before .args in
     let i = c .before .before .before .before .before .before .before .loop .inv in
-    row-skipped (a .s .now) _ _ (rowsOf (a .n) (a .table .now)) _ _ _ _ _ _ _ _ (length-rowsOf (a .n) (a .table .now)) (c .before .before .before .before .before .before .loop-test .taken) (c .before .before .before .before .before .kind-at .ensures) (c .before .before .before .before .owner-at .ensures) (c .before .count-at .ensures) (omega (arith, c .before .count-at .ok)) (sym (c .before .before .before .is-more .ensures) ∙ c .before .before .if1 .taken) refl (i .1) (i .2))
+    row-skipped _ (a .s .now) _ _ (rowsOf (a .n) (a .table .now)) _ _ _ _ _ _ _ _ (length-rowsOf (a .n) (a .table .now)) (c .before .before .before .before .before .before .loop-test .taken) (c .before .before .before .before .before .kind-at .ensures) (c .before .before .before .before .owner-at .ensures) (c .before .count-at .ensures) (omega (arith, c .before .count-at .ok)) (sym (c .before .before .before .is-more .ensures) ∙ c .before .before .if1 .taken) refl (i .1) (i .2))
     (λ c κs. search needs)
     (λ c κs. search needs)
     (λ c κs. (omega (arith, c .before .before .before .before .before .before .loop-test .taken), c .before .before .before .before .before .before .before .before .before .before .before .pre .0))
@@ -51,7 +51,7 @@ copy-all-spec =
     (λ c.
     let a = c .before .before .before .before .before .before .before .before .before .before .before .before .before .before .before .before .before .before .before .args in
     let i = c .before .before .before .before .before .before .before .before .before .before .before .before .before .before .before .loop .inv in
-    stretch-copied (a .s .now) _ _ _ (rowsOf (a .n) (a .table .now)) _ _ _ _ _ _ _ _ _ _ (length-rowsOf (a .n) (a .table .now)) (c .before .before .before .before .before .before .before .before .before .before .before .before .before .before .loop-test .taken) (c .before .before .before .before .before .before .before .stretch-from .ensures) (c .before .before .before .before .before .if2 .taken) refl (i .2) (c .before .before .before .before .before .before .before .before .least .ensures) (c .add-up .ensures) (c .before .before .before .put-stretch .kept .0) (c .before .before .before .put-stretch .ensures))
+    stretch-copied _ (a .s .now) _ _ _ (rowsOf (a .n) (a .table .now)) _ _ _ _ _ _ _ _ _ _ (length-rowsOf (a .n) (a .table .now)) (c .before .before .before .before .before .before .before .before .before .before .before .before .before .before .loop-test .taken) (c .before .before .before .before .before .before .before .stretch-from .ensures) (c .before .before .before .before .before .if2 .taken) refl (i .2) (c .before .before .before .before .before .before .before .before .least .ensures) (c .add-up .ensures) (c .before .before .before .put-stretch .kept .0) (c .before .before .before .put-stretch .ensures))
     (λ c. omega (arith, c .before .before .before .least .ensures .within))
     (λ c. omega (arith, c .before .before .before .least .ensures .within))
     (λ c. omega (arith, c .before .before .before .least .ensures .within))
@@ -63,7 +63,7 @@ copy-all-spec =
     (λ c.
     let a = c .before .before .before .before .before .before .before .before .before .before .before .before .before .before .before .before .before .before .before .before .args in
     let i = c .before .before .before .before .before .before .before .before .before .before .before .before .before .before .before .before .loop .inv in
-    row-copied (a .s .now) _ _ _ (rowsOf (a .n) (a .table .now)) _ _ _ _ _ _ _ _ _ (length-rowsOf (a .n) (a .table .now)) (c .before .before .before .before .before .before .before .before .before .before .before .before .before .before .before .loop-test .taken) (c .before .before .before .before .before .before .before .before .before .before .row-at .ensures) (omega (arith, c .before .before .before .before .before .before .before .before .before .before .row-at .ok)) (c .run-after .ensures) (i .1) (i .2) (c .before .before .before .before .before .before .before .before .before .least .ensures) (c .before .add-up2 .ensures) (c .before .before .before .before .put-row .kept .0) (c .before .before .before .before .put-row .ensures))
+    row-copied _ (a .s .now) _ _ _ (rowsOf (a .n) (a .table .now)) _ _ _ _ _ _ _ _ _ (length-rowsOf (a .n) (a .table .now)) (c .before .before .before .before .before .before .before .before .before .before .before .before .before .before .before .loop-test .taken) (c .before .before .before .before .before .before .before .before .before .before .row-at .ensures) (omega (arith, c .before .before .before .before .before .before .before .before .before .before .row-at .ok)) (c .run-after .ensures) (i .1) (i .2) (c .before .before .before .before .before .before .before .before .before .least .ensures) (c .before .add-up2 .ensures) (c .before .before .before .before .put-row .kept .0) (c .before .before .before .before .put-row .ensures))
     (λ c κs. search needs)
     (λ c. omega (arith, c .least2 .ensures .within))
     (λ c. omega (arith, c .least2 .ensures .within))
@@ -76,4 +76,4 @@ copy-all-spec =
     same-len-mid m (length x - m) x (c .before .before .before .put-run .last .0) (c .before .before .before .put-run .kept .0) ∙ c .before .before .before .before .before .before .before .loop .inv .2 .sized)
     (λ c.
     let l = length-rowsOf (c .before .before .before .before .before .before .before .before .before .before .before .args .n) (c .before .before .before .before .before .before .before .before .before .before .before .args .table .now) in
-    along-last _ _ _ _ _ _ _ _ _ (c .before .before .before .before .before .before .before .loop .inv .2) (c .before .before .before .before .before .least2 .ensures) (c .add-up3 .ensures) (became _ _ _ _ _ (copy-end _ _ _ _ (omega arith)) (c .before .before .before .put-run .ensures))))
+    along-last _ _ _ _ _ _ _ _ _ (c .before .before .before .before .before .before .before .loop .inv .2) (c .before .before .before .before .before .least2 .ensures) (c .add-up3 .ensures) (became _ _ _ _ _ (copy-end _ _ _ _ _ (omega arith)) (c .before .before .before .put-run .ensures))))

@@ -17,4 +17,4 @@ put-row-spec =
     (λ c κs. search needs)
     (λ c κs. search needs)
     (λ c. search needs)
-    (λ c. joined-as _ _ _ _ _ _ _ _ _ _ (row-is _ _ _ _ _) (c .before .before .before .before .before .before .before .before .put-before .kept .0) (c .before .before .before .before .before .least .ensures) (c .before .before .before .before .before .before .before .before .put-before .ensures) (c .before .before .before .put-record .ensures) (c .add-up .ensures)))
+    (λ c. joined-as _ _ _ _ _ _ _ _ _ _ (row-is _ _ _ _ _ _) (c .before .before .before .before .before .before .before .before .put-before .kept .0) (c .before .before .before .before .before .least .ensures) (c .before .before .before .before .before .before .before .before .put-before .ensures) (c .before .before .before .put-record .ensures) (c .add-up .ensures)))

@@ -21,14 +21,14 @@ brief-at-spec =
     (λ c κs. search needs)
     (λ c.
     let e = c .string-record-at .ensures in
-    (e ∙ sym (string-heading _ _ _ _ (c .before .match .keys1)), hollow-as _ _ e (string-hollow _ _ _)))
+    (e ∙ sym (string-heading _ _ _ _ _ (c .before .match .keys1)), hollow-as _ _ e (string-hollow _ _ _ _)))
     (λ c.
     let e = c .typed-primitive-at .ensures in
-    (e ∙ sym (typed-heading _ _ _ _ (c .before .match .keys2)), hollow-as _ _ e (typed-hollow _ _)))
+    (e ∙ sym (typed-heading _ _ _ _ _ (c .before .match .keys2)), hollow-as _ _ e (typed-hollow _ _ _)))
     (λ c.
     let e = c .reference-at .ensures in
-    (e ∙ sym (reference-heading _ _ _ _ (c .before .match .keys3)), hollow-as _ _ e (reference-hollow _ _)))
+    (e ∙ sym (reference-heading _ _ _ _ _ (c .before .match .keys3)), hollow-as _ _ e (reference-hollow _ _)))
     (λ c.
     let n = c .before .match .rest in
     let e = c .plain-head .ensures in
-    (e ∙ sym (null-heading _ _ _ _ (brief-null _ (c .before .before .before .before .pre .0) (n .0 .0 .1) (n .0 .1) (n .1))), hollow-as _ _ e refl)))
+    (e ∙ sym (null-heading _ _ _ _ _ (brief-null _ (c .before .before .before .before .pre .0) (n .0 .0 .1) (n .0 .1) (n .1))), hollow-as _ _ e refl)))

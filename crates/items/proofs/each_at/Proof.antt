@@ -8,10 +8,10 @@ use Rattle.items.proofs.each_at.Statement.{statement}
 use Rattle.items.proofs.each_at.Tie as tie
 
 abbrev Inv-loop : tie.InvT-loop
-Inv-loop s code n at left₀ p₀ left p = times (valueAt s code) n at ≡ times (valueAt s code) left p
+Inv-loop s code n at setting left₀ p₀ left p = times (valueAt setting s code) n at ≡ times (valueAt setting s code) left p
 
 abbrev μ-loop : tie.MeasureT-loop
-μ-loop s code n at left₀ p₀ left p = left
+μ-loop s code n at setting left₀ p₀ left p = left
 
 pub each-at-spec : {M : Type 1} → statement M
 each-at-spec =

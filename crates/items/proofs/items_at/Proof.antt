@@ -12,9 +12,9 @@ items-at-spec =
     (tie.spec
     (λ c κs. search needs)
     (λ c κs. search needs)
-    (λ c. c .each-at .ensures ∙ sym (items-each _ _ _ _ _ (c .before .before .size-of .ensures) (c .before .if1 .taken)))
+    (λ c. c .each-at .ensures ∙ sym (items-each _ _ _ _ _ _ (c .before .before .size-of .ensures) (c .before .if1 .taken)))
     (λ c.
     let a = c .before .before .before .args in
     omega (arith, size-times (a .code) (c .before .size-of .result) (a .n) (c .before .size-of .ensures)))
     (λ c κs. search needs)
-    (λ c. c .bytes-at .ensures ∙ sym (items-bytes _ _ _ _ _ (c .before .before .size-of .ensures) (c .before .if1 .left))))
+    (λ c. c .bytes-at .ensures ∙ sym (items-bytes _ _ _ _ _ _ (c .before .before .size-of .ensures) (c .before .if1 .left))))

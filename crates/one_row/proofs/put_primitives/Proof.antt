@@ -17,4 +17,4 @@ put-primitives-spec =
     (λ c κs. search needs)
     (λ c κs. search needs)
     (λ c. search needs)
-    (λ c. joined-as _ _ _ _ _ _ _ _ _ _ (primitives-is _ _) (c .before .before .before .before .before .before .before .before .put-object-head .kept .0) (c .before .before .before .before .before .least .ensures) (c .before .before .before .before .before .before .before .before .put-object-head .ensures) (c .before .before .before .put-primitive-items .ensures) (c .add-up .ensures)))
+    (λ c. joined-as _ _ _ _ _ _ _ _ _ _ (primitives-is _ _ _) (c .before .before .before .before .before .before .before .before .put-object-head .kept .0) (c .before .before .before .before .before .least .ensures) (c .before .before .before .before .before .before .before .before .put-object-head .ensures) (c .before .before .before .put-primitive-items .ensures) (c .add-up .ensures)))

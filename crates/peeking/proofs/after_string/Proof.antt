@@ -1,7 +1,7 @@
 -- The span's end.
 use borrow.Author.Needs.{needs}
 use mathlib.Core.Path.{ap}
-use Rattle.peeking.specs.declared.Span.{Span}
+use Rattle.format.specs.declared.Span.{Span}
 use Rattle.peeking.specs.Peeking.{afterString}
 use Rattle.peeking.proofs.after_string.Statement.{statement}
 use Rattle.peeking.proofs.after_string.Tie as tie

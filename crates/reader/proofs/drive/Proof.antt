@@ -4,6 +4,7 @@ use Prim.Native.Nat.{_-_}
 use native.Mathlib.Omega.{arith}
 use borrow.Author.Needs.{needs}
 use lib.ListN.{length}
+use Rattle.format.specs.Terms.{terms}
 use Rattle.format.specs.Rows.{roomOf}
 use Rattle.format.specs.Machine.{rawOf}
 use Rattle.adding.specs.Held.{stateOf, after}
@@ -13,11 +14,11 @@ use Rattle.reader.proofs.drive.Statement.{statement}
 use Rattle.reader.proofs.drive.Tie as tie
 
 abbrev Inv-loop : tie.InvT-loop
-Inv-loop s table₀ frames₀ keep m₀ table frames m =
-    (length table ≡ length table₀) × Runs s (roomOf table₀) (rawOf s (roomOf table₀)) table frames m
+Inv-loop s table₀ frames₀ keep setting m₀ table frames m =
+    (length table ≡ length table₀) × Runs (terms setting) s (roomOf table₀) (rawOf (terms setting) s (roomOf table₀)) table frames m
 
 abbrev μ-loop : tie.MeasureT-loop
-μ-loop s table₀ frames₀ keep m₀ table frames m = length s - m .at
+μ-loop s table₀ frames₀ keep setting m₀ table frames m = length s - m .at
 
 pub drive-spec : {M : Type 1} → statement M
 drive-spec =
@@ -38,8 +39,8 @@ drive-spec =
     let o = c .before .before .before .before .before .one-step in
     let u = o .last .1 .0 in
     let g = o .last .1 .1 .0 in
-    let e = same-room (v .table) (a .table .now) (a .s .now) (stateOf (v .table) (v .frames) (v .m)) (after u g (o .result)) (v .inv .0) (o .ensures .0) in
-    let w = moves-on (v .inv .1) u g (o .result) e _ (c .before .q .given .1) in
+    let e = same-room _ (v .table) (a .table .now) (a .s .now) (stateOf (v .table) (v .frames) (v .m)) (after u g (o .result)) (v .inv .0) (o .ensures .0) in
+    let w = moves-on _ (v .inv .1) u g (o .result) e _ (c .before .q .given .1) in
     omega arith)
     (λ c.
     let a = c .before .before .before .before .before .before .before .before .before .before .before .args in
@@ -47,8 +48,8 @@ drive-spec =
     let o = c .before .before .before .before .before .one-step in
     let u = o .last .1 .0 in
     let g = o .last .1 .1 .0 in
-    let e = same-room (v .table) (a .table .now) (a .s .now) (stateOf (v .table) (v .frames) (v .m)) (after u g (o .result)) (v .inv .0) (o .ensures .0) in
-    (o .kept .1 .0 ∙ v .inv .0, gone (v .inv .1) u g (o .result) e _ (c .before .q .given .1) (o .ensures .1)))
+    let e = same-room _ (v .table) (a .table .now) (a .s .now) (stateOf (v .table) (v .frames) (v .m)) (after u g (o .result)) (v .inv .0) (o .ensures .0) in
+    (o .kept .1 .0 ∙ v .inv .0, gone _ (v .inv .1) u g (o .result) e _ (c .before .q .given .1) (o .ensures .1)))
     (λ c. search needs)
     (λ c κs.
     let a = c .before .before .before .before .before .before .before .before .before .before .before .before .args in
@@ -56,8 +57,8 @@ drive-spec =
     let o = c .before .before .before .before .before .before .one-step in
     let u = o .last .1 .0 in
     let g = o .last .1 .1 .0 in
-    let e = same-room (v .table) (a .table .now) (a .s .now) (stateOf (v .table) (v .frames) (v .m)) (after u g (o .result)) (v .inv .0) (o .ensures .0) in
-    let w = ends-roomy (v .inv .1) u g (o .result) e _ _ (c .before .before .q2 .given .1) in
+    let e = same-room _ (v .table) (a .table .now) (a .s .now) (stateOf (v .table) (v .frames) (v .m)) (after u g (o .result)) (v .inv .0) (o .ensures .0) in
+    let w = ends-roomy _ (v .inv .1) u g (o .result) e _ _ (c .before .before .q2 .given .1) in
     let l : length u ≡ length (a .table .now) = o .kept .1 .0 ∙ v .inv .0 in
     let x = c .before .before .before .before .before .before .before .before .before .before .before .before .pre .1 in
     (omega arith, omega arith))
@@ -68,9 +69,9 @@ drive-spec =
     let o = c .before .before .before .before .before .before .before .before .before .one-step in
     let u = o .last .1 .0 in
     let g = o .last .1 .1 .0 in
-    let e = same-room (v .table) (a .table .now) (a .s .now) (stateOf (v .table) (v .frames) (v .m)) (after u g (o .result)) (v .inv .0) (o .ensures .0) in
+    let e = same-room _ (v .table) (a .table .now) (a .s .now) (stateOf (v .table) (v .frames) (v .m)) (after u g (o .result)) (v .inv .0) (o .ensures .0) in
     let r = c .before .before .finish-rows in
-    (r .ensures .0 ∙ ap (endBy (a .keep)) (ends (v .inv .1) u g (o .result) e _ _ (c .before .before .before .before .before .q2 .given .1)), within-room u (a .table .now) (r .result) (o .kept .1 .0 ∙ v .inv .0) (r .ensures .1)))
+    (r .ensures .0 ∙ ap (endBy (a .keep)) (ends _ (v .inv .1) u g (o .result) e _ _ (c .before .before .before .before .before .q2 .given .1)), within-room u (a .table .now) (r .result) (o .kept .1 .0 ∙ v .inv .0) (r .ensures .1)))
     (λ c. search needs)
     (λ c. c .before .before .before .before .before .one-step .kept .1 .0 ∙ c .before .before .before .before .before .before .before .before .loop .inv .0)
     (λ c.
@@ -79,5 +80,5 @@ drive-spec =
     let o = c .before .before .before .before .before .one-step in
     let u = o .last .1 .0 in
     let g = o .last .1 .1 .0 in
-    let e = same-room (v .table) (a .table .now) (a .s .now) (stateOf (v .table) (v .frames) (v .m)) (after u g (o .result)) (v .inv .0) (o .ensures .0) in
-    (ap (endBy (a .keep)) (refuses (v .inv .1) u g (o .result) e _ _ (c .before .q3 .given .1)), tt)))
+    let e = same-room _ (v .table) (a .table .now) (a .s .now) (stateOf (v .table) (v .frames) (v .m)) (after u g (o .result)) (v .inv .0) (o .ensures .0) in
+    (ap (endBy (a .keep)) (refuses _ (v .inv .1) u g (o .result) e _ _ (c .before .q3 .given .1)), tt)))

@@ -14,7 +14,7 @@ judge-spec =
     (tie.spec
     (λ c.
     let a = c .before .before .before .args in
-    (ap (endBy (a .keep)) (too-large (a .s .now) (roomOf (a .table .now)) (c .if1 .taken)), tt))
+    (ap (endBy (a .keep)) (too-large _ (a .s .now) (roomOf (a .table .now)) (c .if1 .taken)), tt))
     (λ c κs. search needs)
     (λ c κs. search needs)
     (λ c κs.
@@ -30,7 +30,7 @@ judge-spec =
     let f = c .before .before .before .before .before .before .before .before .before .before .before .frames .result in
     let z = c .before .before .before .before .before .before .before .before .before .before .fresh in
     let l = c .before .before .before .before .before .before .before .before .before .before .before .before .if1 .left in
-    (runs-room (a .s .now) (a .table .now) u g _ (o .kept .1 .0) (head-on (a .s .now) (a .table .now) u f g (z .result) l (z .ensures) (o .result) (o .ensures .0) _ (c .before .before .before .q .given .1) (o .ensures .1)), l))
+    (runs-room _ (a .s .now) (a .table .now) u g _ (o .kept .1 .0) (head-on _ (a .s .now) (a .table .now) u f g (z .result) l (z .ensures) (o .result) (o .ensures .0) _ (c .before .before .before .q .given .1) (o .ensures .1)), l))
     (λ c. search needs)
     (λ c κs.
     let a = c .before .before .before .before .before .before .before .before .before .before .before .before .before .before .args in
@@ -40,7 +40,7 @@ judge-spec =
     let f = c .before .before .before .before .before .before .before .before .before .before .frames .result in
     let z = c .before .before .before .before .before .before .before .before .before .fresh in
     let l = c .before .before .before .before .before .before .before .before .before .before .before .if1 .left in
-    let w = head-roomy (a .s .now) (a .table .now) u f g (z .result) l (z .ensures) (o .result) (o .ensures .0) _ _ (c .before .before .q2 .given .1) in
+    let w = head-roomy _ (a .s .now) (a .table .now) u f g (z .result) l (z .ensures) (o .result) (o .ensures .0) _ _ (c .before .before .q2 .given .1) in
     let k : length u ≡ length (a .table .now) = o .kept .1 .0 in
     (omega arith, omega arith))
     (λ c. search needs)
@@ -54,7 +54,7 @@ judge-spec =
     let z = c .before .before .before .before .before .before .before .before .before .before .before .before .before .fresh in
     let l = c .before .before .before .before .before .before .before .before .before .before .before .before .before .before .before .if1 .left in
     let r = c .before .before .drive in
-    answered-room (a .keep) (a .s .now) (a .table .now) u (r .last .1 .0) (r .result) (o .kept .1 .0) (r .ensures))
+    answered-room _ (a .keep) (a .s .now) (a .table .now) u (r .last .1 .0) (r .result) (o .kept .1 .0) (r .ensures))
     (λ c. search needs)
     (λ c.
     let a = c .before .before .before .before .before .before .before .before .before .before .before .before .before .before .before .before .before .args in
@@ -65,7 +65,7 @@ judge-spec =
     let z = c .before .before .before .before .before .before .before .before .before .before .before .before .fresh in
     let l = c .before .before .before .before .before .before .before .before .before .before .before .before .before .before .if1 .left in
     let r = c .before .before .finish-rows in
-    (r .ensures .0 ∙ ap (endBy (a .keep)) (head-end (a .s .now) (a .table .now) u f g (z .result) l (z .ensures) (o .result) (o .ensures .0) _ _ (c .before .before .before .before .before .q2 .given .1)), within-room u (a .table .now) (r .result) (o .kept .1 .0) (r .ensures .1)))
+    (r .ensures .0 ∙ ap (endBy (a .keep)) (head-end _ (a .s .now) (a .table .now) u f g (z .result) l (z .ensures) (o .result) (o .ensures .0) _ _ (c .before .before .before .before .before .q2 .given .1)), within-room u (a .table .now) (r .result) (o .kept .1 .0) (r .ensures .1)))
     (λ c. search needs)
     (λ c.
     let a = c .before .before .before .before .before .before .before .before .before .before .before .before .before .args in
@@ -75,4 +75,4 @@ judge-spec =
     let f = c .before .before .before .before .before .before .before .before .before .frames .result in
     let z = c .before .before .before .before .before .before .before .before .fresh in
     let l = c .before .before .before .before .before .before .before .before .before .before .if1 .left in
-    (ap (endBy (a .keep)) (head-bad (a .s .now) (a .table .now) u f g (z .result) l (z .ensures) (o .result) (o .ensures .0) _ _ (c .before .q3 .given .1)), tt)))
+    (ap (endBy (a .keep)) (head-bad _ (a .s .now) (a .table .now) u f g (z .result) l (z .ensures) (o .result) (o .ensures .0) _ _ (c .before .q3 .given .1)), tt)))

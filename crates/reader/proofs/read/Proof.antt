@@ -23,11 +23,11 @@ read-spec =
     (λ c.
     let j = c .before .before .before .before .before .before .before .before .before .judge in
     let k = c .before .before .clear-after in
-    let w = left-rows _ (j .last .1 .0) (k .last .0) (j .result) _ (j .kept .1 .0) (j .ensures .0 ∙ linked-end _ _) _ (c .before .before .before .before .before .a .given .1) (k .ensures) in
-    read-promised _ _ _ _ (w .0) (w .1))
+    let w = left-rows _ (j .last .1 .0) (k .last .0) (j .result) _ (j .kept .1 .0) (j .ensures .0 ∙ linked-end _ _ _) _ (c .before .before .before .before .before .a .given .1) (k .ensures) in
+    read-promised _ _ _ _ _ (w .0) (w .1))
     (λ c. search needs)
     (λ c.
     let j = c .before .before .before .before .before .before .before .before .before .judge in
     let k = c .before .before .clear in
-    let w = left-zeros _ (j .last .1 .0) (k .last .0) (j .result) _ (j .kept .1 .0) (j .ensures .0 ∙ linked-end _ _) _ _ (c .before .before .before .before .before .a2 .given .1) (k .ensures) in
-    read-promised _ _ _ _ (w .0) (w .1)))
+    let w = left-zeros _ (j .last .1 .0) (k .last .0) (j .result) _ (j .kept .1 .0) (j .ensures .0 ∙ linked-end _ _ _) _ _ (c .before .before .before .before .before .a2 .given .1) (k .ensures) in
+    read-promised _ _ _ _ _ (w .0) (w .1)))

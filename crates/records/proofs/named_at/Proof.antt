@@ -13,5 +13,5 @@ named-at-spec =
     (λ c. search needs)
     (λ c κs. search needs)
     (λ c. search needs)
-    (λ c. c .plain-head .ensures ∙ sym (named-end _ _ _ _ (sym (c .before .before .before .before .name-at .ensures) ∙ c .before .before .end .given .1)))
-    (λ c. sym (named-bad _ _ _ _ (sym (c .before .before .before .name-at .ensures) ∙ c .before .f .given .1))))
+    (λ c. c .plain-head .ensures ∙ sym (named-end _ _ _ _ _ (sym (c .before .before .before .before .name-at .ensures) ∙ c .before .before .end .given .1)))
+    (λ c. sym (named-bad _ _ _ _ _ (sym (c .before .before .before .name-at .ensures) ∙ c .before .f .given .1))))

@@ -25,7 +25,7 @@ say-the-same-spec =
     let byte : Bytes (a .a .now) = λ i. c .before .before .before .before .before .before .before .before .before .before .before .before .before .before .before .before .before .before .before .before .before .before .before .shared-slice-known .given i .fits in
     let octet : Bytes (a .b .now) = λ i. c .before .before .before .before .before .before .before .before .before .before .before .before .before .before .before .before .before .before .before .before .before .before .shared-slice-known2 .given i .fits in
     let x = c .before .before .before .before .before .before .before .before .before .before .before .before .before .before .before .before .tidy in
-    first-written (a .a .now) (a .b .now) (a .table .now) (a .first .now) (a .second .now) (x .last .1 .0) (x .last .1 .1 .0) _ (x .ensures)
+    first-written _ _ (a .a .now) (a .b .now) (a .table .now) (a .first .now) (a .second .now) (x .last .1 .0) (x .last .1 .1 .0) _ (x .ensures)
     byte octet (x .kept .1 .0) _ (c .before .before .before .before .before .before .before .before .before .before .p .given .1) _ _ _ (c .before .before .before .before .against .ensures))
     (λ c. search needs)
     (λ c. search needs)

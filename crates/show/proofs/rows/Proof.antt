@@ -5,10 +5,10 @@ use Rattle.show.proofs.rows.Statement.{statement}
 use Rattle.show.proofs.rows.Tie as tie
 
 abbrev Inv-loop : tie.InvT-loop
-Inv-loop s table end i₀ t5 i = i ≤ end
+Inv-loop s table end setting i₀ t5 i = i ≤ end
 
 abbrev μ-loop : tie.MeasureT-loop
-μ-loop s table end i₀ t5 i = end - i
+μ-loop s table end setting i₀ t5 i = end - i
 
 pub rows-spec : {M : Type 1} → statement M
 rows-spec =

@@ -9,6 +9,6 @@ is-next-spec =
     tie.close
     (tie.spec
     (λ c κs. search needs)
-    (λ c. next-known _ _ _ _ (c .is-kept .ensures) (c .before .before .before .if1 .taken) (c .before .if2 .taken))
-    (λ c. next-before _ _ _ (c .before .before .if1 .taken) (c .if2 .left))
-    (λ c. next-elsewhere _ _ _ (c .if1 .left)))
+    (λ c. next-known _ _ _ _ _ (c .is-kept .ensures) (c .before .before .before .if1 .taken) (c .before .if2 .taken))
+    (λ c. next-before _ _ _ _ (c .before .before .if1 .taken) (c .if2 .left))
+    (λ c. next-elsewhere _ _ _ _ (c .if1 .left)))

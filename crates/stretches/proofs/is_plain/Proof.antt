@@ -1,5 +1,5 @@
--- One law for a Decimal, one for any other code.
-use Rattle.stretches.specs.Stretches.{plain-decimal, plain-other}
+-- One law for the code that is written anew, one for any other.
+use Rattle.stretches.specs.Stretches.{plain-anew, plain-other}
 use borrow.Author.Needs.{needs}
 use Rattle.stretches.proofs.is_plain.Statement.{statement}
 use Rattle.stretches.proofs.is_plain.Tie as tie
@@ -11,9 +11,10 @@ is-plain-spec =
     (λ c. search needs)
     (λ c. search needs)
     (λ c κs. search needs)
+    (λ c. search needs)
     (λ c.
-    let a = c .before .before .before .before .args in plain-decimal (a .s .now) (a .r) _ (c .before .byte-at .ensures) (c .if1 .taken))
+    let a = c .before .before .before .before .args in plain-anew _ (a .s .now) (a .r) _ (c .before .byte-at .ensures) (c .if1 .taken))
     (λ c. search needs)
     (λ c. search needs)
     (λ c.
-    let a = c .before .before .before .before .before .args in plain-other (a .s .now) (a .r) _ (c .before .before .byte-at .ensures) (c .before .if1 .left)))
+    let a = c .before .before .before .before .before .args in plain-other _ (a .s .now) (a .r) _ (c .before .before .byte-at .ensures) (c .before .if1 .left)))

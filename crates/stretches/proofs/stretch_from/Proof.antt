@@ -11,10 +11,10 @@ use Rattle.stretches.proofs.stretch_from.Statement.{statement}
 use Rattle.stretches.proofs.stretch_from.Tie as tie
 
 abbrev Inv-loop : tie.InvT-loop
-Inv-loop s table n first place i₀ end₀ i end = (i ≤ n) × (stretch s first place (drop first (rowsOf n table)) ≡ stretch s i end (drop i (rowsOf n table)))
+Inv-loop s table n first place anew i₀ end₀ i end = (i ≤ n) × (stretch anew s first place (drop first (rowsOf n table)) ≡ stretch anew s i end (drop i (rowsOf n table)))
 
 abbrev μ-loop : tie.MeasureT-loop
-μ-loop s table n first place i₀ end₀ i end = n - i
+μ-loop s table n first place anew i₀ end₀ i end = n - i
 
 pub stretch-from-spec : {M : Type 1} → statement M
 stretch-from-spec =
@@ -27,12 +27,12 @@ stretch-from-spec =
     (λ c κs. search needs)
     (λ c.
     let i = c .before .before .before .before .loop .inv in
-    sym (i .1 ∙ stretch-stops _ _ _ _ _ _ (c .before .before .before .loop-test .taken) (c .before .before .row-at .ensures) (sym (c .before .is-next .ensures) ∙ not-true _ (c .if1 .taken))))
+    sym (i .1 ∙ stretch-stops _ _ _ _ _ _ _ (c .before .before .before .loop-test .taken) (c .before .before .row-at .ensures) (sym (c .before .is-next .ensures) ∙ not-true _ (c .if1 .taken))))
     (λ c. omega arith)
     (λ c. omega arith)
     (λ c.
     let i = c .before .before .before .before .loop .inv in
-    (omega arith, i .1 ∙ stretch-goes _ _ _ _ _ _ (c .before .before .before .loop-test .taken) (c .before .before .row-at .ensures) (sym (c .before .is-next .ensures) ∙ not-false _ (c .if1 .left))))
+    (omega arith, i .1 ∙ stretch-goes _ _ _ _ _ _ _ (c .before .before .before .loop-test .taken) (c .before .before .row-at .ensures) (sym (c .before .is-next .ensures) ∙ not-false _ (c .if1 .left))))
     (λ c.
     let i = c .before .loop .inv in
-    sym (i .1 ∙ stretch-end _ _ _ _ _ (omega (arith, c .loop-test .left)))))
+    sym (i .1 ∙ stretch-end _ _ _ _ _ _ (omega (arith, c .loop-test .left)))))

@@ -20,10 +20,10 @@ string-at-spec =
     let t = c .before .before .before in
     let n = t .before .before in
     let said = sym (n .before .before .prefix-at .ensures) ∙ n .n .given .1 in
-    sym (string-part _ _ _ _ _ said (sym (t .text-at .ensures) ∙ c .before .end .given .1)))
+    sym (string-part _ _ _ _ _ _ said (sym (t .text-at .ensures) ∙ c .before .end .given .1)))
     (λ c.
     let t = c .before .before .before in
     let n = t .before .before in
     let said = sym (n .before .before .prefix-at .ensures) ∙ n .n .given .1 in
-    sym (string-text _ _ _ _ _ said (sym (t .text-at .ensures) ∙ c .before .f .given .1)))
-    (λ c. sym (string-prefix _ _ _ (sym (c .before .before .before .prefix-at .ensures) ∙ c .before .f2 .given .1))))
+    sym (string-text _ _ _ _ _ _ said (sym (t .text-at .ensures) ∙ c .before .f .given .1)))
+    (λ c. sym (string-prefix _ _ _ _ (sym (c .before .before .before .prefix-at .ensures) ∙ c .before .f2 .given .1))))

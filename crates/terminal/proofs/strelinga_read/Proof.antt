@@ -1,5 +1,5 @@
 -- The reply and the table are those of `read`.
-use Rattle.terminal.specs.Terminal.{read-told}
+use Rattle.terminal.specs.Terminal.{read-told, read-left}
 use borrow.Author.Needs.{needs}
 use Rattle.terminal.proofs.strelinga_read.Statement.{statement}
 use Rattle.terminal.proofs.strelinga_read.Tie as tie
@@ -10,5 +10,6 @@ strelinga-read-spec =
     (tie.spec
     (λ c κs. search needs)
     (λ c κs. search needs)
+    (λ c κs. search needs)
     (λ c. search needs)
-    (λ c. search (read-told, needs)))
+    (λ c. search (read-told, read-left, needs)))

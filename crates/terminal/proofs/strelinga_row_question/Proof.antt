@@ -10,4 +10,5 @@ strelinga-row-question-spec =
     (tie.spec
     (λ c κs. search needs)
     (λ c κs. search needs)
+    (λ c κs. search needs)
     (λ c. search (row-told, needs)))

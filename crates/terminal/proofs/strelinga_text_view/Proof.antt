@@ -10,4 +10,5 @@ strelinga-text-view-spec =
     (tie.spec
     (λ c κs. search needs)
     (λ c κs. search needs)
+    (λ c κs. search needs)
     (λ c. search (shown, needs)))

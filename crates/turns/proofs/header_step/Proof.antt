@@ -26,9 +26,9 @@ header-step-spec =
     let a = c .before .before .before .before .before .before .before .before .before .before .before .args in
     let k = c .before .before .before .before .before .before .before .before .kind-at in
     let o = c .before .before .long-step in
-    (o .ensures .0 ∙ record-on (a .s .now) (roomOf (a .table .now)) (stateOf (a .table .now) (a .frames .now) (a .m)) W.Start (k .result) (k .ensures) _ _ (c .before .before .before .before .before .before .k .given .1) refl, o .ensures .1))
+    (o .ensures .0 ∙ record-on _ (a .s .now) (roomOf (a .table .now)) (stateOf (a .table .now) (a .frames .now) (a .m)) W.Start (k .result) (k .ensures) _ _ (c .before .before .before .before .before .before .k .given .1) refl, o .ensures .1))
     (λ c.
     let a = c .before .before .before .before .before .before .args in
     let p = c .before .before .before .before .before .before .pre in
     let k = c .before .before .before .kind-at in
-    (record-off (a .s .now) (roomOf (a .table .now)) (stateOf (a .table .now) (a .frames .now) (a .m)) W.Start (k .result) (k .ensures) _ (c .before .k2 .given .1), p .1)))
+    (record-off _ (a .s .now) (roomOf (a .table .now)) (stateOf (a .table .now) (a .frames .now) (a .m)) W.Start (k .result) (k .ensures) _ (c .before .k2 .given .1), p .1)))

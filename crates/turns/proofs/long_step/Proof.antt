@@ -18,7 +18,7 @@ long-step-spec =
     let a = c .before .before .before .before .before .before .args in
     let p = c .before .before .before .before .before .before .pre in
     let h = c .before .before .heading-at in
-    (p .0, heading-short (a .s .now) _ _ (a .m .at) (h .result) (h .ensures) (p .1) (p .3), p .2, p .3))
+    (p .0, heading-short _ (a .s .now) _ _ (a .m .at) (h .result) (h .ensures) (p .1) (p .3), p .2, p .3))
     (λ c. search needs)
     (λ c.
     let a = c .before .before .before .before .before .before .before .before .before .args in

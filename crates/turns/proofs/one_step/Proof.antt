@@ -1,5 +1,6 @@
 -- What the next slot waits for decides which of the two steps it is.
 use mathlib.Core.Path.{ap, _∙_}
+use Rattle.format.specs.Terms.{terms}
 use Rattle.format.specs.Rows.{roomOf}
 use Rattle.adding.specs.Held.{stateOf}
 use Rattle.format.specs.declared.Where.{Where}
@@ -23,11 +24,11 @@ one-step-spec =
     (λ c.
     let a = c .before .before .before .before .before .before .before .before .before .before .before .before .args in
     let d = c .before .before .before .before .before .before .before .before .due-in in
-    (c .before .before .take-value .ensures ∙ due-step (a .s .now) (roomOf (a .table .now)) (stateOf (a .table .now) (a .frames .now) (a .m)) (d .result) _ (d .ensures) (c .before .before .before .before .before .before .d .given .1), c .before .before .before .before .before .before .before .before .before .before .before .before .pre .1))
+    (c .before .before .take-value .ensures ∙ due-step _ (a .s .now) (roomOf (a .table .now)) (stateOf (a .table .now) (a .frames .now) (a .m)) (d .result) _ (d .ensures) (c .before .before .before .before .before .before .d .given .1), c .before .before .before .before .before .before .before .before .before .before .before .before .pre .1))
     (λ c. search needs)
     (λ c.
     let a = c .before .before .before .before .before .before .before .before .before .before .before .before .before .args in
     let d = c .before .before .before .before .before .before .before .before .before .due-in in
     let o = c .before .before .record-step in
     let v = c .before .before .before .before .before .where-in in
-    (o .ensures .0 ∙ ap (λ (z : Where). recordStep (a .s .now) (roomOf (a .table .now)) (stateOf (a .table .now) (a .frames .now) (a .m)) z) (v .ensures (a .frames .now)) ∙ due-step (a .s .now) (roomOf (a .table .now)) (stateOf (a .table .now) (a .frames .now) (a .m)) (d .result) _ (d .ensures) (c .before .before .before .before .before .before .before .d2 .given .1), o .ensures .1)))
+    (o .ensures .0 ∙ ap (λ (z : Where). recordStep (terms (a .setting)) (a .s .now) (roomOf (a .table .now)) (stateOf (a .table .now) (a .frames .now) (a .m)) z) (v .ensures (a .frames .now)) ∙ due-step _ (a .s .now) (roomOf (a .table .now)) (stateOf (a .table .now) (a .frames .now) (a .m)) (d .result) _ (d .ensures) (c .before .before .before .before .before .before .before .d2 .given .1), o .ensures .1)))

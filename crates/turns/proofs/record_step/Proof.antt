@@ -28,14 +28,14 @@ record-step-spec =
     let p = c .before .before .before .before .before .before .before .before .before .pre in
     let h = c .before .before .brief-at in
     let q = sym (c .before .before .before .before .before .before .is-brief-at .ensures) ∙ c .before .before .before .before .before .if1 .taken in
-    (p .0, heading-short (a .s .now) _ _ (a .m .at) (h .result) (h .ensures .0) (brief-within (a .s .now) (a .w) (a .m .at) q) (p .2), h .ensures .1, brief-is (a .s .now) (a .w) (a .m .at) q, p .1, p .2))
+    (p .0, heading-short _ (a .s .now) _ _ (a .m .at) (h .result) (h .ensures .0) (brief-within (a .s .now) (a .w) (a .m .at) q) (p .2), h .ensures .1, brief-is (a .s .now) (a .w) (a .m .at) q, p .1, p .2))
     (λ c. search needs)
     (λ c.
     let a = c .before .before .before .before .before .before .before .before .before .before .before .before .args in
     let h = c .before .before .before .before .before .brief-at in
     let o = c .before .before .take-brief in
     let q = sym (c .before .before .before .before .before .before .before .before .before .is-brief-at .ensures) ∙ c .before .before .before .before .before .before .before .before .if1 .taken in
-    (o .ensures ∙ record-on (a .s .now) (roomOf (a .table .now)) (stateOf (a .table .now) (a .frames .now) (a .m)) (a .w) (kindAt (a .s .now) (a .w) (a .m .at)) refl _ (h .result) (brief-taken (a .s .now) (a .w) (a .m .at) q) (h .ensures .0), c .before .before .before .before .before .before .before .before .before .before .before .before .pre .1))
+    (o .ensures ∙ record-on _ (a .s .now) (roomOf (a .table .now)) (stateOf (a .table .now) (a .frames .now) (a .m)) (a .w) (kindAt (a .s .now) (a .w) (a .m .at)) refl _ (h .result) (brief-taken (a .s .now) (a .w) (a .m .at) q) (h .ensures .0), c .before .before .before .before .before .before .before .before .before .before .before .before .pre .1))
     (λ c κs. search needs)
     (λ c. search needs)
     (λ c κs.
@@ -49,8 +49,8 @@ record-step-spec =
     let a = c .before .before .before .before .before .before .before .before .before .before .before .before .before .args in
     let k = c .before .before .before .before .before .before .before .before .kind-at in
     let o = c .before .before .long-step in
-    (o .ensures .0 ∙ record-on (a .s .now) (roomOf (a .table .now)) (stateOf (a .table .now) (a .frames .now) (a .m)) (a .w) (k .result) (k .ensures) _ _ (c .before .before .before .before .before .before .k .given .1) refl, o .ensures .1))
+    (o .ensures .0 ∙ record-on _ (a .s .now) (roomOf (a .table .now)) (stateOf (a .table .now) (a .frames .now) (a .m)) (a .w) (k .result) (k .ensures) _ _ (c .before .before .before .before .before .before .k .given .1) refl, o .ensures .1))
     (λ c.
     let a = c .before .before .before .before .before .before .before .before .args in
     let k = c .before .before .before .kind-at in
-    (record-off (a .s .now) (roomOf (a .table .now)) (stateOf (a .table .now) (a .frames .now) (a .m)) (a .w) (k .result) (k .ensures) _ (c .before .k2 .given .1), c .before .before .before .before .before .before .before .before .pre .1)))
+    (record-off _ (a .s .now) (roomOf (a .table .now)) (stateOf (a .table .now) (a .frames .now) (a .m)) (a .w) (k .result) (k .ensures) _ (c .before .k2 .given .1), c .before .before .before .before .before .before .before .before .pre .1)))

@@ -12,5 +12,5 @@ name-at-spec =
     (λ c κs. search needs)
     (λ c. search needs)
     (λ c. search needs)
-    (λ c. sym (name-end _ _ _ _ (sym (c .before .before .before .string-at .ensures) ∙ c .before .end .given .1)))
-    (λ c. sym (name-bad _ _ _ (sym (c .before .before .before .string-at .ensures) ∙ c .before .f .given .1))))
+    (λ c. sym (name-end _ _ _ _ _ (sym (c .before .before .before .string-at .ensures) ∙ c .before .end .given .1)))
+    (λ c. sym (name-bad _ _ _ _ (sym (c .before .before .before .string-at .ensures) ∙ c .before .f .given .1))))

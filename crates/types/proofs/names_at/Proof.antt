@@ -9,10 +9,10 @@ use Rattle.types.proofs.names_at.Statement.{statement}
 use Rattle.types.proofs.names_at.Tie as tie
 
 abbrev Inv-loop : tie.InvT-loop
-Inv-loop s n at left₀ p₀ left p = times (nameAt s) n at ≡ times (nameAt s) left p
+Inv-loop s n at setting left₀ p₀ left p = times (nameAt setting s) n at ≡ times (nameAt setting s) left p
 
 abbrev μ-loop : tie.MeasureT-loop
-μ-loop s n at left₀ p₀ left p = left
+μ-loop s n at setting left₀ p₀ left p = left
 
 pub names-at-spec : {M : Type 1} → statement M
 names-at-spec =

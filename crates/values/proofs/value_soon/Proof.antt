@@ -11,6 +11,6 @@ value-soon-spec =
     (tie.spec
     (λ c κs. search needs)
     (λ c κs. search needs)
-    (λ c. c .bytes-at .ensures ∙ value-sized _ _ _ _ (c .before .before .size-of .ensures) (c .before .if1 .taken))
+    (λ c. c .bytes-at .ensures ∙ value-sized _ _ _ _ _ (c .before .before .size-of .ensures) (c .before .if1 .taken))
     (λ c κs. search needs)
     (λ c. search needs))

@@ -12,5 +12,5 @@ row-question-spec =
     (λ c κs. search needs)
     (λ c. search needs)
     (λ c. search needs)
-    (λ c. question-promised _ _ _ _ (question-part _ _ _ _ (c .before .before .row-text .ensures) _ _ (c .enum-told .given .1)))
-    (λ c. question-promised _ _ _ _ (question-fault _ _ _ _ (c .before .before .row-text .ensures) _ (c .enum-told2 .given .1))))
+    (λ c. question-promised _ _ _ _ _ (question-part _ _ _ _ _ (c .before .before .row-text .ensures) _ _ (c .enum-told .given .1)))
+    (λ c. question-promised _ _ _ _ _ (question-fault _ _ _ _ _ (c .before .before .row-text .ensures) _ (c .enum-told2 .given .1))))

@@ -2,11 +2,11 @@
 use native.Mathlib.Omega.{arith}
 use lib.ListN.{length-take}
 use borrow.Author.Needs.{needs}
-use Rattle.differ.proofs.main.Statement.{statement}
-use Rattle.differ.proofs.main.Tie as tie
+use Rattle.differ.proofs.files.Statement.{statement}
+use Rattle.differ.proofs.files.Tie as tie
 
-pub main-spec : {M : Type 1} → statement M
-main-spec =
+pub files-spec : {M : Type 1} → statement M
+files-spec =
     tie.close
     (tie.spec
     (λ c κs. search needs)
