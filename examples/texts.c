@@ -24,22 +24,25 @@ int main(void) {
         return 2;
     }
 
-    uint32_t reply = strelinga_read(stream, bytes, table, WORDS, &place, &rows);
+    /* Ask for texts with the setting with which the list was read. */
+    const uint32_t setting = STRELINGA_STRICT;
+
+    uint32_t reply = strelinga_read(stream, bytes, table, WORDS, setting, &place, &rows);
     if (reply != STRELINGA_DONE) {
         return refused(reply, place);
     }
     printf("accepted %" PRIu64 "\n", rows);
 
     for (uint64_t row = 0; row < rows; row++) {
-        if (strelinga_row_question(stream, bytes, table, WORDS, row) == STRELINGA_DONE) {
-            strelinga_text_view(stream, bytes, table, WORDS, row, &from, &length);
+        if (strelinga_row_question(stream, bytes, table, WORDS, row, setting) == STRELINGA_DONE) {
+            strelinga_text_view(stream, bytes, table, WORDS, row, setting, &from, &length);
             printf("row %" PRIu64 ": ", row);
             fwrite(stream + from, 1, length, stdout);
             printf("\n");
         }
     }
 
-    reply = strelinga_tidy(stream, bytes, table, WORDS, copy, sizeof copy, &place, &length);
+    reply = strelinga_tidy(stream, bytes, table, WORDS, copy, sizeof copy, setting, &place, &length);
     if (reply != STRELINGA_DONE) {
         return refused(reply, place);
     }

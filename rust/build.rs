@@ -5,7 +5,7 @@ use std::process::exit;
 
 fn fail(trouble: &str) -> ! {
     eprintln!("strelinga: {trouble}");
-    eprintln!("strelinga: set STRELINGA to the archive of the proved jobs, as in: STRELINGA=$(tests/library) cargo build");
+    eprintln!("strelinga: set STRELINGA to the archive of the proved jobs, for instance in rust/: STRELINGA=$(../tests/library) cargo build");
     exit(1);
 }
 

@@ -1,6 +1,6 @@
 /* Calls each job of strelinga.h with null pointers beside counts of 0: each lent part by itself, every choice of several, and all at once. Holds the
-   replies, the numbers handed out and every byte of what is lent against the rules. Prints how many calls there were; ends with 1 at the first
-   that is answered otherwise. */
+   replies, the numbers handed out and every byte of what is lent against the rules. Then with numbers for the setting: 0 is strict, every other
+   lenient. Prints how many calls there were; ends with 1 at the first that is answered otherwise. */
 #include <stdio.h>
 #include <stdlib.h>
 #include <string.h>
@@ -68,7 +68,7 @@ static int handed_are(uint64_t a, uint64_t b, uint64_t c, uint64_t d) {
 
 static void reads(unsigned nulls) {
     prepare();
-    uint32_t reply = strelinga_read(LENT(0, list), COUNT(0, sizeof list), LENT(1, table), COUNT(1, WORDS), &handed[0], &handed[1]);
+    uint32_t reply = strelinga_read(LENT(0, list), COUNT(0, sizeof list), LENT(1, table), COUNT(1, WORDS), STRELINGA_STRICT, &handed[0], &handed[1]);
     uint32_t right = IS_NULL(0) ? STRELINGA_CUT_SHORT : IS_NULL(1) ? STRELINGA_NO_ROOM : STRELINGA_DONE;
     hold(reply == right && handed_are(0, right ? 0 : 3, UNTOUCHED, UNTOUCHED) && table_is(!IS_NULL(1), !right), "read", nulls);
 }
@@ -77,18 +77,19 @@ static void views(unsigned nulls, uint64_t row) {
     prepare();
     memset(table, 0, sizeof table);
     memcpy(table, reading, sizeof reading);
-    uint32_t reply = strelinga_row_question(LENT(0, list), COUNT(0, sizeof list), LENT(1, table), COUNT(1, WORDS), row);
+    uint32_t reply = strelinga_row_question(LENT(0, list), COUNT(0, sizeof list), LENT(1, table), COUNT(1, WORDS), row, STRELINGA_STRICT);
     uint32_t right = nulls || row != 1 ? STRELINGA_NO_SUCH_ROW : STRELINGA_DONE;
     hold(reply == right && table_is(1, 1), "row question", nulls);
     calls++;
-    reply = strelinga_text_view(LENT(0, list), COUNT(0, sizeof list), LENT(1, table), COUNT(1, WORDS), row, &handed[0], &handed[1]);
+    reply = strelinga_text_view(LENT(0, list), COUNT(0, sizeof list), LENT(1, table), COUNT(1, WORDS), row, STRELINGA_STRICT, &handed[0],
+                                &handed[1]);
     hold(reply == right && handed_are(right ? 0 : 23, right ? 0 : 4, UNTOUCHED, UNTOUCHED) && table_is(1, 1), "text view", nulls);
 }
 
 static void tidies(unsigned nulls) {
     prepare();
     uint32_t reply = strelinga_tidy(LENT(0, list), COUNT(0, sizeof list), LENT(1, table), COUNT(1, WORDS), LENT(2, first), COUNT(2, ROOM),
-                                    &handed[0], &handed[1]);
+                                    STRELINGA_STRICT, &handed[0], &handed[1]);
     uint32_t right = IS_NULL(0) ? STRELINGA_CUT_SHORT : IS_NULL(1) ? STRELINGA_NO_ROOM : IS_NULL(2) ? STRELINGA_OUT_FULL : STRELINGA_DONE;
     uint64_t length = right == STRELINGA_DONE || right == STRELINGA_OUT_FULL ? sizeof list : 0;
     hold(reply == right && handed_are(0, length, UNTOUCHED, UNTOUCHED) && table_is(!IS_NULL(1), !right) && output_is(first, !right), "tidy", nulls);
@@ -97,8 +98,8 @@ static void tidies(unsigned nulls) {
 static void compares(unsigned nulls) {
     prepare();
     uint32_t reply = strelinga_say_the_same(LENT(0, list), COUNT(0, sizeof list), LENT(1, list), COUNT(1, sizeof list), LENT(2, table),
-                                            COUNT(2, WORDS), LENT(3, first), COUNT(3, ROOM), LENT(4, second), COUNT(4, ROOM), &handed[0],
-                                            &handed[1], &handed[2], &handed[3]);
+                                            COUNT(2, WORDS), LENT(3, first), COUNT(3, ROOM), LENT(4, second), COUNT(4, ROOM),
+                                            STRELINGA_STRICT, STRELINGA_STRICT, &handed[0], &handed[1], &handed[2], &handed[3]);
     uint32_t of_first = IS_NULL(0) ? STRELINGA_CUT_SHORT : IS_NULL(2) ? STRELINGA_NO_ROOM : IS_NULL(3) ? STRELINGA_OUT_FULL : STRELINGA_DONE;
     uint32_t of_second = IS_NULL(1) ? STRELINGA_CUT_SHORT : IS_NULL(4) ? STRELINGA_OUT_FULL : STRELINGA_DONE;
     uint32_t right = of_first ? of_first : of_second;
@@ -112,11 +113,47 @@ static void compares(unsigned nulls) {
 /* A stream over the limit, beside no table and no output. */
 static void refuses_too_large(void) {
     prepare();
-    uint32_t reply = strelinga_read(too_large, sizeof too_large, NULL, 0, &handed[0], &handed[1]);
+    uint32_t reply = strelinga_read(too_large, sizeof too_large, NULL, 0, STRELINGA_STRICT, &handed[0], &handed[1]);
     hold(reply == STRELINGA_TOO_LARGE && handed_are(0, 0, UNTOUCHED, UNTOUCHED), "read, too large", 2);
     prepare();
-    reply = strelinga_tidy(too_large, sizeof too_large, NULL, 0, NULL, 0, &handed[0], &handed[1]);
+    reply = strelinga_tidy(too_large, sizeof too_large, NULL, 0, NULL, 0, STRELINGA_STRICT, &handed[0], &handed[1]);
     hold(reply == STRELINGA_TOO_LARGE && handed_are(0, 0, UNTOUCHED, UNTOUCHED), "tidy, too large", 6);
+}
+
+/* The same list with the text's length in two bytes: its reading, and a reply that depends on the setting. */
+static const uint8_t padded[] = {0, 1, 0, 0, 0, 1, 0, 0, 0, 1, 0, 0, 0, 0, 0, 0, 0, 6, 1, 0, 0, 0, 0x84, 0, '1', '2', 'E', '5', 11};
+static const uint32_t padded_reading[] = {0, 0, 17, 1, 0, 0, 2, 0, 6, 17, 28, 1, 0, 0, 0, 0, 11, 28, 29, 0, 0, 0, 0, 0};
+
+static void settles(uint32_t setting) {
+    int lenient = setting != 0;
+    uint32_t right = lenient ? STRELINGA_DONE : STRELINGA_BAD_LENGTH;
+    uint64_t place = lenient ? 0 : 17;
+    prepare();
+    uint32_t reply = strelinga_read(padded, sizeof padded, table, WORDS, setting, &handed[0], &handed[1]);
+    int rows = !memcmp(table, padded_reading, sizeof padded_reading);
+    hold(reply == right && handed_are(place, lenient ? 3 : 0, UNTOUCHED, UNTOUCHED) && (lenient ? rows : table_is(1, 0)), "read, setting", setting);
+    prepare();
+    reply = strelinga_tidy(padded, sizeof padded, table, WORDS, first, ROOM, setting, &handed[0], &handed[1]);
+    hold(reply == right && handed_are(place, lenient ? sizeof list : 0, UNTOUCHED, UNTOUCHED) && output_is(first, lenient), "tidy, setting", setting);
+    prepare();
+    memcpy(table, padded_reading, sizeof padded_reading);
+    right = lenient ? STRELINGA_DONE : STRELINGA_NO_SUCH_ROW;
+    reply = strelinga_row_question(padded, sizeof padded, table, WORDS, 1, setting);
+    hold(reply == right, "row question, setting", setting);
+    calls++;
+    reply = strelinga_text_view(padded, sizeof padded, table, WORDS, 1, setting, &handed[0], &handed[1]);
+    hold(reply == right && handed_are(lenient ? 24 : 0, lenient ? 4 : 0, UNTOUCHED, UNTOUCHED), "text view, setting", setting);
+}
+
+/* Each list is read under its own setting. */
+static void settles_both(uint32_t a_setting, uint32_t b_setting) {
+    prepare();
+    uint32_t reply = strelinga_say_the_same(padded, sizeof padded, padded, sizeof padded, table, WORDS, first, ROOM, second, ROOM, a_setting,
+                                            b_setting, &handed[0], &handed[1], &handed[2], &handed[3]);
+    uint64_t which = !a_setting ? 1 : !b_setting ? 2 : 0;
+    uint32_t right = which ? STRELINGA_BAD_LENGTH : STRELINGA_DONE;
+    hold(reply == right && handed_are(!which, which, which ? 17 : 0, 0) && output_is(first, which != 1) && output_is(second, !which),
+         "say the same, settings", a_setting);
 }
 
 int main(void) {
@@ -134,6 +171,13 @@ int main(void) {
         compares(nulls);
     }
     refuses_too_large();
+    static const uint32_t settings[] = {STRELINGA_STRICT, STRELINGA_LENIENT, 2, 256, 0x80000000u, UINT32_MAX};
+    for (size_t a = 0; a < sizeof settings / sizeof settings[0]; a++) {
+        settles(settings[a]);
+        for (size_t b = 0; b < sizeof settings / sizeof settings[0]; b++) {
+            settles_both(settings[a], settings[b]);
+        }
+    }
     printf("%u calls\n", calls);
     return 0;
 }

@@ -4,7 +4,7 @@ use std::error::Error;
 use std::fmt::Display;
 use std::io::{stdin, stdout, Read, Write};
 use std::process::exit;
-use strelinga::{read, rows, text, tidy, Refusal, ROW_WORDS};
+use strelinga::{read, rows, text, tidy, Refusal, Setting, ROW_WORDS};
 
 const BYTES: usize = 65_536;
 
@@ -23,20 +23,23 @@ fn main() -> Result<(), Box<dyn Error>> {
     let mut table = vec![0; 8192 * ROW_WORDS];
     let mut copy = vec![0; 2 * BYTES];
 
-    match read(&stream, &mut table) {
+    // Ask for texts with the setting with which the list was read.
+    let setting = Setting::Strict;
+
+    match read(&stream, &mut table, setting) {
         Ok(count) => println!("accepted {count}"),
         Err(e) => refused(e.refusal, e.place),
     }
 
     for number in 0..rows(&table).count() {
-        if let Some(text) = text(&stream, &table, number) {
+        if let Some(text) = text(&stream, &table, number, setting) {
             print!("row {number}: ");
             stdout().write_all(text)?;
             println!();
         }
     }
 
-    match tidy(&stream, &mut table, &mut copy) {
+    match tidy(&stream, &mut table, &mut copy, setting) {
         Ok(length) => println!("tidy copy: {length} of {} bytes", stream.len()),
         Err(e) => refused(e.refusal(), e.place()),
     }

@@ -2,12 +2,15 @@
 //! and what is written overlaps nothing else that is lent, since it is borrowed mutably. The jobs ask nothing more, and keep nothing.
 #![allow(unsafe_code)]
 
+use crate::Setting;
+
 extern "C" {
     fn strelinga_read(
         stream: *const u8,
         bytes: usize,
         table: *mut u32,
         words: usize,
+        setting: u32,
         place: &mut u64,
         rows: &mut u64,
     ) -> u32;
@@ -18,6 +21,7 @@ extern "C" {
         table: *const u32,
         words: usize,
         row: u64,
+        setting: u32,
     ) -> u32;
 
     fn strelinga_text_view(
@@ -26,6 +30,7 @@ extern "C" {
         table: *const u32,
         words: usize,
         row: u64,
+        setting: u32,
         from: &mut u64,
         length: &mut u64,
     ) -> u32;
@@ -37,6 +42,7 @@ extern "C" {
         words: usize,
         out: *mut u8,
         room: usize,
+        setting: u32,
         place: &mut u64,
         length: &mut u64,
     ) -> u32;
@@ -52,6 +58,8 @@ extern "C" {
         first_room: usize,
         second: *mut u8,
         second_room: usize,
+        a_setting: u32,
+        b_setting: u32,
         same: &mut u64,
         list: &mut u64,
         place: &mut u64,
@@ -73,7 +81,7 @@ pub(crate) struct Comparison {
     pub list: u64,
 }
 
-pub(crate) fn read(stream: &[u8], table: &mut [u32]) -> Reply {
+pub(crate) fn read(stream: &[u8], table: &mut [u32], setting: Setting) -> Reply {
     let (mut place, mut value) = (0, 0);
     let number = unsafe {
         strelinga_read(
@@ -81,6 +89,7 @@ pub(crate) fn read(stream: &[u8], table: &mut [u32]) -> Reply {
             stream.len(),
             table.as_mut_ptr(),
             table.len(),
+            setting.number(),
             &mut place,
             &mut value,
         )
@@ -88,14 +97,26 @@ pub(crate) fn read(stream: &[u8], table: &mut [u32]) -> Reply {
     Reply { number, place, value }
 }
 
-pub(crate) fn row_question(stream: &[u8], table: &[u32], row: u64) -> u32 {
+pub(crate) fn row_question(stream: &[u8], table: &[u32], row: u64, setting: Setting) -> u32 {
     unsafe {
-        strelinga_row_question(stream.as_ptr(), stream.len(), table.as_ptr(), table.len(), row)
+        strelinga_row_question(
+            stream.as_ptr(),
+            stream.len(),
+            table.as_ptr(),
+            table.len(),
+            row,
+            setting.number(),
+        )
     }
 }
 
 /// The number, and where the text stands: its place and how many bytes it has.
-pub(crate) fn text_view(stream: &[u8], table: &[u32], row: u64) -> (u32, u64, u64) {
+pub(crate) fn text_view(
+    stream: &[u8],
+    table: &[u32],
+    row: u64,
+    setting: Setting,
+) -> (u32, u64, u64) {
     let (mut from, mut length) = (0, 0);
     let number = unsafe {
         strelinga_text_view(
@@ -104,6 +125,7 @@ pub(crate) fn text_view(stream: &[u8], table: &[u32], row: u64) -> (u32, u64, u6
             table.as_ptr(),
             table.len(),
             row,
+            setting.number(),
             &mut from,
             &mut length,
         )
@@ -111,7 +133,7 @@ pub(crate) fn text_view(stream: &[u8], table: &[u32], row: u64) -> (u32, u64, u6
     (number, from, length)
 }
 
-pub(crate) fn tidy(stream: &[u8], table: &mut [u32], out: &mut [u8]) -> Reply {
+pub(crate) fn tidy(stream: &[u8], table: &mut [u32], out: &mut [u8], setting: Setting) -> Reply {
     let (mut place, mut value) = (0, 0);
     let number = unsafe {
         strelinga_tidy(
@@ -121,6 +143,7 @@ pub(crate) fn tidy(stream: &[u8], table: &mut [u32], out: &mut [u8]) -> Reply {
             table.len(),
             out.as_mut_ptr(),
             out.len(),
+            setting.number(),
             &mut place,
             &mut value,
         )
@@ -134,6 +157,7 @@ pub(crate) fn say_the_same(
     table: &mut [u32],
     first: &mut [u8],
     second: &mut [u8],
+    [a_setting, b_setting]: [Setting; 2],
 ) -> Comparison {
     let (mut same, mut list, mut place, mut value) = (0, 0, 0, 0);
     let number = unsafe {
@@ -148,6 +172,8 @@ pub(crate) fn say_the_same(
             first.len(),
             second.as_mut_ptr(),
             second.len(),
+            a_setting.number(),
+            b_setting.number(),
             &mut same,
             &mut list,
             &mut place,

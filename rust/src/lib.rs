@@ -3,15 +3,17 @@
 //!
 //! The jobs are proved; this crate only calls them, and nothing proves the calls. Everything is lent by the caller: a table is 32-bit words,
 //! eight to a row, an output is bytes. Any bytes and any sizes are taken, none at all too. Nothing is allocated, nothing is kept after a
-//! call, and nothing is shared, so calls on separate memory may run at once.
+//! call, and nothing is shared, so calls on separate memory may run at once. A [`Setting`] says which length prefixes are taken.
 //!
 //! ```no_run
+//! # use strelinga::Setting;
 //! # fn main() -> Result<(), strelinga::Refused> {
 //! # let stream = Vec::new();
 //! let mut table = vec![0; strelinga::ROW_WORDS * stream.len()];
-//! let count = strelinga::read(&stream, &mut table)?;
+//! let setting = Setting::Strict; // ask for texts with the setting with which the list was read
+//! let count = strelinga::read(&stream, &mut table, setting)?;
 //! for (number, row) in strelinga::rows(&table).enumerate() {
-//!     if let Some(text) = strelinga::text(&stream, &table, number) {
+//!     if let Some(text) = strelinga::text(&stream, &table, number, setting) {
 //!         println!("row {number} at {}: {}", row.offset(), String::from_utf8_lossy(text));
 //!     }
 //! }
@@ -34,9 +36,28 @@ pub use row::{rows, Row, RowKind, ROW_WORDS};
 /// The most bytes that a stream may have; a longer one is refused with [`Refusal::TooLarge`].
 pub const STREAM_LIMIT: usize = 16_777_216;
 
-/// Reads a stream into a table of rows and answers how many there are. The words after the last row are 0; after a refusal all are.
-pub fn read(stream: &[u8], table: &mut [u32]) -> Result<usize, Refused> {
-    let reply = calls::read(stream, table);
+/// Which prefixes the lengths of names, texts and Decimals may have.
+#[derive(Clone, Copy, Debug, PartialEq, Eq, Hash)]
+pub enum Setting {
+    /// The shortest alone.
+    Strict,
+    /// Any of at most 5 bytes whose fifth is at most 7: 84 00 is 4, as 04 is.
+    Lenient,
+}
+
+impl Setting {
+    fn number(self) -> u32 {
+        match self {
+            Setting::Strict => 0,
+            Setting::Lenient => 1,
+        }
+    }
+}
+
+/// Reads a stream into a table of rows and answers how many there are. The words after the last row are 0; after a refusal all are. An end
+/// word counts the prefix as it is written.
+pub fn read(stream: &[u8], table: &mut [u32], setting: Setting) -> Result<usize, Refused> {
+    let reply = calls::read(stream, table, setting);
     match reply.number {
         0 => Ok(reply.value as usize),
         _ => Err(refused(&reply)),
@@ -44,17 +65,23 @@ pub fn read(stream: &[u8], table: &mut [u32]) -> Result<usize, Refused> {
 }
 
 /// Whether a row has text: its kind is 6, and a whole string record starts at its offset and ends at its end word. Else it is refused with
-/// [`Refusal::NoSuchRow`]. Rows are numbered from 0. Stream and table may be any.
-pub fn row_question(stream: &[u8], table: &[u32], row: usize) -> Result<(), Refusal> {
-    match calls::row_question(stream, table, row as u64) {
+/// [`Refusal::NoSuchRow`]. Rows are numbered from 0. Stream and table may be any. The setting is the question's own, whatever the table was
+/// read with: strict, a row of a padded text has none. So ask with the setting with which the list was read.
+pub fn row_question(
+    stream: &[u8],
+    table: &[u32],
+    row: usize,
+    setting: Setting,
+) -> Result<(), Refusal> {
+    match calls::row_question(stream, table, row as u64, setting) {
         0 => Ok(()),
         number => Err(Refusal::from_number(number)),
     }
 }
 
 /// The text of a row, a part of the stream; none where the row question is refused. An empty text is `Some` and empty. It is UTF-8.
-pub fn text<'s>(stream: &'s [u8], table: &[u32], row: usize) -> Option<&'s [u8]> {
-    let (number, from, length) = calls::text_view(stream, table, row as u64);
+pub fn text<'s>(stream: &'s [u8], table: &[u32], row: usize, setting: Setting) -> Option<&'s [u8]> {
+    let (number, from, length) = calls::text_view(stream, table, row as u64, setting);
     if number != 0 {
         return None;
     }
@@ -63,9 +90,15 @@ pub fn text<'s>(stream: &'s [u8], table: &[u32], row: usize) -> Option<&'s [u8]>
 }
 
 /// Writes the tidy copy of a stream to the front of the output and answers how long it is. The rest of the output is untouched, and the table
-/// is the reading of the stream. After a refusal the table is all zero and the output unchanged.
-pub fn tidy(stream: &[u8], table: &mut [u32], out: &mut [u8]) -> Result<usize, TidyError> {
-    let reply = calls::tidy(stream, table, out);
+/// is the reading of the stream. After a refusal the table is all zero and the output unchanged. The copy has the shortest prefixes under
+/// either setting.
+pub fn tidy(
+    stream: &[u8],
+    table: &mut [u32],
+    out: &mut [u8],
+    setting: Setting,
+) -> Result<usize, TidyError> {
+    let reply = calls::tidy(stream, table, out, setting);
     match reply.number {
         0 => Ok(reply.value as usize),
         _ => Err(not_tidied(&reply)),
@@ -73,15 +106,17 @@ pub fn tidy(stream: &[u8], table: &mut [u32], out: &mut [u8]) -> Result<usize, T
 }
 
 /// Whether two lists say the same. The tidy copies go to the fronts of `first` and `second`, and the table serves both readings, the second
-/// last. Where the first list has no copy the second is not looked at, and the second output is unchanged.
+/// last. Where the first list has no copy the second is not looked at, and the second output is unchanged. Each list has a setting of its own.
 pub fn say_the_same(
     a: &[u8],
     b: &[u8],
     table: &mut [u32],
     first: &mut [u8],
     second: &mut [u8],
+    a_setting: Setting,
+    b_setting: Setting,
 ) -> Result<bool, NotCompared> {
-    let answer = calls::say_the_same(a, b, table, first, second);
+    let answer = calls::say_the_same(a, b, table, first, second, [a_setting, b_setting]);
     match answer.reply.number {
         0 => Ok(answer.same != 0),
         _ => Err(NotCompared { list: list(answer.list), error: not_tidied(&answer.reply) }),

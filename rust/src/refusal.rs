@@ -18,7 +18,7 @@ pub enum Refusal {
     WrongPlace,
     /// 6: a version that is not 1, 0.
     BadVersion,
-    /// 7: a length prefix that breaks its rule.
+    /// 7: a length prefix that breaks its rule; lenient, a fifth byte over 7.
     BadLength,
     /// 8: text that is not UTF-8.
     BadText,
@@ -46,7 +46,7 @@ pub enum Refusal {
     NoObject,
     /// 20: the tidy copy is longer than the output or the stream limit. [`TidyError::OutFull`] carries the length that it needs.
     OutFull,
-    /// 21: the row has no text.
+    /// 21: the row has no text, or it is padded and was asked for in strict. Ask with the setting with which the list was read.
     NoSuchRow,
     /// A number that is none of these. The library of this version answers none; one of another version may.
     Unknown(u32),

@@ -1,5 +1,6 @@
 //! The safe functions on the counter examples of the rules: what comes back, and what is left in the lent memory.
 
+use strelinga::Setting::{Lenient, Strict};
 use strelinga::{
     read, row_question, rows, say_the_same, text, tidy, List, NotCompared, Refusal, Refused,
     RowKind, TidyError, ROW_WORDS, STREAM_LIMIT,
@@ -42,7 +43,7 @@ fn table() -> Vec<u32> {
 /// What a refused reading answers, after a look at the table: all of it is zero.
 fn refusal(stream: &[u8]) -> (Refusal, usize) {
     let mut table = table();
-    let e = read(stream, &mut table).expect_err("refused");
+    let e = read(stream, &mut table, Strict).expect_err("refused");
     assert!(table.iter().all(|word| *word == 0));
     (e.refusal, e.place)
 }
@@ -51,14 +52,14 @@ fn refusal(stream: &[u8]) -> (Refusal, usize) {
 fn the_text_12e5_is_text() {
     let stream = case_2();
     let mut table = table();
-    assert_eq!(read(&stream, &mut table), Ok(3));
+    assert_eq!(read(&stream, &mut table, Strict), Ok(3));
     let kinds: Vec<_> = rows(&table).map(|row| row.kind()).collect();
     assert_eq!(kinds, [RowKind::Header, RowKind::String, RowKind::End]);
-    assert_eq!(text(&stream, &table, 1), Some(&b"12E5"[..]));
-    assert_eq!(row_question(&stream, &table, 1), Ok(()));
+    assert_eq!(text(&stream, &table, 1, Strict), Some(&b"12E5"[..]));
+    assert_eq!(row_question(&stream, &table, 1, Strict), Ok(()));
     for row in [0, 2, 3, 16, usize::MAX] {
-        assert_eq!(text(&stream, &table, row), None);
-        assert_eq!(row_question(&stream, &table, row), Err(Refusal::NoSuchRow));
+        assert_eq!(text(&stream, &table, row, Strict), None);
+        assert_eq!(row_question(&stream, &table, row, Strict), Err(Refusal::NoSuchRow));
     }
     assert!(table[3 * ROW_WORDS..].iter().all(|word| *word == 0));
 }
@@ -68,8 +69,8 @@ fn the_text_outlives_the_table() {
     let stream = case_2();
     let shown = {
         let mut table = table();
-        read(&stream, &mut table).expect("accepted");
-        text(&stream, &table, 1)
+        read(&stream, &mut table, Strict).expect("accepted");
+        text(&stream, &table, 1, Strict)
     };
     assert_eq!(shown, Some(&b"12E5"[..]));
 }
@@ -78,15 +79,15 @@ fn the_text_outlives_the_table() {
 fn an_empty_text_is_some() {
     let stream = list(b"\x06\x01\0\0\0\0\x0B");
     let mut table = table();
-    assert_eq!(read(&stream, &mut table), Ok(3));
-    assert_eq!(text(&stream, &table, 1), Some(&[][..]));
+    assert_eq!(read(&stream, &mut table, Strict), Ok(3));
+    assert_eq!(text(&stream, &table, 1, Strict), Some(&[][..]));
 }
 
 #[test]
 fn a_null_run_is_one_row() {
     let stream = list(&[&array(3)[..], &[13, 3, 11]].concat());
     let mut table = table();
-    assert_eq!(read(&stream, &mut table), Ok(4));
+    assert_eq!(read(&stream, &mut table, Strict), Ok(4));
     let words: Vec<_> = rows(&table).map(|row| *row.words()).collect();
     assert_eq!(
         words,
@@ -130,21 +131,24 @@ fn refusals_have_a_place_and_leave_zeros() {
 fn a_table_of_two_rows_has_no_room_for_three() {
     let mut table = [9; 16];
     let e = Refused { refusal: Refusal::NoRoom, place: 27 };
-    assert_eq!(read(&case_2(), &mut table), Err(e));
+    assert_eq!(read(&case_2(), &mut table, Strict), Err(e));
     assert_eq!(table, [0; 16]);
     assert_eq!(rows(&table).count(), 0);
-    assert_eq!(read(&case_2(), &mut []), Err(Refused { refusal: Refusal::NoRoom, place: 0 }));
+    assert_eq!(
+        read(&case_2(), &mut [], Strict),
+        Err(Refused { refusal: Refusal::NoRoom, place: 0 })
+    );
 }
 
 #[test]
 fn a_tidy_copy_tidied_again_is_unchanged() {
     let stream = [&header(7, -1)[..], &string(7), &[11]].concat();
     let (mut table, mut out, mut again) = (table(), [9; 40], [9; 40]);
-    assert_eq!(tidy(&stream, &mut table, &mut out), Ok(28));
+    assert_eq!(tidy(&stream, &mut table, &mut out, Strict), Ok(28));
     assert_eq!(out[..28], case_2());
     assert_eq!(out[28..], [9; 12]);
     assert_eq!(rows(&table).count(), 3);
-    assert_eq!(tidy(&out[..28], &mut table, &mut again), Ok(28));
+    assert_eq!(tidy(&out[..28], &mut table, &mut again, Strict), Ok(28));
     assert_eq!(out, again);
 }
 
@@ -152,17 +156,20 @@ fn a_tidy_copy_tidied_again_is_unchanged() {
 fn an_output_one_byte_too_short_tells_the_needed_length() {
     let (stream, mut table, mut out) = (case_12(), table(), [9; 32]);
     assert_eq!(stream.len(), 30);
-    assert_eq!(tidy(&stream, &mut table, &mut out[..31]), Err(TidyError::OutFull { needed: 32 }));
+    assert_eq!(
+        tidy(&stream, &mut table, &mut out[..31], Strict),
+        Err(TidyError::OutFull { needed: 32 })
+    );
     assert_eq!(out, [9; 32]);
     assert!(table.iter().all(|word| *word == 0));
-    assert_eq!(tidy(&stream, &mut table, &mut out), Ok(32));
+    assert_eq!(tidy(&stream, &mut table, &mut out, Strict), Ok(32));
     assert_eq!(rows(&table).count(), 5);
 }
 
 #[test]
 fn a_refused_tidying_leaves_the_output() {
     let (mut table, mut out) = (table(), [9; 40]);
-    let e = tidy(&list(&string(1)), &mut table, &mut out).expect_err("refused");
+    let e = tidy(&list(&string(1)), &mut table, &mut out, Strict).expect_err("refused");
     assert_eq!(e, TidyError::Refused(Refused { refusal: Refusal::CutShort, place: 27 }));
     assert_eq!(out, [9; 40]);
     assert!(table.iter().all(|word| *word == 0));
@@ -172,10 +179,16 @@ fn a_refused_tidying_leaves_the_output() {
 fn lists_are_compared_by_what_they_say() {
     let sevens = [&header(7, 7)[..], &string(7), &[11]].concat();
     let (mut table, mut first, mut second) = (table(), [9; 40], [9; 40]);
-    assert_eq!(say_the_same(&case_2(), &sevens, &mut table, &mut first, &mut second), Ok(true));
+    assert_eq!(
+        say_the_same(&case_2(), &sevens, &mut table, &mut first, &mut second, Strict, Strict),
+        Ok(true)
+    );
     assert_eq!(first, second);
     assert_eq!(rows(&table).count(), 3);
-    assert_eq!(say_the_same(&case_2(), &case_12(), &mut table, &mut first, &mut second), Ok(false));
+    assert_eq!(
+        say_the_same(&case_2(), &case_12(), &mut table, &mut first, &mut second, Strict, Strict),
+        Ok(false)
+    );
     assert_eq!(rows(&table).count(), 5);
 }
 
@@ -183,18 +196,80 @@ fn lists_are_compared_by_what_they_say() {
 fn the_list_that_is_not_compared_is_named() {
     let (mut table, mut first, mut second) = (table(), [9; 40], [9; 40]);
     let cut = TidyError::Refused(Refused { refusal: Refusal::CutShort, place: 0 });
-    let e = say_the_same(&[], &case_2(), &mut table, &mut first, &mut second);
+    let e = say_the_same(&[], &case_2(), &mut table, &mut first, &mut second, Strict, Strict);
     assert_eq!(e, Err(NotCompared { list: List::First, error: cut }));
     assert_eq!((first, second), ([9; 40], [9; 40]));
-    let e = say_the_same(&case_2(), &[], &mut table, &mut first, &mut second);
+    let e = say_the_same(&case_2(), &[], &mut table, &mut first, &mut second, Strict, Strict);
     assert_eq!(e, Err(NotCompared { list: List::Second, error: cut }));
     assert_eq!((&first[..28], second), (&case_2()[..], [9; 40]));
-    let e = say_the_same(&case_2(), &case_12(), &mut table, &mut first, &mut second[..31]);
+    let e = say_the_same(
+        &case_2(),
+        &case_12(),
+        &mut table,
+        &mut first,
+        &mut second[..31],
+        Strict,
+        Strict,
+    );
     assert_eq!(
         e,
         Err(NotCompared { list: List::Second, error: TidyError::OutFull { needed: 32 } })
     );
     assert!(table.iter().all(|word| *word == 0));
+}
+
+/// Case 2 with the text's length in two bytes.
+fn padded() -> Vec<u8> {
+    list(b"\x06\x01\0\0\0\x84\x0012E5\x0B")
+}
+
+#[test]
+fn a_padded_prefix_is_read_leniently() {
+    let (stream, mut table) = (padded(), table());
+    let bad_length = Refused { refusal: Refusal::BadLength, place: 17 };
+    assert_eq!(read(&stream, &mut table, Strict), Err(bad_length));
+    assert_eq!(read(&stream, &mut table, Lenient), Ok(3));
+    assert_eq!(rows(&table).nth(1).map(|row| row.end()), Some(28));
+    assert_eq!(read(&case_2(), &mut table, Lenient), Ok(3));
+    assert_eq!(rows(&table).nth(1).map(|row| row.end()), Some(27));
+    let fifth = list(b"\x06\x01\0\0\0\x84\x80\x80\x80\x08");
+    assert_eq!(read(&fifth, &mut table, Lenient), Err(bad_length));
+}
+
+#[test]
+fn a_view_has_a_setting_of_its_own() {
+    let (stream, mut table) = (padded(), table());
+    assert_eq!(read(&stream, &mut table, Lenient), Ok(3));
+    assert_eq!(text(&stream, &table, 1, Lenient), Some(&b"12E5"[..]));
+    assert_eq!(row_question(&stream, &table, 1, Lenient), Ok(()));
+    assert_eq!(text(&stream, &table, 1, Strict), None);
+    assert_eq!(row_question(&stream, &table, 1, Strict), Err(Refusal::NoSuchRow));
+}
+
+#[test]
+fn a_tidy_copy_has_the_shortest_prefixes() {
+    let (mut table, mut out) = (table(), [9; 40]);
+    assert_eq!(tidy(&padded(), &mut table, &mut out, Lenient), Ok(28));
+    assert_eq!(out[..28], case_2());
+    let bad_length = Refused { refusal: Refusal::BadLength, place: 17 };
+    let e = tidy(&padded(), &mut table, &mut out, Strict);
+    assert_eq!(e, Err(TidyError::Refused(bad_length)));
+}
+
+#[test]
+fn each_list_is_compared_under_its_own_setting() {
+    let (mut table, mut first, mut second) = (table(), [9; 40], [9; 40]);
+    let (a, b) = (case_2(), padded());
+    let bad_length = TidyError::Refused(Refused { refusal: Refusal::BadLength, place: 17 });
+    let mut compared = |a: &[u8], b: &[u8], a_setting, b_setting| {
+        say_the_same(a, b, &mut table, &mut first, &mut second, a_setting, b_setting)
+    };
+    assert_eq!(compared(&a, &b, Strict, Lenient), Ok(true));
+    assert_eq!(compared(&b, &a, Lenient, Strict), Ok(true));
+    let of_first = NotCompared { list: List::First, error: bad_length };
+    assert_eq!(compared(&b, &a, Strict, Lenient), Err(of_first));
+    let of_second = NotCompared { list: List::Second, error: bad_length };
+    assert_eq!(compared(&a, &b, Lenient, Strict), Err(of_second));
 }
 
 #[test]
@@ -243,5 +318,5 @@ fn any_table_can_be_looked_at() {
     let all: Vec<_> = rows(&table).collect();
     assert_eq!(all.len(), 2);
     assert_eq!((all[0].kind(), all[0].end()), (RowKind::Unknown(u32::MAX), u32::MAX as usize));
-    assert_eq!(text(&case_2(), &table, 0), None);
+    assert_eq!(text(&case_2(), &table, 0, Strict), None);
 }

@@ -1,7 +1,10 @@
 //! Streams written by hand, with what a right reader answers to each: the
 //! counter examples and the points where a wording could be taken two ways.
 
+use crate::reader::Setting;
 use crate::stream::Stream;
+
+mod settings;
 
 pub const WORDS: usize = 512;
 pub const OUT: usize = 1024;
@@ -25,6 +28,7 @@ pub struct Case {
     pub stream: Vec<u8>,
     pub words: usize,
     pub out: usize,
+    pub setting: Setting,
     pub reading: Outcome,
     /// Of the tidy copy, where the case is about it: its bytes or the needed
     /// length of reply 20.
@@ -32,7 +36,15 @@ pub struct Case {
 }
 
 fn case(what: &str, stream: Stream, reading: Outcome) -> Case {
-    Case { what: what.into(), stream: stream.0, words: WORDS, out: OUT, reading, copy: None }
+    Case {
+        what: what.into(),
+        stream: stream.0,
+        words: WORDS,
+        out: OUT,
+        setting: Setting::Strict,
+        reading,
+        copy: None,
+    }
 }
 
 impl Case {
@@ -54,6 +66,12 @@ impl Case {
 }
 
 pub fn cases() -> Vec<Case> {
+    under_strict().into_iter().chain(settings::cases()).collect()
+}
+
+/// Those that are not about the settings, each with what a strict reader
+/// answers.
+pub fn under_strict() -> Vec<Case> {
     let groups = [
         counter_examples(),
         headers(),

@@ -4,7 +4,8 @@
 use crate::by_hand::{self, Outcome};
 use crate::corpus;
 use crate::generate::{self, Random};
-use crate::reader::{read_records, LAST_TICK, OPEN_LIMIT, ROW_WORDS};
+use crate::padding::{badly_padded, padded};
+use crate::reader::{read_records, Setting, LAST_TICK, OPEN_LIMIT, ROW_WORDS};
 use crate::show::MOST_WORDS;
 use crate::stream::{Member, Stream};
 use std::path::Path;
@@ -17,9 +18,18 @@ pub struct Case {
     pub words: usize,
     /// An output that it is tidied into besides the usual ones.
     pub room: Option<usize>,
+    /// Of what is known; the stream is read under both.
+    pub setting: Setting,
     pub known: Option<Known>,
     /// Not made here.
     pub is_list: bool,
+}
+
+impl Case {
+    /// What is known of the outcome under a setting.
+    pub fn known_under(&self, setting: Setting) -> Option<&Known> {
+        self.known.as_ref().filter(|_| self.setting == setting)
+    }
 }
 
 /// What is known of the outcome besides what this reader finds.
@@ -45,8 +55,8 @@ fn hand_written(case: by_hand::Case) -> Case {
     let what = format!("by hand: {}", case.what);
     let copy = case.copy.and_then(Result::ok).map(|copy| corpus::copy_note(&copy));
     let known = Some(Known { answer: Some(answer), rows: None, copy });
-    let (words, room) = (case.words, Some(case.out));
-    Case { what, stream: case.stream, words, room, known, is_list: false }
+    let (words, room, setting) = (case.words, Some(case.out), case.setting);
+    Case { what, stream: case.stream, words, room, setting, known, is_list: false }
 }
 
 /// Every list of a folder, with what its expected.tsv says.
@@ -58,8 +68,9 @@ pub fn lists(folder: &Path) -> Result<Vec<Case>, String> {
 fn list(folder: &Path, name: &str, outcome: &str) -> Result<Case, String> {
     let stream = std::fs::read(folder.join(name)).map_err(|error| format!("{name}: {error}"))?;
     let known = Some(known(outcome).ok_or(format!("{name}: what is {outcome:?}?"))?);
-    let words = corpus::ROWS * ROW_WORDS;
-    Ok(Case { what: format!("list {name}"), stream, words, room: None, known, is_list: true })
+    let (words, setting) = (corpus::ROWS * ROW_WORDS, Setting::Strict);
+    let what = format!("list {name}");
+    Ok(Case { what, stream, words, room: None, setting, known, is_list: true })
 }
 
 /// What an outcome of expected.tsv says of the reading and the copy, whose note
@@ -86,8 +97,8 @@ pub fn from_hex(digits: &str) -> Option<Vec<u8>> {
     (0..digits.len()).step_by(2).map(byte).collect()
 }
 
-/// At least `count` streams, the first half valid, the other damaged. Some of
-/// the damaged ones come from `lists`.
+/// At least `count` streams, the first half valid, lenient where not strict, the
+/// other damaged. Some of the damaged ones come from `lists`.
 pub fn generated(seed: u64, count: usize, lists: &[Case]) -> Vec<Case> {
     let usual = |list: &&Case| list.stream.len() <= LONGEST_TO_DAMAGE;
     let lists = lists.iter().filter(usual).collect();
@@ -125,6 +136,7 @@ impl Maker<'_> {
             stream,
             words,
             room: None,
+            setting: Setting::Strict,
             known: None,
             is_list: false,
         });
@@ -138,6 +150,11 @@ impl Maker<'_> {
                 let rows = rows_of(&stream);
                 self.push("valid, nested", stream, rows);
             }
+            1 | 2 => {
+                let whole = self.whole();
+                let stream = padded(&whole, &mut self.random);
+                self.push("valid, padded", stream, rows_of(&whole));
+            }
             _ => {
                 let stream = self.whole();
                 let rows = rows_of(&stream);
@@ -146,7 +163,7 @@ impl Maker<'_> {
         }
     }
 
-    /// A stream that a right reader accepts; some are long.
+    /// A stream that a right reader accepts under both settings; some are long.
     fn whole(&mut self) -> Vec<u8> {
         if self.random.chance(25) {
             let list = generate::list(&mut self.random);
@@ -179,6 +196,21 @@ impl Maker<'_> {
                 stream.extend(edge_bytes(1 + self.random.below(3), &mut self.random));
                 self.push("bytes after the end", stream, rows);
             }
+            50..=69 => {
+                let whole = self.whole();
+                let stream = badly_padded(&whole, &mut self.random);
+                self.push("badly padded", stream, rows_of(&whole));
+            }
+            70..=99 => {
+                let whole = self.whole();
+                let stream = padded(&whole, &mut self.random);
+                self.damage("padded and damaged", &stream);
+            }
+            100..=104 if !self.lists.is_empty() => {
+                let list = self.lists[self.random.below(self.lists.len())];
+                let stream = padded(&list.stream, &mut self.random);
+                self.push(&format!("padded {}", list.what), stream, rows_of(&list.stream));
+            }
             _ => {
                 let whole = self.whole();
                 self.damage("damaged", &whole);
@@ -201,10 +233,10 @@ impl Maker<'_> {
     }
 }
 
-/// Rows that a stream needs, at most those of the largest table.
+/// Rows that a stream needs, padded or not, at most those of the largest table.
 pub fn rows_of(stream: &[u8]) -> usize {
     let most = MOST_WORDS / ROW_WORDS;
-    read_records(stream, most).map_or(most, |reading| reading.records.len())
+    read_records(stream, most, Setting::Lenient).map_or(most, |reading| reading.records.len())
 }
 
 /// Mostly more than enough words; else the sizes at which a reader could go
@@ -381,8 +413,11 @@ mod tests {
     #[test]
     fn the_first_half_is_valid() {
         for case in generated(7, 2_000, &[]).into_iter().take(1_000) {
-            let enough = found(&case.stream, MOST_WORDS);
+            let enough = found(&case.stream, MOST_WORDS, Setting::Lenient);
             assert!(enough.outcome.is_ok(), "{}: {:02X?}", enough.answer, case.stream);
+            let strict = found(&case.stream, MOST_WORDS, Setting::Strict);
+            let is_padded = case.what.contains("padded");
+            assert!(strict.outcome.is_ok() || is_padded, "{}", strict.answer);
         }
     }
 

@@ -4,14 +4,15 @@
 
 use crate::cases::{from_hex, Case, Known};
 use crate::corpus::{copy_note, rows_hash, ROWS};
-use crate::reader::ROW_WORDS;
+use crate::reader::{Setting, ROW_WORDS};
 use std::path::Path;
 
 /// What stands above the two parts of NAME.expected.
 const LISTING: &str = "listing (room for 1,024 rows):\n";
 const COPY: &str = "tidy (hex):\n";
 
-/// Another job than the listing with the tidy copy, or a switch, is an error.
+/// Another job than the listing with the tidy copy, or a switch that there is
+/// not, is an error.
 pub fn cases(folder: &Path) -> Result<Vec<Case>, String> {
     let manifest = text(folder, "manifest.tsv")?;
     manifest.lines().map(|line| case(folder, line)).collect()
@@ -23,8 +24,10 @@ fn text(folder: &Path, name: &str) -> Result<String, String> {
 
 fn case(folder: &Path, line: &str) -> Result<Case, String> {
     let parts: Vec<&str> = line.split('\t').collect();
-    let [name, "batch", "", file] = parts[..] else {
-        return Err(format!("manifest.tsv: what is {line:?}?"));
+    let (name, setting, file) = match parts[..] {
+        [name, "batch", "", file] => (name, Setting::Strict, file),
+        [name, "batch", "--lenient", file] => (name, Setting::Lenient, file),
+        _ => return Err(format!("manifest.tsv: what is {line:?}?")),
     };
     let stream = std::fs::read(folder.join(file)).map_err(|error| format!("{file}: {error}"))?;
     let expected = text(folder, &format!("{name}.expected"))?;
@@ -34,6 +37,7 @@ fn case(folder: &Path, line: &str) -> Result<Case, String> {
         stream,
         words: ROWS * ROW_WORDS,
         room: None,
+        setting,
         known: Some(known),
         is_list: false,
     })
@@ -67,13 +71,13 @@ mod tests {
     /// What this reader and tidier find, as it is known.
     fn found(case: &Case) -> (String, Option<String>, Option<String>) {
         let (mut table, mut out) = (vec![0; case.words], vec![0; OUTPUT]);
-        let reading = read(&case.stream, &mut table);
+        let reading = read(&case.stream, &mut table, case.setting);
         let rows = reading.as_ref().ok().map(|&rows| rows_hash(&table, rows));
         let answer = match reading {
             Ok(rows) => format!("accepted {rows}"),
             Err(refusal) => refused(&refusal),
         };
-        let copied = tidy(&case.stream, &mut table, &mut out);
+        let copied = tidy(&case.stream, &mut table, &mut out, case.setting);
         (answer, rows, copied.ok().map(|length| copy_note(&out[..length])))
     }
 
@@ -81,7 +85,8 @@ mod tests {
     fn all_are_as_a_right_reader_has_them() {
         let folder = Path::new(env!("CARGO_MANIFEST_DIR")).join("changes");
         let cases = cases(&folder).unwrap();
-        assert_eq!(cases.len(), 14);
+        assert_eq!(cases.len(), 50);
+        assert_eq!(cases.iter().filter(|case| case.setting.is_lenient()).count(), 20);
         for case in cases {
             let known = case.known.clone().unwrap();
             let known = (known.answer.unwrap(), known.rows, known.copy);

@@ -1,7 +1,7 @@
 //! A folder of real lists with what was noted of each in its expected.tsv:
 //! name, tab, the outcome of reading and of the tidy copy.
 
-use crate::reader::{read, Refusal, ROW_WORDS};
+use crate::reader::{read, Refusal, Setting, ROW_WORDS};
 use std::path::Path;
 
 /// Rows of the table that the lists are read into.
@@ -19,10 +19,10 @@ pub fn expected(folder: &Path) -> Result<Vec<(String, String)>, String> {
     lines.lines().map(pair).collect()
 }
 
-/// The part of an outcome that is about reading.
+/// The part of an outcome that is about reading, which is strict.
 pub fn reading(stream: &[u8]) -> String {
     let mut table = vec![0; ROWS * ROW_WORDS];
-    match read(stream, &mut table) {
+    match read(stream, &mut table, Setting::Strict) {
         Ok(rows) => format!("accepted {rows} {}", rows_hash(&table, rows)),
         Err(refusal) => refused(&refusal),
     }

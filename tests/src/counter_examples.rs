@@ -1,13 +1,14 @@
 //! Every stream written by hand gets the answer that was written beside it.
 
 use crate::by_hand::{cases, counter_examples, Case, Outcome};
+use crate::reader::Setting::{Lenient, Strict};
 use crate::{read, row_answer, row_text, tidy};
 
 const DIRT: u32 = 0xDEAD_BEEF;
 
 fn outcome(case: &Case) -> Outcome {
     let mut table = vec![DIRT; case.words];
-    match read(&case.stream, &mut table) {
+    match read(&case.stream, &mut table, case.setting) {
         Ok(rows) => {
             assert!(table[rows * 8..].iter().all(|word| *word == 0), "{}", case.what);
             Outcome::Accepted(rows)
@@ -22,9 +23,9 @@ fn outcome(case: &Case) -> Outcome {
 fn check_tidy(case: &Case) {
     let mut table = vec![DIRT; case.words];
     let mut out = vec![0xA5; case.out];
-    let answer = tidy(&case.stream, &mut table, &mut out);
+    let answer = tidy(&case.stream, &mut table, &mut out, case.setting);
     let mut reading = vec![0; case.words];
-    let rows = read(&case.stream, &mut reading);
+    let rows = read(&case.stream, &mut reading, case.setting);
     match answer {
         Ok(length) => {
             assert_eq!(table, reading, "{}", case.what);
@@ -87,7 +88,7 @@ fn every_refusal_but_the_first_occurs() {
 fn case_7_in_full() {
     let case = &counter_examples().into_iter().find(|case| case.what == "7").unwrap();
     let mut table = [0; 40];
-    assert_eq!(read(&case.stream, &mut table), Ok(4));
+    assert_eq!(read(&case.stream, &mut table, Strict), Ok(4));
     let rows: [u32; 32] = [
         0, 0, 17, 1, 0, 0, 2, 0, //
         16, 17, 26, 1, 0, 0, 0, 3, //
@@ -101,7 +102,7 @@ fn case_7_in_full() {
 fn too_large() {
     let stream = vec![0; 16_777_217];
     let mut table = [DIRT; 8];
-    let refusal = read(&stream, &mut table).unwrap_err();
+    let refusal = read(&stream, &mut table, Strict).unwrap_err();
     assert_eq!((refusal.number, refusal.place, table), (1, 0, [0; 8]));
 }
 
@@ -109,21 +110,37 @@ fn too_large() {
 fn text_of_rows() {
     let case = &counter_examples()[1];
     let mut table = [0; 31];
-    read(&case.stream, &mut table).unwrap();
-    assert_eq!(row_text(&case.stream, &table, 1), Some(&b"12E5"[..]));
-    assert_eq!(row_answer(&case.stream, &table, 1), 0);
+    read(&case.stream, &mut table, Strict).unwrap();
+    assert_eq!(row_text(&case.stream, &table, 1, Strict), Some(&b"12E5"[..]));
+    assert_eq!(row_answer(&case.stream, &table, 1, Strict), 0);
     for row in [0, 2, 3, 4, usize::MAX] {
-        assert_eq!(row_answer(&case.stream, &table, row), 21);
+        assert_eq!(row_answer(&case.stream, &table, row, Strict), 21);
     }
     let mut moved = table;
     moved[8 + 2] += 1;
-    assert_eq!(row_text(&case.stream, &moved, 1), None);
+    assert_eq!(row_text(&case.stream, &moved, 1, Strict), None);
     moved = table;
     moved[8 + 1] = u32::MAX;
-    assert_eq!(row_text(&case.stream, &moved, 1), None);
+    assert_eq!(row_text(&case.stream, &moved, 1, Strict), None);
     moved = table;
     moved[8 + 3] = 77;
-    assert_eq!(row_text(&case.stream, &moved, 1), Some(&b"12E5"[..]));
-    assert_eq!(row_text(&case.stream[..27], &table, 1), Some(&b"12E5"[..]));
-    assert_eq!(row_text(&case.stream[..26], &table, 1), None);
+    assert_eq!(row_text(&case.stream, &moved, 1, Strict), Some(&b"12E5"[..]));
+    assert_eq!(row_text(&case.stream[..27], &table, 1, Strict), Some(&b"12E5"[..]));
+    assert_eq!(row_text(&case.stream[..26], &table, 1, Strict), None);
+}
+
+/// The view's own setting decides, whatever the table was read with.
+#[test]
+fn text_of_padded_rows() {
+    let stream = [&counter_examples()[1].stream[..22], &[0x84, 0], b"12E5", &[11]].concat();
+    let mut table = [0; 31];
+    assert_eq!(read(&stream, &mut table, Strict).unwrap_err().number, 7);
+    assert_eq!(read(&stream, &mut table, Lenient), Ok(3));
+    assert_eq!(table[8 + 2], 28);
+    assert_eq!(row_text(&stream, &table, 1, Lenient), Some(&b"12E5"[..]));
+    assert_eq!(row_answer(&stream, &table, 1, Lenient), 0);
+    assert_eq!(row_text(&stream, &table, 1, Strict), None);
+    assert_eq!(row_answer(&stream, &table, 1, Strict), 21);
+    table[8 + 2] = 27;
+    assert_eq!(row_answer(&stream, &table, 1, Lenient), 21);
 }

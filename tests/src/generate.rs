@@ -1,7 +1,7 @@
 //! Makes small lists from a seed, packs one list in many ways, and damages
 //! streams.
 
-use crate::reader::LAST_TICK;
+use crate::reader::{DECIMAL, LAST_TICK};
 use crate::stream::{Member, Stream};
 
 /// Splitmix64: enough for choosing, and the same everywhere.
@@ -63,11 +63,12 @@ pub struct Class<'a> {
     pub members: Vec<(&'a str, Type<'a>)>,
 }
 
-/// What fills one slot. A reference counts its target by object order, taken
-/// modulo the number of objects.
+/// What fills one slot. Values have their code, and Decimals no prefix. A
+/// reference counts its target by object order, taken modulo the number of
+/// objects.
 #[derive(Clone, PartialEq, Debug)]
 pub enum Filling<'a> {
-    Value(Vec<u8>),
+    Value(u8, Vec<u8>),
     Null,
     Typed(u8, Vec<u8>),
     Reference(usize),
@@ -222,7 +223,7 @@ impl Maker<'_> {
     fn filling(&mut self, slot_type: &Type<'static>, depth: usize) -> Filling<'static> {
         let choice = self.random.below(100);
         match slot_type {
-            Type::Primitive(code) => Filling::Value(self.value(*code)),
+            Type::Primitive(code) => Filling::Value(*code, self.value(*code)),
             _ if choice < 35 => Filling::Null,
             _ if choice < 50 => self.reference(),
             Type::String if self.objects_left > 0 => self.nested_string(),
@@ -256,7 +257,7 @@ impl Maker<'_> {
         match code {
             1 => vec![self.random.below(2) as u8],
             3 => self.random.pick(&CHARS).as_bytes().to_vec(),
-            5 => Stream::default().text(self.random.pick(&DECIMALS)).0,
+            DECIMAL => self.random.pick(&DECIMALS).as_bytes().to_vec(),
             13 => self.date_time(),
             2 | 10 => self.random.bytes(1),
             7 | 14 => self.random.bytes(2),
@@ -522,12 +523,14 @@ impl<'a> Packer<'_, 'a> {
     }
 
     fn filling(&mut self, filling: &Filling<'a>) -> usize {
-        if !matches!(filling, Filling::Value(_)) {
+        if !matches!(filling, Filling::Value(..)) {
             self.litter_slot();
         }
         match filling {
-            Filling::Value(value) => self.put(|stream| stream.bytes(value)),
-            Filling::Typed(code, value) => self.put(|stream| stream.typed(*code, value)),
+            Filling::Value(code, value) => self.put(|stream| stream.value(*code, value)),
+            Filling::Typed(code, value) => {
+                self.put(|stream| stream.typed(*code, &[]).value(*code, value));
+            }
             Filling::Reference(target) => {
                 let id = self.ids[target % self.ids.len()];
                 self.put(|stream| stream.reference(id));

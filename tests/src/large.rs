@@ -3,7 +3,8 @@
 
 use crate::by_hand::Outcome::{self, Accepted, Refused};
 use crate::cases::{Case, Known};
-use crate::reader::{ROW_WORDS, STREAM_LIMIT};
+use crate::padding;
+use crate::reader::{Setting, ROW_WORDS, STREAM_LIMIT};
 use crate::stream::Stream;
 
 const BYTE: u8 = 2;
@@ -45,8 +46,8 @@ fn case(what: &str, stream: Stream, words: usize, outcome: Outcome) -> Case {
         Refused(number, place) => format!("refused {number} at {place}"),
     });
     let known = Some(Known { answer, rows: None, copy: None });
-    let (what, stream) = (format!("large: {what}"), stream.0);
-    Case { what, stream, words, room: None, known, is_list: false }
+    let (what, stream, setting) = (format!("large: {what}"), stream.0, Setting::Strict);
+    Case { what, stream, words, room: None, setting, known, is_list: false }
 }
 
 fn items(count: usize) -> Stream {
@@ -78,7 +79,17 @@ fn long_texts() -> Vec<Case> {
     vec![
         case("one text", whole, FEW_WORDS, Accepted(3)),
         case("one text, bad at its end", bad, FEW_WORDS, Refused(8, 17)),
+        Case { setting: Setting::Lenient, ..padded_text() },
     ]
+}
+
+/// As long as may be; the prefix has a byte more than it needs.
+fn padded_text() -> Case {
+    let length = STREAM_LIMIT - AROUND_TEXT - 1;
+    let prefix = padding::in_bytes(length, padding::MOST_BYTES).expect("five bytes are enough");
+    let start = Stream::new().bytes(&[6]).int(1).bytes(&prefix);
+    let stream = start.bytes(&vec![b'A'; length]).end();
+    case("one text, padded", stream, FEW_WORDS, Accepted(3))
 }
 
 /// A run of 255 and one of 1 become one that is two bytes longer.
@@ -106,6 +117,7 @@ fn whole(list: &Case) -> Case {
         stream: list.stream.clone(),
         words: list.stream.len() * ROW_WORDS,
         room: None,
+        setting: Setting::Strict,
         known: Some(Known { answer: None, rows: None, copy }),
         is_list: true,
     }
@@ -119,8 +131,9 @@ mod tests {
     #[test]
     fn each_gets_the_answer_written_beside_it() {
         for case in large(&[]) {
+            let found = found(&case.stream, case.words, case.setting);
             let answer = case.known.and_then(|known| known.answer);
-            assert_eq!(Some(found(&case.stream, case.words).answer), answer, "{}", case.what);
+            assert_eq!(Some(found.answer), answer, "{}", case.what);
         }
     }
 }

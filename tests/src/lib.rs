@@ -11,6 +11,7 @@ pub mod fast;
 pub mod generate;
 pub mod large;
 pub mod outside;
+pub mod padding;
 pub mod pairs;
 pub mod reader;
 pub mod report;
@@ -22,7 +23,7 @@ pub mod tidy;
 pub mod tidying;
 pub mod views;
 
-pub use reader::{read, row_answer, row_text, Refusal};
+pub use reader::{read, row_answer, row_text, Refusal, Setting};
 pub use same::same;
 pub use tidy::tidy;
 

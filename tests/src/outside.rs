@@ -2,9 +2,10 @@
 //! more than each other: those written by hand and 120 made from a seed. A line
 //! of outside.tsv has the stream in hex or `-`, the words of the table, the bytes
 //! of the output and the outcome as in lists/expected.tsv, but `full` before a
-//! needed length and `unknown` where the copy was not noted.
+//! needed length and `unknown` where the copy was not noted. All are strict.
 
 use crate::cases::{from_hex, known, Case};
+use crate::reader::Setting;
 
 const NOTED: &str = include_str!("../outside.tsv");
 
@@ -26,6 +27,7 @@ fn case(number: usize, line: &str) -> Option<Case> {
         stream: if hex == "-" { Vec::new() } else { from_hex(hex)? },
         words: words.parse().ok()?,
         room: Some(room.parse().ok()?),
+        setting: Setting::Strict,
         known: Some(known(outcome)?),
         is_list: false,
     })
@@ -42,11 +44,11 @@ mod tests {
     /// The outcome as it is noted.
     fn outcome(case: &Case) -> String {
         let (mut table, mut out) = (vec![0; case.words], vec![0; case.room.unwrap()]);
-        let reading = match read(&case.stream, &mut table) {
+        let reading = match read(&case.stream, &mut table, case.setting) {
             Ok(rows) => format!("accepted {rows} {}", rows_hash(&table, rows)),
             Err(refusal) => refused(&refusal),
         };
-        let tidying = match tidy(&case.stream, &mut table, &mut out) {
+        let tidying = match tidy(&case.stream, &mut table, &mut out, case.setting) {
             Ok(length) => copy_note(&out[..length]),
             Err(refusal) if refusal.needed > 0 => format!("full {}", refusal.needed),
             Err(refusal) => refused(&refusal),
@@ -72,7 +74,8 @@ mod tests {
         assert_eq!(unknown, 3);
     }
 
-    /// What is written by hand is noted, with the same table and output.
+    /// What is written by hand is noted, with the same table and output, but for
+    /// the streams of the two settings.
     #[test]
     fn those_by_hand_are_among_them() {
         let noted: HashSet<(Vec<u8>, usize, usize)> = cases()
@@ -80,9 +83,11 @@ mod tests {
             .into_iter()
             .map(|case| (case.stream, case.words, case.room.unwrap()))
             .collect();
-        let by_hand = by_hand::cases();
+        let by_hand = by_hand::under_strict();
         let there =
             |case: &&by_hand::Case| noted.contains(&(case.stream.clone(), case.words, case.out));
-        assert_eq!((noted.len(), by_hand.iter().filter(there).count()), (657, 537));
+        let count = by_hand.iter().filter(there).count();
+        assert_eq!((noted.len(), by_hand.len(), count), (657, 537, 537));
+        assert_eq!(by_hand::cases().len() - by_hand.len(), 1_104);
     }
 }

@@ -3,17 +3,20 @@
 
 use crate::cases::{rows_of, table_words, Case};
 use crate::generate::{self, Random};
-use crate::reader::{read_records, Refusal};
+use crate::padding::padded;
+use crate::reader::{read_records, Refusal, Setting};
 use crate::said;
 use crate::same::same;
 use crate::show::{byte_trace, littered, trace, MOST_WORDS};
 use crate::tidy::tidy;
 use crate::tidying::{copy_in, MOST_ROWS};
 
-/// Two streams with the sizes of the table and of the two outputs.
+/// Two streams with the setting of each, the sizes of the table and of the two
+/// outputs.
 pub struct Pair {
     pub what: String,
     pub streams: [Vec<u8>; 2],
+    pub settings: [Setting; 2],
     pub words: usize,
     pub rooms: [usize; 2],
     /// Both are packings of one list, so they say the same where both have
@@ -49,12 +52,14 @@ pub fn found_pair(pair: &Pair) -> (Comparison, String) {
     let [a, b] = &pair.streams;
     let (mut table, mut first) = littered(pair.words, pair.rooms[0]);
     let (_, mut second) = littered(0, pair.rooms[1]);
-    let answer = match tidy(a, &mut table, &mut first) {
+    let [of_a, of_b] = pair.settings;
+    let answer = match tidy(a, &mut table, &mut first, of_a) {
         Err(refusal) => refused(1, &refusal),
-        Ok(_) => match tidy(b, &mut table, &mut second) {
+        Ok(_) => match tidy(b, &mut table, &mut second, of_b) {
             Err(refusal) => refused(2, &refusal),
             Ok(_) => {
-                Comparison { number: 0, same: u64::from(same(a, b)), list: 0, place: 0, needed: 0 }
+                let same = u64::from(same([a, b], pair.settings));
+                Comparison { number: 0, same, list: 0, place: 0, needed: 0 }
             }
         },
     };
@@ -76,8 +81,8 @@ const TRIES: usize = 12;
 struct Maker<'c> {
     random: Random,
     cases: &'c [Case],
-    /// Numbers of those that are accepted with the largest table, and of the
-    /// others.
+    /// Numbers of those that are accepted leniently with the largest table, and
+    /// of the others.
     whole: Vec<usize>,
     broken: Vec<usize>,
 }
@@ -86,7 +91,7 @@ struct Maker<'c> {
 /// accepted or none refused. Accepted ones have their turn in order, each once
 /// or more where there are no more of them than pairs.
 pub fn pairs(seed: u64, count: usize, cases: &[Case]) -> Vec<Pair> {
-    let accepted = |at: &usize| read_records(&cases[*at].stream, MOST_ROWS).is_ok();
+    let accepted = |at: &usize| is_whole(&cases[*at].stream, Setting::Lenient);
     let (whole, broken): (Vec<usize>, Vec<usize>) = (0..cases.len()).partition(accepted);
     if whole.is_empty() || broken.is_empty() {
         return Vec::new();
@@ -96,15 +101,24 @@ pub fn pairs(seed: u64, count: usize, cases: &[Case]) -> Vec<Pair> {
     (0..count).map(|number| maker.pair(number * turns / count)).collect()
 }
 
+fn is_whole(stream: &[u8], setting: Setting) -> bool {
+    read_records(stream, MOST_ROWS, setting).is_ok()
+}
+
 impl Maker<'_> {
     /// An accepted stream and another, either of them first.
     fn pair(&mut self, turn: usize) -> Pair {
         let case = &self.cases[self.whole[turn]];
-        let kind = self.random.below(10);
+        let kind = self.random.below(12);
         let (how, other) = match kind {
             0..=2 => ("another packing", repacked(&case.stream, &mut self.random)),
-            3..=6 => ("a change of it", changed(&case.stream, &mut self.random)),
-            7 => {
+            3 => ("itself padded", padded(&case.stream, &mut self.random)),
+            4 => {
+                let packed = repacked(&case.stream, &mut self.random);
+                ("another packing, padded", padded(&packed, &mut self.random))
+            }
+            5..=8 => ("a change of it", changed(&case.stream, &mut self.random)),
+            9 => {
                 let next = self.whole[(turn + 1) % self.whole.len()];
                 ("its neighbour", self.cases[next].stream.clone())
             }
@@ -118,7 +132,7 @@ impl Maker<'_> {
         if self.random.chance(50) {
             streams.reverse();
         }
-        self.sized(what, streams, kind <= 2)
+        self.sized(what, streams, kind <= 4)
     }
 
     /// The table has a size for either or both.
@@ -128,13 +142,25 @@ impl Maker<'_> {
         let rows = self.random.pick(&[most, most, most, rows[0], rows[1]]);
         let words = table_words(rows, &mut self.random);
         let rooms = [self.room(&streams[0]), self.room(&streams[1])];
-        Pair { what, streams, words, rooms, one_list }
+        let settings = [self.setting(&streams[0]), self.setting(&streams[1])];
+        let what = format!("{what}, {settings:?}");
+        Pair { what, streams, settings, words, rooms, one_list }
+    }
+
+    /// Either, but mostly the lenient one for a stream that it alone accepts.
+    fn setting(&mut self, stream: &[u8]) -> Setting {
+        let strict = if is_whole(stream, Setting::Strict) { 50 } else { 15 };
+        match self.random.chance(strict) {
+            true => Setting::Strict,
+            false => Setting::Lenient,
+        }
     }
 
     /// Mostly as large as the copy or larger; else one byte too small, or
     /// empty.
     fn room(&mut self, stream: &[u8]) -> usize {
-        let length = copy_in(stream, MOST_WORDS).map_or(stream.len() % 64, |copy| copy.len());
+        let copy = copy_in(stream, MOST_WORDS, Setting::Lenient);
+        let length = copy.map_or(stream.len() % 64, |copy| copy.len());
         match self.random.below(16) {
             0 => 0,
             1 => length.saturating_sub(1),
@@ -146,7 +172,8 @@ impl Maker<'_> {
 
 /// A stream that says the same, itself where it has too many nulls.
 fn repacked(stream: &[u8], random: &mut Random) -> Vec<u8> {
-    let reading = read_records(stream, MOST_ROWS).expect("a whole list is accepted");
+    let reading = read_records(stream, MOST_ROWS, Setting::Lenient);
+    let reading = reading.expect("a whole list is accepted");
     let runs = reading.records.iter().filter(|record| record.row.is_null_run());
     let nulls: u64 = runs.map(|record| u64::from(record.row.count)).sum();
     if nulls > MOST_NULLS {
@@ -160,7 +187,7 @@ fn repacked(stream: &[u8], random: &mut Random) -> Vec<u8> {
 fn changed(stream: &[u8], random: &mut Random) -> Vec<u8> {
     let mut other = generate::damaged(stream, random);
     for _ in 1..TRIES {
-        if read_records(&other, MOST_ROWS).is_ok() {
+        if is_whole(&other, Setting::Lenient) {
             break;
         }
         other = generate::damaged(stream, random);
@@ -198,6 +225,39 @@ mod tests {
         }
     }
 
+    /// Both settings for each list, also for lists that only one accepts.
+    #[test]
+    fn each_list_has_its_own_setting() {
+        let all = all();
+        for settings in Setting::BOTH.map(|a| Setting::BOTH.map(|b| [a, b])).concat() {
+            let of = |pair: &Pair| pair.settings == settings;
+            assert!(with(&all, |pair, answer| of(pair) && answer.same == 1) > 30, "{settings:?}");
+            let padded = |pair: &Pair, list: usize| {
+                !is_whole(&pair.streams[list], Setting::Strict)
+                    && is_whole(&pair.streams[list], settings[list])
+            };
+            let padded =
+                |list| with(&all, |pair, a| of(pair) && a.number == 0 && padded(pair, list));
+            for list in [0, 1] {
+                let enough = if settings[list].is_lenient() { 20 } else { 0 };
+                assert!(padded(list) >= enough, "{settings:?}: {}", padded(list));
+            }
+        }
+        let bad_length = Reply::BadLength as u32;
+        for list in [1, 2] {
+            assert!(with(&all, |_, a| a.list == list && a.number == bad_length) > 20);
+        }
+    }
+
+    /// Packings of one list, padded or not, say the same.
+    #[test]
+    fn one_list_says_the_same() {
+        let all = all();
+        let one = |pair: &Pair, a: &Comparison| pair.one_list && a.number == 0;
+        assert!(with(&all, one) > 100);
+        assert_eq!(with(&all, |pair, a| one(pair, a) && a.same == 0), 0);
+    }
+
     #[test]
     fn tables_and_outputs_have_all_the_odd_sizes() {
         let all = all();
@@ -206,7 +266,7 @@ mod tests {
         assert!(with(&all, |pair, _| pair.words % ROW_WORDS > 0) > 50);
         assert!(with(&all, |pair, _| most(pair) == Some(pair.words / ROW_WORDS)) > 50);
         for list in [0, 1] {
-            let copy = |pair: &Pair| copy_in(&pair.streams[list], MOST_WORDS);
+            let copy = |pair: &Pair| copy_in(&pair.streams[list], MOST_WORDS, Setting::Lenient);
             let length = |pair: &Pair| copy(pair).map(|copy| copy.len());
             assert!(with(&all, |pair, _| pair.rooms[list] == 0) > 20);
             assert!(with(&all, |pair, _| length(pair) == Some(pair.rooms[list])) > 100);

@@ -1,6 +1,7 @@
 //! Reads a stream into a table of rows.
 
 use std::collections::HashMap;
+use std::ops::Range;
 
 pub const STREAM_LIMIT: usize = 16_777_216;
 pub const OPEN_LIMIT: usize = 64;
@@ -25,9 +26,29 @@ pub const OBJECT_ARRAY: u8 = 16;
 pub const STRING_ARRAY: u8 = 17;
 pub const MEMBER_VALUE: u8 = 32;
 
+/// The code of the one value that has a prefix.
+pub const DECIMAL: u8 = 5;
+
 const DECIMAL_TOP: &[u8] = b"79228162514264337593543950335";
 /// The ticks of a DateTime end with 9999-12-31 23:59:59.9999999.
 pub const LAST_TICK: u64 = 3_155_378_975_999_999_999;
+
+/// Which length prefixes are taken.
+#[derive(Clone, Copy, PartialEq, Eq, Hash, Debug)]
+pub enum Setting {
+    /// The shortest alone.
+    Strict,
+    /// Any of at most five bytes whose fifth is at most 7.
+    Lenient,
+}
+
+impl Setting {
+    pub const BOTH: [Setting; 2] = [Setting::Strict, Setting::Lenient];
+
+    pub fn is_lenient(self) -> bool {
+        self == Setting::Lenient
+    }
+}
 
 #[derive(Clone, Copy, PartialEq, Eq, Debug)]
 pub enum Reply {
@@ -99,13 +120,21 @@ pub struct Class<'a> {
 }
 
 /// `array_type` and `lengths` as written; kinds 15 to 17 have one length and
-/// no array type. `items` are the bytes of primitive items.
+/// no array type.
 #[derive(Clone, PartialEq, Eq, Debug)]
 pub struct Array<'a> {
     pub array_type: Option<u8>,
     pub lengths: Vec<i32>,
     pub item: SlotType<'a>,
-    pub items: &'a [u8],
+    pub items: Items<'a>,
+}
+
+/// Primitive items; slots that stand in rows of their own have no bytes here.
+#[derive(Clone, PartialEq, Eq, Debug)]
+pub enum Items<'a> {
+    Bytes(&'a [u8]),
+    /// Each without its prefix.
+    Decimals(Vec<&'a [u8]>),
 }
 
 #[derive(Clone, PartialEq, Eq, Debug)]
@@ -116,6 +145,7 @@ pub enum Detail<'a> {
     Class(usize),
     Text(&'a [u8]),
     Array(Box<Array<'a>>),
+    /// Code and bytes, a Decimal without its prefix.
     Value(u8, &'a [u8]),
     Library(&'a [u8]),
 }
@@ -170,12 +200,26 @@ pub struct Reading<'a> {
     pub classes: Vec<Class<'a>>,
 }
 
+/// Where a length prefix stands, and the number that it is.
+#[derive(Clone, Debug, PartialEq, Eq)]
+pub struct Prefix {
+    pub place: Range<usize>,
+    pub number: usize,
+}
+
 struct Cursor<'a> {
     stream: &'a [u8],
     at: usize,
+    setting: Setting,
+    /// Those that were passed.
+    prefixes: Vec<Prefix>,
 }
 
 impl<'a> Cursor<'a> {
+    fn new(stream: &'a [u8], at: usize, setting: Setting) -> Cursor<'a> {
+        Cursor { stream, at, setting, prefixes: Vec::new() }
+    }
+
     fn bytes(&mut self, count: usize) -> Field<&'a [u8]> {
         let rest = &self.stream[self.at..];
         let taken = rest.get(..count).ok_or(Reply::CutShort)?;
@@ -206,7 +250,18 @@ impl<'a> Cursor<'a> {
         }
     }
 
+    /// A right one is kept with its place.
     fn prefix(&mut self) -> Field<usize> {
+        let start = self.at;
+        let number = match self.setting {
+            Setting::Strict => self.shortest_prefix()?,
+            Setting::Lenient => self.any_prefix()?,
+        };
+        self.prefixes.push(Prefix { place: start..self.at, number });
+        Ok(number)
+    }
+
+    fn shortest_prefix(&mut self) -> Field<usize> {
         let mut number = 0usize;
         for group in 0..5 {
             let byte = self.byte()?;
@@ -221,6 +276,22 @@ impl<'a> Cursor<'a> {
         }
         // The fifth byte is at most 7 and so never asks for a sixth.
         Err(Reply::BadLength)
+    }
+
+    /// Up to four bytes that ask for another, and one that does not.
+    fn any_prefix(&mut self) -> Field<usize> {
+        let mut number = 0;
+        for group in 0..4 {
+            let byte = usize::from(self.byte()?);
+            number += byte % 128 << (7 * group);
+            if byte < 128 {
+                return Ok(number);
+            }
+        }
+        match self.byte()? {
+            fifth @ 0..=7 => Ok(number + (usize::from(fifth) << 28)),
+            _ => Err(Reply::BadLength),
+        }
     }
 
     fn prefixed(&mut self) -> Field<&'a [u8]> {
@@ -259,13 +330,13 @@ impl<'a> Cursor<'a> {
         }
     }
 
-    /// The bytes of one value, a Decimal's prefix included.
+    /// The bytes of one value, a Decimal without its prefix.
     fn value(&mut self, code: u8) -> Field<&'a [u8]> {
         let start = self.at;
         match code {
             1 => judge(self.byte()? <= 1)?,
             3 => self.char()?,
-            5 => judge(is_decimal(self.prefixed()?))?,
+            DECIMAL => return self.decimal(),
             13 => judge(is_date_time(self.bytes(8)?))?,
             2 | 10 => drop(self.bytes(1)?),
             7 | 14 => drop(self.bytes(2)?),
@@ -273,6 +344,12 @@ impl<'a> Cursor<'a> {
             _ => drop(self.bytes(8)?),
         }
         Ok(&self.stream[start..self.at])
+    }
+
+    fn decimal(&mut self) -> Field<&'a [u8]> {
+        let text = self.prefixed()?;
+        judge(is_decimal(text))?;
+        Ok(text)
     }
 
     fn char(&mut self) -> Field<()> {
@@ -288,12 +365,16 @@ impl<'a> Cursor<'a> {
         judge(std::str::from_utf8(&self.stream[start..self.at]).is_ok())
     }
 
-    fn items(&mut self, code: u8, count: u32) -> Field<&'a [u8]> {
+    fn items(&mut self, code: u8, count: u32) -> Field<Items<'a>> {
+        if code == DECIMAL {
+            let decimals: Field<Vec<&[u8]>> = (0..count).map(|_| self.decimal()).collect();
+            return decimals.map(Items::Decimals);
+        }
         let start = self.at;
         for _ in 0..count {
             self.value(code)?;
         }
-        Ok(&self.stream[start..self.at])
+        Ok(Items::Bytes(&self.stream[start..self.at]))
     }
 }
 
@@ -448,19 +529,27 @@ struct Reader<'a> {
 }
 
 /// Reads with room for `rows` rows.
-pub fn read_records(stream: &[u8], rows: usize) -> Result<Reading<'_>, Refusal> {
+pub fn read_records(stream: &[u8], rows: usize, setting: Setting) -> Result<Reading<'_>, Refusal> {
     if stream.len() > STREAM_LIMIT {
         return Err(Refusal::at(Reply::TooLarge, 0));
     }
-    let mut reader = Reader::new(stream, rows);
+    let mut reader = Reader::new(stream, rows, setting);
     reader.stream()?;
     Ok(Reading { records: reader.records, classes: reader.classes })
 }
 
+/// The prefixes that a lenient reading passes, up to a refusal.
+pub fn prefixes(stream: &[u8]) -> Vec<Prefix> {
+    let mut reader = Reader::new(stream, usize::MAX, Setting::Lenient);
+    // What was passed counts, whatever comes of the reading.
+    let _ = reader.stream();
+    reader.cursor.prefixes
+}
+
 /// Fills the table with the rows of the stream and answers their number.
-pub fn read(stream: &[u8], table: &mut [u32]) -> Result<usize, Refusal> {
+pub fn read(stream: &[u8], table: &mut [u32], setting: Setting) -> Result<usize, Refusal> {
     table.fill(0);
-    let reading = read_records(stream, table.len() / ROW_WORDS)?;
+    let reading = read_records(stream, table.len() / ROW_WORDS, setting)?;
     fill(table, &reading);
     Ok(reading.records.len())
 }
@@ -472,14 +561,20 @@ pub(crate) fn fill(table: &mut [u32], reading: &Reading) {
     }
 }
 
-/// The text of a row, `None` where the row has none.
-pub fn row_text<'a>(stream: &'a [u8], table: &[u32], row: usize) -> Option<&'a [u8]> {
+/// The text of a row, `None` where the row has none. The setting is the
+/// question's own, whatever the table was read with.
+pub fn row_text<'a>(
+    stream: &'a [u8],
+    table: &[u32],
+    row: usize,
+    setting: Setting,
+) -> Option<&'a [u8]> {
     let words = table.chunks_exact(ROW_WORDS).nth(row)?;
     if words[0] != u32::from(STRING) {
         return None;
     }
     let (offset, end) = (words[1] as usize, words[2] as usize);
-    let mut cursor = Cursor { stream, at: offset };
+    let mut cursor = Cursor::new(stream, offset, setting);
     if offset >= stream.len() || cursor.byte().ok()? != STRING {
         return None;
     }
@@ -489,17 +584,17 @@ pub fn row_text<'a>(stream: &'a [u8], table: &[u32], row: usize) -> Option<&'a [
 }
 
 /// 0 where the row has a text, 21 otherwise.
-pub fn row_answer(stream: &[u8], table: &[u32], row: usize) -> u32 {
-    match row_text(stream, table, row) {
+pub fn row_answer(stream: &[u8], table: &[u32], row: usize, setting: Setting) -> u32 {
+    match row_text(stream, table, row, setting) {
         Some(_) => 0,
         None => Reply::NoSuchRow as u32,
     }
 }
 
 impl<'a> Reader<'a> {
-    fn new(stream: &'a [u8], rows: usize) -> Reader<'a> {
+    fn new(stream: &'a [u8], rows: usize, setting: Setting) -> Reader<'a> {
         Reader {
-            cursor: Cursor { stream, at: 0 },
+            cursor: Cursor::new(stream, 0, setting),
             rows,
             records: Vec::new(),
             classes: Vec::new(),
@@ -793,9 +888,9 @@ impl<'a> Reader<'a> {
         count: u32,
         item: SlotType<'a>,
     ) -> Field<Found<'a>> {
-        let (items, opens): (&[u8], _) = match &item {
+        let (items, opens) = match &item {
             SlotType::Primitive(code) => (self.cursor.items(*code, count)?, None),
-            _ => (&[], (count > 0).then(|| Slots::Items(item.clone()))),
+            _ => (Items::Bytes(&[]), (count > 0).then(|| Slots::Items(item.clone()))),
         };
         let detail = Detail::Array(Box::new(Array { array_type, lengths, item, items }));
         Ok(Found { id, link: 0, count, detail, opens })

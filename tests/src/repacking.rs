@@ -2,12 +2,15 @@
 //! different things have different ones.
 
 use crate::generate::{damaged, list, pack, valid, List, Random};
-use crate::reader::{read_records, Detail, Record, SlotType};
-use crate::same;
+use crate::padding::{badly_padded, padded, padded_to};
+use crate::reader::Setting::{self, Lenient, Strict};
+use crate::reader::{prefixes, read, read_records, Detail, Items, Prefix, Record, SlotType};
+use crate::said;
+use crate::same::same;
 use crate::tidy::{copy_of, tidy};
 
-fn copy(stream: &[u8]) -> Option<Vec<u8>> {
-    read_records(stream, usize::MAX).ok().map(|reading| copy_of(&reading))
+fn copy(stream: &[u8], setting: Setting) -> Option<Vec<u8>> {
+    read_records(stream, usize::MAX, setting).ok().map(|reading| copy_of(&reading))
 }
 
 fn packings(list: &List, random: &mut Random) -> Vec<Vec<u8>> {
@@ -20,21 +23,128 @@ fn packings_say_the_same() {
     for _ in 0..4000 {
         let list = list(&mut random);
         let streams = packings(&list, &mut random);
-        let first = copy(&streams[0]).expect("a packed list is accepted");
+        let first = copy(&streams[0], Strict).expect("a packed list is accepted");
         for stream in &streams {
-            assert_eq!(copy(stream).as_ref(), Some(&first), "{list:?}");
-            assert!(same(&streams[0], stream));
-            assert!(same(&first, stream));
+            for setting in Setting::BOTH {
+                assert_eq!(copy(stream, setting).as_ref(), Some(&first), "{list:?}");
+                assert!(same([&streams[0], stream], [Strict, setting]));
+                assert!(same([&first, stream], [Lenient, setting]));
+            }
+            let padded = padded(stream, &mut random);
+            assert_eq!(copy(&padded, Lenient).as_ref(), Some(&first), "{list:?}");
+            assert!(same([&first, &padded], [Strict, Lenient]));
+            assert!(same([&padded, &streams[0]], [Lenient, Strict]));
         }
     }
+}
+
+/// Padding changes no word of a row but offset and end, and what is said not at
+/// all; strict readers refuse it with 7.
+#[test]
+fn padded_streams_say_the_same() {
+    let mut random = Random::new(18);
+    let mut seen = [0; 6];
+    for _ in 0..4000 {
+        let whole = valid(&mut random);
+        let bytes = 2 + random.below(4);
+        let stream = padded_to(&whole, bytes);
+        let reading = read_records(&whole, usize::MAX, Strict).unwrap();
+        let padded = read_records(&stream, usize::MAX, Lenient).expect("padding is taken");
+        assert_eq!(said::list(&reading), said::list(&padded));
+        assert_eq!(copy_of(&reading), copy_of(&padded));
+        for (row, other) in reading.records.iter().zip(&padded.records) {
+            let ([a, _, _, b @ ..], [c, _, _, d @ ..]) = (row.row.words(), other.row.words());
+            assert_eq!((a, b), (c, d));
+        }
+        let longer = stream.len() - whole.len();
+        assert_eq!(longer, prefixes(&whole).len() * (bytes - 1), "{whole:02X?}");
+        let strict = read_records(&stream, usize::MAX, Strict);
+        assert_eq!(strict.err().map(|refusal| refusal.number), (longer > 0).then_some(7));
+        seen[bytes] += usize::from(longer > 0);
+    }
+    assert!(seen[2..].iter().all(|&seen| seen > 500), "{seen:?}");
+}
+
+/// The padded sample is the other one, its prefixes in two bytes.
+#[test]
+fn the_padded_sample_says_what_the_sample_says() {
+    let sample = include_bytes!("../../samples/jaw.nrbf");
+    let other = include_bytes!("../../samples/jaw-padded.nrbf");
+    assert_eq!(padded_to(sample, 2), other);
+    assert!(same([sample, other], [Strict, Lenient]));
+    assert!(!same([sample, other], [Lenient, Strict]));
+}
+
+/// Padded prefixes come in every record that has one, in two to five bytes.
+#[test]
+fn padding_leaves_nothing_out() {
+    let mut random = Random::new(21);
+    let mut found = std::collections::HashSet::new();
+    for _ in 0..6000 {
+        let stream = padded(&valid(&mut random), &mut random);
+        let reading = read_records(&stream, usize::MAX, Lenient).unwrap();
+        for Record { row, detail } in &reading.records {
+            let of_decimals =
+                matches!(detail, Detail::Array(array) if matches!(array.items, Items::Decimals(_)));
+            let own = row.offset as usize..row.end as usize;
+            let inside = |prefix: &&Prefix| own.contains(&prefix.place.start);
+            for prefix in prefixes(&stream).iter().filter(inside) {
+                found.insert((row.kind, of_decimals, prefix.place.len()));
+            }
+        }
+    }
+    for bytes in 1..=5 {
+        for kind in [4, 5, 6, 7, 8, 12, 32] {
+            assert!(found.contains(&(kind, false, bytes)), "kind {kind}, {bytes} bytes");
+        }
+        for kind in [7, 15] {
+            assert!(found.contains(&(kind, true, bytes)), "kind {kind}, {bytes} bytes");
+        }
+    }
+}
+
+/// A copy is read under both settings, with the same rows.
+#[test]
+fn copies_of_padded_streams_are_strict() {
+    let mut random = Random::new(19);
+    for _ in 0..4000 {
+        let stream = padded(&valid(&mut random), &mut random);
+        let first = copy(&stream, Lenient).expect("padding is taken");
+        let [strict, lenient] = Setting::BOTH.map(|setting| {
+            let mut table = vec![0; 8 * first.len()];
+            (read(&first, &mut table, setting), table)
+        });
+        assert!(strict.0.is_ok());
+        assert_eq!(strict, lenient);
+    }
+}
+
+/// A fifth byte over 7 is 7, a cut padding 2, both also where the stream would
+/// end well.
+#[test]
+fn badly_padded_streams_are_refused() {
+    let mut random = Random::new(20);
+    let mut seen = [0; 20];
+    for _ in 0..4000 {
+        let stream = badly_padded(&valid(&mut random), &mut random);
+        if prefixes(&stream).is_empty() && copy(&stream, Lenient).is_some() {
+            continue;
+        }
+        let refusal = read_records(&stream, usize::MAX, Lenient).expect_err("bad padding");
+        seen[refusal.number as usize] += 1;
+        assert!(read_records(&stream, usize::MAX, Strict).is_err());
+    }
+    assert!(seen[2] > 500 && seen[7] > 500 && seen[2] + seen[7] == seen.iter().sum(), "{seen:?}");
 }
 
 #[test]
 fn tidying_twice_is_tidying_once() {
     let mut random = Random::new(12);
     for _ in 0..4000 {
-        let first = copy(&valid(&mut random)).expect("a packed list is accepted");
-        assert_eq!(copy(&first), Some(first));
+        let first = copy(&valid(&mut random), Strict).expect("a packed list is accepted");
+        for setting in Setting::BOTH {
+            assert_eq!(copy(&first, setting).as_ref(), Some(&first));
+        }
     }
 }
 
@@ -42,13 +152,15 @@ fn tidying_twice_is_tidying_once() {
 fn the_copy_fits_the_table() {
     let mut random = Random::new(13);
     for _ in 0..4000 {
-        let stream = valid(&mut random);
-        let rows = read_records(&stream, usize::MAX).unwrap().records.len();
+        let stream = padded(&valid(&mut random), &mut random);
+        let rows = read_records(&stream, usize::MAX, Lenient).unwrap().records.len();
         let mut table = vec![0; rows * 8];
         let mut out = vec![0; 4096];
-        let length = tidy(&stream, &mut table, &mut out).unwrap();
+        let length = tidy(&stream, &mut table, &mut out, Lenient).unwrap();
         let copy = out[..length].to_vec();
-        assert_eq!(tidy(&copy, &mut table, &mut out), Ok(length));
+        for setting in Setting::BOTH {
+            assert_eq!(tidy(&copy, &mut table, &mut out, setting), Ok(length));
+        }
     }
 }
 
@@ -57,23 +169,27 @@ fn the_copy_fits_the_table() {
 #[test]
 fn same_exactly_where_copies_are_equal() {
     let mut random = Random::new(14);
-    let (mut alike, mut different) = (0, 0);
-    for _ in 0..60_000 {
-        let whole = valid(&mut random);
-        let other = damaged(&whole, &mut random);
-        let Some(other_copy) = copy(&other) else {
-            assert!(!same(&whole, &other));
-            continue;
-        };
-        let says_same = same(&whole, &other);
-        assert_eq!(says_same, copy(&whole) == Some(other_copy), "{whole:02X?} {other:02X?}");
-        if says_same {
-            alike += 1
-        } else {
-            different += 1
+    for settings in [[Strict, Strict], [Strict, Lenient], [Lenient, Lenient]] {
+        let (mut alike, mut different) = (0, 0);
+        for _ in 0..30_000 {
+            let whole = valid(&mut random);
+            let whole = if settings[0].is_lenient() { padded(&whole, &mut random) } else { whole };
+            let other = damaged(&whole, &mut random);
+            let Some(other_copy) = copy(&other, settings[1]) else {
+                assert!(!same([&whole, &other], settings));
+                continue;
+            };
+            let says_same = same([&whole, &other], settings);
+            let equal = copy(&whole, settings[0]) == Some(other_copy);
+            assert_eq!(says_same, equal, "{whole:02X?} {other:02X?}");
+            if says_same {
+                alike += 1
+            } else {
+                different += 1
+            }
         }
+        assert!(alike > 150 && different > 150, "{alike} {different}");
     }
-    assert!(alike > 300 && different > 300, "{alike} {different}");
 }
 
 #[test]
@@ -82,7 +198,10 @@ fn same_on_unrelated_lists() {
     let streams: Vec<Vec<u8>> = (0..150).map(|_| valid(&mut random)).collect();
     for one in &streams {
         for other in &streams {
-            assert_eq!(same(one, other), copy(one) == copy(other));
+            assert_eq!(
+                same([one, other], [Strict, Strict]),
+                copy(one, Strict) == copy(other, Strict)
+            );
         }
     }
 }
@@ -94,13 +213,15 @@ fn damaged_streams_are_answered() {
     let mut random = Random::new(16);
     for _ in 0..60_000 {
         let whole = valid(&mut random);
+        let whole = if random.chance(50) { padded(&whole, &mut random) } else { whole };
         let stream = damaged(&whole, &mut random);
-        let wide = read_records(&stream, usize::MAX);
-        if let Ok(reading) = &wide {
-            let rows = reading.records.len();
-            assert!(read_records(&stream, rows).is_ok());
-            let refusal = read_records(&stream, rows - 1).unwrap_err();
-            assert_eq!((refusal.number, refusal.place), (16, stream.len() - 1));
+        for setting in Setting::BOTH {
+            if let Ok(reading) = read_records(&stream, usize::MAX, setting) {
+                let rows = reading.records.len();
+                assert!(read_records(&stream, rows, setting).is_ok());
+                let refusal = read_records(&stream, rows - 1, setting).unwrap_err();
+                assert_eq!((refusal.number, refusal.place), (16, stream.len() - 1));
+            }
         }
     }
 }
@@ -184,7 +305,7 @@ fn the_generator_leaves_nothing_out() {
     let mut found = std::collections::HashSet::new();
     for _ in 0..6000 {
         let stream = valid(&mut random);
-        let reading = read_records(&stream, usize::MAX).unwrap();
+        let reading = read_records(&stream, usize::MAX, Strict).unwrap();
         reading.records.iter().for_each(|record| found.extend(features(record)));
     }
     let missing: Vec<String> =

@@ -1,7 +1,9 @@
 //! Counts what a comparison came to, and shows what differs.
 
 use crate::pairs::Comparison;
-use crate::reader::{Reply, ROW_WORDS};
+use crate::reader::{Reply, Setting, ROW_WORDS};
+use crate::tidying::Demand;
+use std::fmt::Display;
 
 /// Replies by number, 0 for a stream that was read or a copy that was written.
 pub const REPLIES: [&str; 21] = [
@@ -31,18 +33,18 @@ pub const REPLIES: [&str; 21] = [
 /// More differences than these say nothing new.
 const MOST_SHOWN: usize = 20;
 
-/// How often each reply came.
+/// How often each reply came, strict and lenient.
 #[derive(Default)]
-pub struct Replies([usize; REPLIES.len()]);
+pub struct Replies([[usize; 2]; REPLIES.len()]);
 
 impl Replies {
-    pub fn count(&mut self, outcome: &Result<usize, u32>) {
+    pub fn count(&mut self, setting: Setting, outcome: &Result<usize, u32>) {
         let number = outcome.as_ref().err().map_or(0, |number| *number as usize);
-        self.0[number] += 1;
+        self.0[number][usize::from(setting.is_lenient())] += 1;
     }
 
-    pub fn all(&self) -> usize {
-        self.0.iter().sum()
+    pub fn all(&self) -> [usize; 2] {
+        [0, 1].map(|setting| self.0.iter().map(|counts| counts[setting]).sum())
     }
 }
 
@@ -127,16 +129,27 @@ impl Report {
         }
     }
 
-    pub fn print(&self) {
-        println!("{:>2}  {:<18}{:>10}{:>10}", "", "reply", "read", "tidied");
-        for (number, name) in REPLIES.iter().enumerate() {
-            let (read, tidied) = (self.read.0[number], self.tidied.0[number]);
-            println!("{number:>2}  {name:<18}{read:>10}{tidied:>10}");
+    pub fn count_demand(&mut self, demand: &Demand) {
+        match demand {
+            Demand::None => {}
+            Demand::Noted(_) => self.noted += 1,
+            Demand::Unchanged => self.unchanged += 1,
+            Demand::OneCopy(_) => self.packings += 1,
         }
-        println!("{:>2}  {:<18}{:>10}{:>10}", "", "all", self.read.all(), self.tidied.all());
+    }
+
+    pub fn print(&self) {
+        println!("{:>22}{:>20}{:>20}", "", "read", "tidied");
+        let settings = ["strict", "lenient"];
+        print_counts("", "reply", settings, settings);
+        for (number, name) in REPLIES.iter().enumerate() {
+            let number_shown = number.to_string();
+            print_counts(&number_shown, name, self.read.0[number], self.tidied.0[number]);
+        }
+        print_counts("", "all", self.read.all(), self.tidied.all());
         self.print_sizes();
         println!("known copies: {}", self.noted);
-        println!("tidy copies tidied again: {}", self.unchanged);
+        println!("tidy copies tidied again, under either setting: {}", self.unchanged);
         println!("packings: {} of {} lists", self.packings, self.packed);
         println!("{}", self.pairs.line());
         println!("texts: {} of {} rows in {} tables", self.texts, self.rows, self.tables);
@@ -151,4 +164,11 @@ impl Report {
         let Sizes { empty_output, output_full, .. } = self.sizes;
         println!("outputs: {empty_output} empty, {output_full} too small");
     }
+}
+
+fn print_counts<T: Display>(number: &str, name: &str, read: [T; 2], tidied: [T; 2]) {
+    let ([strict, lenient], [tidied_strict, tidied_lenient]) = (read, tidied);
+    println!(
+        "{number:>2}  {name:<18}{strict:>10}{lenient:>10}{tidied_strict:>10}{tidied_lenient:>10}"
+    );
 }

@@ -2,7 +2,7 @@
 //! anew.
 
 use crate::generate::{Array, Class, Filling, List, Object, Type};
-use crate::reader::{self, Detail, Reading, Record, SlotType};
+use crate::reader::{self, Detail, Items, Reading, Record, SlotType};
 use std::str::from_utf8;
 
 struct Teller<'r, 'a> {
@@ -42,9 +42,7 @@ impl<'a> Teller<'_, 'a> {
             }
             Detail::Array(array) => {
                 let mut fillings = self.fillings(row);
-                if !array.items.is_empty() {
-                    fillings.push(Filling::Value(array.items.to_vec()));
-                }
+                fillings.extend(of_items(array));
                 Object::Array(Array {
                     kind: record.row.kind,
                     array_type: array.array_type.unwrap_or(0),
@@ -66,11 +64,26 @@ impl<'a> Teller<'_, 'a> {
         match (record.row.kind, &record.detail) {
             (reader::LIBRARY, _) => Vec::new(),
             (reader::REFERENCE, _) => vec![Filling::Reference(self.target(record))],
-            (reader::MEMBER_VALUE, Detail::Value(_, value)) => vec![Filling::Value(value.to_vec())],
+            (reader::MEMBER_VALUE, Detail::Value(code, value)) => {
+                vec![Filling::Value(*code, value.to_vec())]
+            }
             (_, Detail::Value(code, value)) => vec![Filling::Typed(*code, value.to_vec())],
             _ if record.row.is_null_run() => vec![Filling::Null; record.row.count as usize],
             _ => vec![Filling::Object(self.object(row))],
         }
+    }
+}
+
+/// Decimals one by one; other items of a code at once.
+fn of_items<'a>(array: &reader::Array) -> Vec<Filling<'a>> {
+    let SlotType::Primitive(code) = array.item else {
+        return Vec::new();
+    };
+    let value = |bytes: &[u8]| Filling::Value(code, bytes.to_vec());
+    match &array.items {
+        Items::Bytes([]) => Vec::new(),
+        Items::Bytes(bytes) => vec![value(bytes)],
+        Items::Decimals(decimals) => decimals.iter().map(|decimal| value(decimal)).collect(),
     }
 }
 

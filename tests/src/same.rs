@@ -1,7 +1,7 @@
 //! Whether two lists say the same, taken straight from the rule and not by way
 //! of tidy copies, so that the two can be held against each other.
 
-use crate::reader::{self, Detail, Reading, Record};
+use crate::reader::{self, Detail, Reading, Record, Setting};
 
 /// One list as the rule looks at it.
 struct Said<'r, 'a> {
@@ -13,10 +13,11 @@ struct Said<'r, 'a> {
     passed: u32,
 }
 
-/// False also where a stream is refused: a refused stream says nothing.
-pub fn same(stream_a: &[u8], stream_b: &[u8]) -> bool {
-    let readings = (read_whole(stream_a), read_whole(stream_b));
-    let (Some(a), Some(b)) = readings else {
+/// False also where a stream is refused: a refused stream says nothing. Each is
+/// read under its own setting.
+pub fn same(streams: [&[u8]; 2], settings: [Setting; 2]) -> bool {
+    let [a, b] = [0, 1].map(|list| read_whole(streams[list], settings[list]));
+    let (Some(a), Some(b)) = (a, b) else {
         return false;
     };
     let (mut a, mut b) = (Said::new(&a), Said::new(&b));
@@ -35,8 +36,8 @@ pub fn same(stream_a: &[u8], stream_b: &[u8]) -> bool {
     }
 }
 
-fn read_whole(stream: &[u8]) -> Option<Reading<'_>> {
-    reader::read_records(stream, usize::MAX).ok()
+fn read_whole(stream: &[u8], setting: Setting) -> Option<Reading<'_>> {
+    reader::read_records(stream, usize::MAX, setting).ok()
 }
 
 /// Compares the records that are next and passes what agrees.

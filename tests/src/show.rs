@@ -3,7 +3,7 @@
 
 use crate::corpus::refused;
 use crate::fast;
-use crate::reader::{read, Refusal, Reply};
+use crate::reader::{read, Refusal, Reply, Setting};
 use crate::tidy::tidy;
 
 /// What the comparing programs have space for.
@@ -39,6 +39,7 @@ pub fn send_table(table: &[u32], sent: &mut Vec<u8>) {
 /// number of rows or the length of the copy, or the number of the refusal, and
 /// what is left of the table and the output.
 pub struct Found {
+    pub setting: Setting,
     pub answer: String,
     pub outcome: Result<usize, u32>,
     pub table: Vec<u32>,
@@ -50,36 +51,43 @@ pub fn littered(words: usize, room: usize) -> (Vec<u32>, Vec<u8>) {
     (vec![LITTER_WORD; words], vec![LITTER_BYTE; room])
 }
 
-type Read = fn(&[u8], &mut [u32]) -> Result<usize, Refusal>;
-type Tidy = fn(&[u8], &mut [u32], &mut [u8]) -> Result<usize, Refusal>;
+type Read = fn(&[u8], &mut [u32], Setting) -> Result<usize, Refusal>;
+type Tidy = fn(&[u8], &mut [u32], &mut [u8], Setting) -> Result<usize, Refusal>;
 
-pub fn found(stream: &[u8], words: usize) -> Found {
-    found_by(read, stream, words)
+pub fn found(stream: &[u8], words: usize, setting: Setting) -> Found {
+    found_by(read, stream, words, setting)
 }
 
-fn found_by(read: Read, stream: &[u8], words: usize) -> Found {
+fn found_by(read: Read, stream: &[u8], words: usize, setting: Setting) -> Found {
     let (mut table, _) = littered(words, 0);
-    let outcome = read(stream, &mut table);
+    let outcome = read(stream, &mut table, setting);
     let answer = match &outcome {
         Ok(rows) => format!("accepted {rows}"),
         Err(refusal) => refused(refusal),
     };
-    Found { answer, outcome: outcome.map_err(|refusal| refusal.number), table, out: None }
+    let outcome = outcome.map_err(|refusal| refusal.number);
+    Found { setting, answer, outcome, table, out: None }
 }
 
-pub fn found_tidying(stream: &[u8], words: usize, room: usize) -> Found {
-    found_tidying_by(tidy, stream, words, room)
+pub fn found_tidying(stream: &[u8], words: usize, room: usize, setting: Setting) -> Found {
+    found_tidying_by(tidy, stream, [words, room], setting)
 }
 
-fn found_tidying_by(tidy: Tidy, stream: &[u8], words: usize, room: usize) -> Found {
+fn found_tidying_by(
+    tidy: Tidy,
+    stream: &[u8],
+    [words, room]: [usize; 2],
+    setting: Setting,
+) -> Found {
     let (mut table, mut out) = littered(words, room);
-    let outcome = tidy(stream, &mut table, &mut out);
+    let outcome = tidy(stream, &mut table, &mut out, setting);
     let answer = match &outcome {
         Ok(length) => written(*length),
         Err(refusal) if is_full(refusal) => format!("full {}", refusal.needed),
         Err(refusal) => refused(refusal),
     };
-    Found { answer, outcome: outcome.map_err(|refusal| refusal.number), table, out: Some(out) }
+    let outcome = outcome.map_err(|refusal| refusal.number);
+    Found { setting, answer, outcome, table, out: Some(out) }
 }
 
 pub fn written(length: usize) -> String {
@@ -96,8 +104,8 @@ impl Found {
     pub fn fast_fault(&self, stream: &[u8]) -> Option<String> {
         let words = self.table.len();
         let fast = match &self.out {
-            None => found_by(fast::read, stream, words),
-            Some(out) => found_tidying_by(fast::tidy, stream, words, out.len()),
+            None => found_by(fast::read, stream, words, self.setting),
+            Some(out) => found_tidying_by(fast::tidy, stream, [words, out.len()], self.setting),
         };
         if fast.answer != self.answer {
             return Some(format!("fast         {}, not {}", fast.answer, self.answer));
@@ -151,7 +159,7 @@ mod tests {
         let array = Stream::new().objects(1, 3).nulls(3).end().0;
         for (stream, words) in [(&[][..], 16), (&array[..], 35)] {
             send(stream, &[words], &mut sent);
-            lines += &(found(stream, words).line() + "\n");
+            lines += &(found(stream, words, Setting::Strict).line() + "\n");
         }
         assert_eq!(sent, include_bytes!("../../crates/compare/stdin"));
         assert_eq!(lines, include_str!("../../crates/compare/stdout"));
@@ -170,7 +178,7 @@ mod tests {
             (&array, 39, 40),
         ] {
             send(stream, &[words, room], &mut sent);
-            lines += &(found_tidying(stream, words, room).line() + "\n");
+            lines += &(found_tidying(stream, words, room, Setting::Strict).line() + "\n");
         }
         assert_eq!(sent, include_bytes!("../../crates/compare_tidy/stdin"));
         assert_eq!(lines, include_str!("../../crates/compare_tidy/stdout"));

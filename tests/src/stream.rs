@@ -1,5 +1,6 @@
 //! Puts streams together, right and wrong ones alike: nothing is judged here.
 
+use crate::reader::DECIMAL;
 use crate::tidy::write_prefix;
 
 /// Name, type byte and info bytes of a member.
@@ -34,6 +35,14 @@ impl Stream {
     pub fn text(mut self, text: &str) -> Stream {
         write_prefix(&mut self.0, text.len());
         self.bytes(text.as_bytes())
+    }
+
+    /// A Decimal is its text alone and gets its prefix here.
+    pub fn value(mut self, code: u8, value: &[u8]) -> Stream {
+        if code == DECIMAL {
+            write_prefix(&mut self.0, value.len());
+        }
+        self.bytes(value)
     }
 
     pub fn by_id(self, id: i32, metadata_id: i32) -> Stream {

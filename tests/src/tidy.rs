@@ -1,6 +1,8 @@
 //! Writes the tidy copy.
 
-use crate::reader::{self, Array, Class, Detail, Reading, Record, Refusal, SlotType};
+use crate::reader::{
+    self, Array, Class, Detail, Items, Reading, Record, Refusal, Setting, SlotType,
+};
 use std::collections::HashMap;
 
 #[derive(Clone, Copy)]
@@ -31,9 +33,14 @@ struct Writer<'r, 'a> {
 
 /// Writes the tidy copy and answers its length; the table gets the reading of
 /// the stream.
-pub fn tidy(stream: &[u8], table: &mut [u32], out: &mut [u8]) -> Result<usize, Refusal> {
+pub fn tidy(
+    stream: &[u8],
+    table: &mut [u32],
+    out: &mut [u8],
+    setting: Setting,
+) -> Result<usize, Refusal> {
     table.fill(0);
-    let reading = reader::read_records(stream, table.len() / reader::ROW_WORDS)?;
+    let reading = reader::read_records(stream, table.len() / reader::ROW_WORDS, setting)?;
     let copy = copy_of(&reading);
     if copy.len() > out.len() || copy.len() > reader::STREAM_LIMIT {
         return Err(Refusal::out_full(copy.len()));
@@ -98,9 +105,9 @@ impl<'a> Writer<'_, 'a> {
             (reader::TYPED_PRIMITIVE, Detail::Value(code, value)) => {
                 self.byte(reader::TYPED_PRIMITIVE);
                 self.byte(*code);
-                self.bytes(value);
+                self.value(*code, value);
             }
-            (_, Detail::Value(_, value)) => self.bytes(value),
+            (_, Detail::Value(code, value)) => self.value(*code, value),
             (kind, _) => unreachable!("no record of kind {kind} is without detail"),
         }
     }
@@ -240,7 +247,18 @@ impl<'a> Writer<'_, 'a> {
             self.int32(length as u32);
         }
         self.item_type(kind, &array.item);
-        self.bytes(array.items);
+        match &array.items {
+            Items::Bytes(bytes) => self.bytes(bytes),
+            Items::Decimals(decimals) => decimals.iter().for_each(|decimal| self.text(decimal)),
+        }
+    }
+
+    /// A Decimal gets the shortest prefix, whichever it had.
+    fn value(&mut self, code: u8, value: &[u8]) {
+        match code {
+            reader::DECIMAL => self.text(value),
+            _ => self.bytes(value),
+        }
     }
 
     /// Kind 7 spells its item type, kind 15 its code, the others nothing.

@@ -3,7 +3,8 @@
 
 use crate::cases::Case;
 use crate::generate::{self, List, Random};
-use crate::reader::{read_records, ROW_WORDS, STREAM_LIMIT};
+use crate::padding::padded;
+use crate::reader::{read_records, Setting, ROW_WORDS, STREAM_LIMIT};
 use crate::said;
 use crate::show::{byte_trace, written, MOST_WORDS};
 use crate::tidy::copy_of;
@@ -14,6 +15,7 @@ pub struct Tidying {
     pub stream: Vec<u8>,
     pub words: usize,
     pub room: usize,
+    pub setting: Setting,
     pub demand: Demand,
 }
 
@@ -23,7 +25,8 @@ pub enum Demand {
     None,
     /// What was noted of the copy, which fills the output.
     Noted(String),
-    /// The stream is a tidy copy, so its copy is the stream itself.
+    /// The stream is a tidy copy, so its copy is the stream itself, and what
+    /// the program answers and leaves is the same under both settings.
     Unchanged,
     /// The stream says what all streams of the group say, so the copies are
     /// equal.
@@ -34,70 +37,87 @@ pub enum Demand {
 const PACKINGS: usize = 4;
 
 /// The copy, where the stream is accepted with such a table.
-pub fn copy_in(stream: &[u8], words: usize) -> Option<Vec<u8>> {
-    read_records(stream, words / ROW_WORDS).ok().map(|reading| copy_of(&reading))
+pub fn copy_in(stream: &[u8], words: usize, setting: Setting) -> Option<Vec<u8>> {
+    read_records(stream, words / ROW_WORDS, setting).ok().map(|reading| copy_of(&reading))
 }
 
-/// A case with its own output, where it has one, and with the usual ones.
+/// A case under both settings, with its own output, where it has one, and with
+/// the usual ones; and its copy as a stream, under both.
 pub fn of_case(case: &Case) -> Vec<Tidying> {
-    let own = case.room.map(|room| Tidying {
-        what: format!("{}, its own output", case.what),
+    let under = |setting| own_output(case, setting).into_iter().chain(usual_outputs(case, setting));
+    let all = Setting::BOTH.into_iter().flat_map(under);
+    all.chain(copy_again(case)).collect()
+}
+
+fn tidying(case: &Case, what: &str, room: usize, setting: Setting) -> Tidying {
+    Tidying {
+        what: format!("{}, {what}, {setting:?}", case.what),
         stream: case.stream.clone(),
         words: case.words,
         room,
+        setting,
         demand: Demand::None,
-    });
-    own.into_iter().chain(with_usual_outputs(case)).collect()
+    }
+}
+
+fn own_output(case: &Case, setting: Setting) -> Option<Tidying> {
+    case.room.map(|room| tidying(case, "its own output", room, setting))
 }
 
 /// An accepted stream with outputs that are larger than the copy, as large, one
-/// byte too small and empty, and its copy as a stream, for the same table; a
-/// refused one with one output.
-fn with_usual_outputs(case: &Case) -> Vec<Tidying> {
-    let tidying = |what: &str, stream: &[u8], room, demand| Tidying {
-        what: format!("{}, {what}", case.what),
-        stream: stream.to_vec(),
-        words: case.words,
-        room,
-        demand,
-    };
-    let Some(copy) = copy_in(&case.stream, case.words) else {
-        let room = case.stream.len() % 64;
-        return vec![tidying("refused", &case.stream, room, Demand::None)];
+/// byte too small and empty; a refused one with one output.
+fn usual_outputs(case: &Case, setting: Setting) -> Vec<Tidying> {
+    let Some(copy) = copy_in(&case.stream, case.words, setting) else {
+        return vec![tidying(case, "refused", case.stream.len() % 64, setting)];
     };
     let length = copy.len();
-    let known = case.known.as_ref().and_then(|known| known.copy.clone());
+    let known = case.known_under(setting).and_then(|known| known.copy.clone());
     let noted = known.map_or(Demand::None, Demand::Noted);
-    // A copy over the limit is never written, and too large as a stream.
-    let again = if length > STREAM_LIMIT { Demand::None } else { Demand::Unchanged };
     vec![
-        tidying("output larger", &case.stream, length + 1 + length % 40, Demand::None),
-        tidying("output as large", &case.stream, length, noted),
-        tidying("output one byte too small", &case.stream, length - 1, Demand::None),
-        tidying("output empty", &case.stream, 0, Demand::None),
-        tidying("its copy", &copy, length, again),
+        tidying(case, "output larger", length + 1 + length % 40, setting),
+        Tidying { demand: noted, ..tidying(case, "output as large", length, setting) },
+        tidying(case, "output one byte too small", length - 1, setting),
+        tidying(case, "output empty", 0, setting),
     ]
+}
+
+/// The copy for the same table. A strict reading has the copy of the lenient
+/// one, where there is one.
+fn copy_again(case: &Case) -> Vec<Tidying> {
+    let Some(copy) = copy_in(&case.stream, case.words, Setting::Lenient) else {
+        return Vec::new();
+    };
+    // A copy over the limit is never written, and too large as a stream.
+    let fits = copy.len() <= STREAM_LIMIT;
+    let again = |setting| Tidying {
+        stream: copy.clone(),
+        demand: if fits { Demand::Unchanged } else { Demand::None },
+        ..tidying(case, "its copy", copy.len(), setting)
+    };
+    Setting::BOTH.map(again).into()
 }
 
 /// Lists made from a seed and those among the cases, each packed in many ways:
 /// other ids, null runs split and empty ones put in, libraries doubled and not
-/// needed, whole classes in place of kind 1, other HeaderIds. The copy of each
-/// list is among its group.
+/// needed, whole classes in place of kind 1, other HeaderIds, and for the lenient
+/// setting prefixes padded. The copy of each list is among its group.
 pub fn repacked(seed: u64, lists: usize, cases: &[Case]) -> Vec<Tidying> {
     let mut random = Random::new(seed);
     let mut all = Vec::new();
     for group in 0..lists {
         let list = generate::list(&mut random);
         let what = format!("repacked list {group}");
-        all.extend(group_of(group, &what, packings(&list, &mut random)));
+        let streams = packings(&list, &mut random);
+        all.extend(group_of(group, &what, streams, &mut random));
     }
     for (at, case) in cases.iter().filter(|case| case.is_list).enumerate() {
-        let Ok(reading) = read_records(&case.stream, MOST_ROWS) else {
+        let Ok(reading) = read_records(&case.stream, MOST_ROWS, Setting::Lenient) else {
             continue;
         };
         let mut streams = packings(&said::list(&reading), &mut random);
         streams.push(case.stream.clone());
-        all.extend(group_of(lists + at, &format!("repacked {}", case.what), streams));
+        let what = format!("repacked {}", case.what);
+        all.extend(group_of(lists + at, &what, streams, &mut random));
     }
     all
 }
@@ -108,22 +128,36 @@ fn packings(list: &List, random: &mut Random) -> Vec<Vec<u8>> {
     (0..PACKINGS).map(|_| generate::pack(list, random)).collect()
 }
 
-/// Streams with more rows than the largest table has are left out.
-fn group_of(group: usize, what: &str, mut streams: Vec<Vec<u8>>) -> Vec<Tidying> {
-    streams.retain(|stream| copy_in(stream, MOST_WORDS).is_some());
-    let Some(copy) = streams.first().and_then(|stream| copy_in(stream, MOST_WORDS)) else {
+/// Each stream under both settings, and padded under the lenient one. Streams
+/// with more rows than the largest table has are left out.
+fn group_of(
+    group: usize,
+    what: &str,
+    mut streams: Vec<Vec<u8>>,
+    random: &mut Random,
+) -> Vec<Tidying> {
+    let copied = |stream: &Vec<u8>| copy_in(stream, MOST_WORDS, Setting::Strict);
+    streams.retain(|stream| copied(stream).is_some());
+    let Some(copy) = streams.first().and_then(copied) else {
         return Vec::new();
     };
     let room = copy.len();
     streams.push(copy);
-    let tidying = |stream| Tidying {
-        what: what.to_string(),
+    let tidying = |stream, setting| Tidying {
+        what: format!("{what}, {setting:?}"),
         stream,
         words: MOST_WORDS,
         room,
+        setting,
         demand: Demand::OneCopy(group),
     };
-    streams.into_iter().map(tidying).collect()
+    let mut all = Vec::new();
+    for stream in streams {
+        all.push(tidying(padded(&stream, random), Setting::Lenient));
+        all.push(tidying(stream.clone(), Setting::Lenient));
+        all.push(tidying(stream, Setting::Strict));
+    }
+    all
 }
 
 /// What a line says of a copy that fills the output: its length and the hash
@@ -151,19 +185,33 @@ mod tests {
     #[test]
     fn outputs_have_all_the_odd_sizes() {
         let cases = generated(7, 400, &[]);
-        let mut seen = [0; 5];
-        for case in &cases {
-            let Some(copy) = copy_in(&case.stream, case.words) else {
-                continue;
-            };
-            for one in of_case(case) {
-                seen[0] += usize::from(one.room == 0);
-                seen[1] += usize::from(one.room + 1 == copy.len());
-                seen[2] += usize::from(one.room == copy.len());
-                seen[3] += usize::from(one.room > copy.len());
-                seen[4] += usize::from(one.room % ROW_WORDS > 0);
+        for setting in Setting::BOTH {
+            let mut seen = [0; 5];
+            for case in &cases {
+                let Some(copy) = copy_in(&case.stream, case.words, setting) else {
+                    continue;
+                };
+                for one in of_case(case).iter().filter(|one| one.setting == setting) {
+                    seen[0] += usize::from(one.room == 0);
+                    seen[1] += usize::from(one.room + 1 == copy.len());
+                    seen[2] += usize::from(one.room == copy.len());
+                    seen[3] += usize::from(one.room > copy.len());
+                    seen[4] += usize::from(one.room % ROW_WORDS > 0);
+                }
             }
+            assert!(seen.iter().all(|&seen| seen > 100), "{setting:?}: {seen:?}");
         }
-        assert!(seen.iter().all(|&seen| seen > 100), "{seen:?}");
+    }
+
+    /// Every copy of a group is the same, padded or not.
+    #[test]
+    fn groups_have_padded_packings_and_one_copy() {
+        let all = repacked(7, 200, &[]);
+        let strict = |one: &&Tidying| copy_in(&one.stream, MOST_WORDS, Setting::Strict).is_none();
+        assert!(all.iter().filter(strict).count() > 400);
+        for one in &all {
+            let copy = copy_in(&one.stream, one.words, one.setting).expect(&one.what);
+            assert_eq!(copy.len(), one.room, "{}", one.what);
+        }
     }
 }

@@ -2,7 +2,8 @@
 //! rows that were never read.
 
 use crate::generate::Random;
-use crate::reader::{row_answer, row_text, ROW_WORDS, STRING};
+use crate::padding;
+use crate::reader::{row_answer, row_text, Setting, ROW_WORDS, STRING};
 use crate::show::trace;
 
 /// Rows that are asked for besides those of the table.
@@ -38,12 +39,12 @@ impl Views {
     }
 }
 
-pub fn found_views(stream: &[u8], table: &[u32]) -> Views {
+pub fn found_views(stream: &[u8], table: &[u32], setting: Setting) -> Views {
     let mut views = Views::default();
     for row in rows_asked(table.len()) {
         let row = usize::try_from(row).unwrap_or(usize::MAX);
-        let text = row_text(stream, table, row).unwrap_or(&[]);
-        views.note(row_answer(stream, table, row), text);
+        let text = row_text(stream, table, row, setting).unwrap_or(&[]);
+        views.note(row_answer(stream, table, row, setting), text);
     }
     views
 }
@@ -57,8 +58,9 @@ pub fn planted(stream: &[u8], random: &mut Random) -> Vec<u32> {
     for _ in 0..random.below(MOST_PLANTED + 1) {
         let any = places.is_empty() || random.chance(15);
         let place = if any { random.below(stream.len() + 2) } else { random.pick(&places) };
-        let length = stream.get(place + 5).map_or(0, |&byte| usize::from(byte));
-        let end = (place + 6 + length + random.pick(&[1, 1, 1, 1, 2, 0])) as u32 - 1;
+        let (length, bytes) = padding::at(stream, place + 5).unwrap_or((0, 1));
+        let end = place + 5 + bytes + length + random.pick(&[1, 1, 1, 1, 2, 0]);
+        let end = (end - 1) as u32;
         let kind = random.pick(&[6, 6, 6, 6, 6, 5, 262]);
         let far = random.chance(5);
         table.extend([kind, if far { u32::MAX } else { place as u32 }, end, 0, 0, 0, 0, 0]);
@@ -72,17 +74,29 @@ mod tests {
     use super::*;
     use crate::stream::Stream;
 
+    /// How many of the rows planted in a stream show a text, and of how many.
+    fn shown(stream: &[u8], setting: Setting) -> (usize, usize) {
+        let mut random = Random::new(1);
+        let (mut texts, mut rows) = (0, 0);
+        for _ in 0..100 {
+            let table = planted(stream, &mut random);
+            rows += table.len() / ROW_WORDS;
+            texts += found_views(stream, &table, setting).texts;
+        }
+        (texts, rows)
+    }
+
     #[test]
     fn some_planted_rows_show_a_text() {
         let stream = Stream::new().string(1, "12E5").end().0;
-        let mut random = Random::new(1);
-        let mut texts = 0;
-        let mut rows = 0;
-        for _ in 0..100 {
-            let table = planted(&stream, &mut random);
-            rows += table.len() / ROW_WORDS;
-            texts += found_views(&stream, &table).texts;
+        let padded =
+            Stream::new().bytes(&[6]).int(1).bytes(&[0x84, 0x80, 0]).bytes(b"12E5").end().0;
+        for (stream, setting) in
+            [(&stream, Setting::Strict), (&stream, Setting::Lenient), (&padded, Setting::Lenient)]
+        {
+            let (texts, rows) = shown(stream, setting);
+            assert!(texts > rows / 4 && texts < rows, "{texts} of {rows}");
         }
-        assert!(texts > rows / 4 && texts < rows, "{texts} of {rows}");
+        assert_eq!(shown(&padded, Setting::Strict).0, 0);
     }
 }

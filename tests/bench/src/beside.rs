@@ -5,13 +5,14 @@
 
 use crate::lists;
 use crate::timing;
+use bench::STRICT;
 use independent_reader::reader::ROW_WORDS;
 use std::ffi::{c_char, c_int, c_void, CString};
 
-type Read = unsafe extern "C" fn(*const u8, usize, *mut u32, usize, *mut u64, *mut u64) -> u32;
+type Read = unsafe extern "C" fn(*const u8, usize, *mut u32, usize, u32, *mut u64, *mut u64) -> u32;
 
 type TextView =
-    unsafe extern "C" fn(*const u8, usize, *const u32, usize, u64, *mut u64, *mut u64) -> u32;
+    unsafe extern "C" fn(*const u8, usize, *const u32, usize, u64, u32, *mut u64, *mut u64) -> u32;
 
 extern "C" {
     fn dlopen(path: *const c_char, mode: c_int) -> *mut c_void;
@@ -76,9 +77,9 @@ impl Library {
     fn read(&self, stream: &[u8], table: &mut [u32]) -> usize {
         let (mut place, mut rows) = (0, 0);
         let (start, words) = (table.as_mut_ptr(), table.len());
-        let number = unsafe {
-            (self.read)(stream.as_ptr(), stream.len(), start, words, &mut place, &mut rows)
-        };
+        let (bytes, stream) = (stream.len(), stream.as_ptr());
+        let number =
+            unsafe { (self.read)(stream, bytes, start, words, STRICT, &mut place, &mut rows) };
         assert_eq!(number, 0, "refused at {place}");
         rows as usize
     }
@@ -88,10 +89,9 @@ impl Library {
         let view = |row: usize| {
             let (mut from, mut size) = (0, 0);
             let (start, words) = (table.as_ptr(), table.len());
-            let (bytes, row) = (stream.len(), row as u64);
-            unsafe {
-                (self.text_view)(stream.as_ptr(), bytes, start, words, row, &mut from, &mut size)
-            };
+            let (bytes, row, stream) = (stream.len(), row as u64, stream.as_ptr());
+            let (from, length) = (&mut from, &mut size);
+            unsafe { (self.text_view)(stream, bytes, start, words, row, STRICT, from, length) };
             size
         };
         (0..table.len() / ROW_WORDS).map(view).sum()

@@ -9,6 +9,7 @@ extern "C" {
         bytes: usize,
         table: *mut u32,
         words: usize,
+        setting: u32,
         place: *mut u64,
         rows: *mut u64,
     ) -> u32;
@@ -19,6 +20,7 @@ extern "C" {
         table: *const u32,
         words: usize,
         row: u64,
+        setting: u32,
     ) -> u32;
 
     fn strelinga_text_view(
@@ -27,6 +29,7 @@ extern "C" {
         table: *const u32,
         words: usize,
         row: u64,
+        setting: u32,
         from: *mut u64,
         length: *mut u64,
     ) -> u32;
@@ -38,6 +41,7 @@ extern "C" {
         words: usize,
         out: *mut u8,
         room: usize,
+        setting: u32,
         place: *mut u64,
         length: *mut u64,
     ) -> u32;
@@ -53,6 +57,8 @@ extern "C" {
         first_room: usize,
         second: *mut u8,
         second_room: usize,
+        a_setting: u32,
+        b_setting: u32,
         same: *mut u64,
         list: *mut u64,
         place: *mut u64,
@@ -70,18 +76,21 @@ pub struct Answer {
     pub value: u64,
 }
 
-// The jobs take any bytes and any words; pointers and counts below are those of live slices that do not overlap.
+/// The strict setting's number; every other one is lenient.
+pub const STRICT: u32 = 0;
 
-pub fn read(stream: &[u8], table: &mut [u32]) -> Answer {
+// The jobs take any bytes, words and settings; pointers and counts below are those of live slices that do not overlap.
+
+pub fn read(stream: &[u8], table: &mut [u32], setting: u32) -> Answer {
     let (mut place, mut value) = (0, 0);
-    let (start, words) = (table.as_mut_ptr(), table.len());
-    let number = unsafe {
-        strelinga_read(stream.as_ptr(), stream.len(), start, words, &mut place, &mut value)
-    };
+    let (bytes, words) = (stream.len(), table.len());
+    let (stream, table) = (stream.as_ptr(), table.as_mut_ptr());
+    let number =
+        unsafe { strelinga_read(stream, bytes, table, words, setting, &mut place, &mut value) };
     Answer { number, place, value }
 }
 
-pub fn tidy(stream: &[u8], table: &mut [u32], out: &mut [u8]) -> Answer {
+pub fn tidy(stream: &[u8], table: &mut [u32], out: &mut [u8], setting: u32) -> Answer {
     let (mut place, mut value) = (0, 0);
     let number = unsafe {
         strelinga_tidy(
@@ -91,6 +100,7 @@ pub fn tidy(stream: &[u8], table: &mut [u32], out: &mut [u8]) -> Answer {
             table.len(),
             out.as_mut_ptr(),
             out.len(),
+            setting,
             &mut place,
             &mut value,
         )
@@ -98,14 +108,13 @@ pub fn tidy(stream: &[u8], table: &mut [u32], out: &mut [u8]) -> Answer {
     Answer { number, place, value }
 }
 
-pub fn row_question(stream: &[u8], table: &[u32], row: u64) -> u32 {
-    unsafe {
-        strelinga_row_question(stream.as_ptr(), stream.len(), table.as_ptr(), table.len(), row)
-    }
+pub fn row_question(stream: &[u8], table: &[u32], row: u64, setting: u32) -> u32 {
+    let (bytes, words) = (stream.len(), table.len());
+    unsafe { strelinga_row_question(stream.as_ptr(), bytes, table.as_ptr(), words, row, setting) }
 }
 
 /// The reply, and where the text lies in the stream.
-pub fn text_view(stream: &[u8], table: &[u32], row: u64) -> (u32, Range<usize>) {
+pub fn text_view(stream: &[u8], table: &[u32], row: u64, setting: u32) -> (u32, Range<usize>) {
     let (mut from, mut length) = (0, 0);
     let number = unsafe {
         strelinga_text_view(
@@ -114,6 +123,7 @@ pub fn text_view(stream: &[u8], table: &[u32], row: u64) -> (u32, Range<usize>) 
             table.as_ptr(),
             table.len(),
             row,
+            setting,
             &mut from,
             &mut length,
         )
@@ -128,6 +138,7 @@ pub fn say_the_same(
     table: &mut [u32],
     first: &mut [u8],
     second: &mut [u8],
+    [a_setting, b_setting]: [u32; 2],
 ) -> Comparison {
     let [mut same, mut list, mut place, mut needed] = [LITTER; 4];
     let number = unsafe {
@@ -142,6 +153,8 @@ pub fn say_the_same(
             first.len(),
             second.as_mut_ptr(),
             second.len(),
+            a_setting,
+            b_setting,
             &mut same,
             &mut list,
             &mut place,

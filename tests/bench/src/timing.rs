@@ -1,8 +1,9 @@
 //! Times both readers and both tidiers on one list, and holds what they leave
 //! against each other.
 
+use bench::STRICT;
 use independent_reader::fast;
-use independent_reader::reader::{Reply, ROW_WORDS};
+use independent_reader::reader::{Reply, Setting, ROW_WORDS};
 
 pub const MOST_TURNS: usize = 50;
 
@@ -41,12 +42,13 @@ impl Subject {
     pub fn read(&mut self) -> Times {
         let Subject { stream, table, rows, .. } = self;
         let proved = best(|| {
-            let answer = bench::read(stream, table);
+            let answer = bench::read(stream, table, STRICT);
             assert_eq!((answer.number, answer.value), (0, *rows as u64), "at {}", answer.place);
         });
         let left = table.clone();
         table.fill(1);
-        let peer = best(|| assert_eq!(fast::read(stream, table), Ok(*rows), "read"));
+        let peer =
+            best(|| assert_eq!(fast::read(stream, table, Setting::Strict), Ok(*rows), "read"));
         assert!(left == *table, "the readers leave different tables");
         Times { proved, peer }
     }
@@ -55,13 +57,15 @@ impl Subject {
         let Subject { stream, table, out, .. } = self;
         let length = out.len();
         let proved = best(|| {
-            let answer = bench::tidy(stream, table, out);
+            let answer = bench::tidy(stream, table, out, STRICT);
             assert_eq!((answer.number, answer.value), (0, length as u64), "at {}", answer.place);
         });
         let left = (table.clone(), out.clone());
         table.fill(1);
         out.fill(1);
-        let peer = best(|| assert_eq!(fast::tidy(stream, table, out), Ok(length), "tidy"));
+        let peer = best(|| {
+            assert_eq!(fast::tidy(stream, table, out, Setting::Strict), Ok(length), "tidy")
+        });
         assert!(left.0 == *table && left.1 == *out, "the tidiers leave different memory");
         Times { proved, peer }
     }
@@ -71,7 +75,7 @@ impl Subject {
 fn sizes(stream: &[u8]) -> (usize, usize) {
     let mut table = vec![0; FIRST_ROWS * ROW_WORDS];
     let rows = loop {
-        match fast::read(stream, &mut table) {
+        match fast::read(stream, &mut table, Setting::Strict) {
             Ok(rows) => break rows,
             Err(refusal) if refusal.number == Reply::NoRoom as u32 => {
                 table = vec![0; 2 * table.len()];
@@ -79,7 +83,8 @@ fn sizes(stream: &[u8]) -> (usize, usize) {
             Err(refusal) => panic!("the list is refused: {refusal:?}"),
         }
     };
-    let full = fast::tidy(stream, &mut table, &mut []).expect_err("a copy has bytes");
+    let full =
+        fast::tidy(stream, &mut table, &mut [], Setting::Strict).expect_err("a copy has bytes");
     (rows, full.needed)
 }
 

@@ -2,9 +2,10 @@
 //! [--linked PROGRAM]`:
 //! compares the proved jobs with the independent ones, stream by stream:
 //! answer, place or length, every word of the table and every byte of the
-//! output; and the fast ones with the independent ones, on the same. RUN with
-//! its words runs the comparing program whose name comes after them. PROGRAM has
-//! the C forms linked; it compares pairs, shows texts and takes large streams.
+//! output; and the fast ones with the independent ones, on the same. Every stream
+//! is read and tidied under both settings. RUN with its words runs the comparing
+//! program whose name comes after them. PROGRAM has the C forms linked; it
+//! compares pairs, shows texts and takes large streams.
 
 use independent_reader::asked::{ask, Asked};
 use independent_reader::cases::{self, Case};
@@ -14,6 +15,7 @@ use independent_reader::generate::Random;
 use independent_reader::large::large;
 use independent_reader::outside;
 use independent_reader::pairs::{found_pair, pairs, Pair, NOT_THE_SAME};
+use independent_reader::reader::Setting;
 use independent_reader::report::Report;
 use independent_reader::show::{
     found, found_tidying, send, send_table, Found, MOST_BYTES, MOST_ROOM, MOST_STREAMS, MOST_WORDS,
@@ -36,6 +38,12 @@ const LINKED_READING: &str = "read";
 const LINKED_TIDYING: &str = "tidy";
 const LINKED_VIEWS: &str = "view";
 const LINKED_COMPARING: &str = "same";
+
+/// The word that makes a program lenient.
+const LENIENT: &str = "--lenient";
+
+/// What C forms may be given for the lenient setting: any number but 0.
+const LENIENT_NUMBERS: [u32; 6] = [1, 2, 256, 65_536, 1 << 31, u32::MAX];
 
 /// Streams made at once, each batch from a seed of its own.
 const BATCH: usize = 20_000;
@@ -128,10 +136,15 @@ impl Wishes {
         self.changes.as_ref().map_or(Ok(Vec::new()), |folder| changes::cases(folder))
     }
 
-    fn program(&self, name: &str) -> Vec<String> {
+    /// The comparing program of a name and, where there is one, the linked one
+    /// with a job that answers the same.
+    fn programs(&self, [name, job]: [&str; 2], setting: Setting, turn: usize) -> Vec<Vec<String>> {
         let mut words = self.run.clone();
         words.push(name.to_string());
-        words
+        words.extend(setting.is_lenient().then(|| LENIENT.to_string()));
+        let linked = self.linked.iter();
+        let linked = linked.map(|linked| linked_program(linked, job, number_of(setting, turn)));
+        [words].into_iter().chain(linked).collect()
     }
 
     /// Reads and tidies the cases, and packings of so many lists made from the
@@ -145,15 +158,19 @@ impl Wishes {
     ) -> Result<(), String> {
         let cases: Vec<Case> = cases.collect();
         held_to_limits(cases.iter().map(|case| (&*case.what, &*case.stream, case.words, 0)))?;
-        compare_reading(&self.program(READING), &cases, report)?;
+        for setting in Setting::BOTH {
+            let programs = self.programs([READING, LINKED_READING], setting, seed as usize);
+            compare_reading(&programs, setting, &cases, report)?;
+        }
         let mut tidyings: Vec<Tidying> = cases.iter().flat_map(tidying::of_case).collect();
         tidyings.extend(tidying::repacked(seed, repackings, &cases));
         held_to_limits(tidyings.iter().map(|one| (&*one.what, &*one.stream, one.words, one.room)))?;
-        compare_tidying(&self.program(TIDYING), &tidyings, report)?;
+        let programs = |setting| self.programs([TIDYING, LINKED_TIDYING], setting, seed as usize);
+        compare_tidying(programs, &tidyings, report)?;
         match &self.linked {
             Some(linked) => {
                 compare_views(linked, seed, &cases, report)?;
-                compare_pairs(linked, &pairs(seed, pair_count, &cases), report)
+                compare_pairs(linked, seed, &pairs(seed, pair_count, &cases), report)
             }
             None => Ok(()),
         }
@@ -164,15 +181,31 @@ impl Wishes {
         let Some(linked) = &self.linked else {
             return Ok(());
         };
-        let program = |job: &str| [linked.clone(), job.to_string()];
-        for case in cases {
+        for (turn, case) in cases.iter().enumerate() {
             let case = std::slice::from_ref(case);
-            compare_reading(&program(LINKED_READING), case, report)?;
+            let program =
+                |job, setting| vec![linked_program(linked, job, number_of(setting, turn))];
+            for setting in Setting::BOTH {
+                compare_reading(&program(LINKED_READING, setting), setting, case, report)?;
+            }
             let tidyings = tidying::of_case(&case[0]);
-            compare_tidying(&program(LINKED_TIDYING), &tidyings, report)?;
-            compare_views(linked, self.seed, case, report)?;
+            compare_tidying(|setting| program(LINKED_TIDYING, setting), &tidyings, report)?;
+            compare_views(linked, turn as u64, case, report)?;
         }
         Ok(())
+    }
+}
+
+fn linked_program(linked: &str, job: &str, setting: u32) -> Vec<String> {
+    vec![linked.to_string(), job.to_string(), setting.to_string()]
+}
+
+/// A number that the C forms are given for a setting, another one each turn
+/// where there are several.
+fn number_of(setting: Setting, turn: usize) -> u32 {
+    match setting {
+        Setting::Strict => 0,
+        Setting::Lenient => LENIENT_NUMBERS[turn % LENIENT_NUMBERS.len()],
     }
 }
 
@@ -195,51 +228,67 @@ fn held_to_limits<'c>(
     Ok(())
 }
 
-fn compare_reading(program: &[String], cases: &[Case], report: &mut Report) -> Result<(), String> {
+/// Each program is held to the same.
+fn compare_reading(
+    programs: &[Vec<String>],
+    setting: Setting,
+    cases: &[Case],
+    report: &mut Report,
+) -> Result<(), String> {
     let mut sent = Vec::new();
     cases.iter().for_each(|case| send(&case.stream, &[case.words], &mut sent));
-    let asked = ask(program, sent)?;
-    note_program(&asked, cases.len(), report);
+    let asked = ask_all(programs, &sent, cases.len(), report)?;
     for (number, case) in cases.iter().enumerate() {
-        let line = line_of(&asked, number);
-        let found = found(&case.stream, case.words);
-        report.read.count(&found.outcome);
+        let found = found(&case.stream, case.words, setting);
+        report.read.count(setting, &found.outcome);
         report.sizes.count_table(case.words, &found.outcome);
-        let mut faults = differing(&found.line(), line);
-        faults.extend(found.fast_fault(&case.stream));
-        faults.extend(against_known(case, &found, line));
-        note(report, &case.what, &[&case.stream], &[case.words], &faults);
+        let mut faults: Vec<String> = found.fast_fault(&case.stream).into_iter().collect();
+        for asked in &asked {
+            let line = line_of(asked, number);
+            faults.extend(differing(&found.line(), line));
+            faults.extend(against_known(case, &found, line));
+        }
+        let what = format!("{}, {setting:?}", case.what);
+        note(report, &what, &[&case.stream], &[case.words], &faults);
     }
     Ok(())
 }
 
+/// The programs of a setting are each held to the same; what is demanded of
+/// copies holds between all.
 fn compare_tidying(
-    program: &[String],
+    programs: impl Fn(Setting) -> Vec<Vec<String>>,
     tidyings: &[Tidying],
     report: &mut Report,
 ) -> Result<(), String> {
-    let mut sent = Vec::new();
-    for one in tidyings {
-        send(&one.stream, &[one.words, one.room], &mut sent);
-    }
-    let asked = ask(program, sent)?;
-    note_program(&asked, tidyings.len(), report);
     let mut copies = Copies::default();
-    for (number, one) in tidyings.iter().enumerate() {
-        let line = line_of(&asked, number);
-        let found = found_tidying(&one.stream, one.words, one.room);
-        report.tidied.count(&found.outcome);
-        report.sizes.count_output(one.room, &found.outcome);
-        let mut faults = differing(&found.line(), line);
-        faults.extend(found.fast_fault(&one.stream));
-        faults.extend(copies.fault(one, &found, line, report));
-        note(report, &one.what, &[&one.stream], &[one.words, one.room], &faults);
+    for setting in Setting::BOTH {
+        let under: Vec<&Tidying> = tidyings.iter().filter(|one| one.setting == setting).collect();
+        let mut sent = Vec::new();
+        for one in &under {
+            send(&one.stream, &[one.words, one.room], &mut sent);
+        }
+        let asked = ask_all(&programs(setting), &sent, under.len(), report)?;
+        for (number, one) in under.into_iter().enumerate() {
+            let found = found_tidying(&one.stream, one.words, one.room, setting);
+            report.tidied.count(setting, &found.outcome);
+            report.sizes.count_output(one.room, &found.outcome);
+            report.count_demand(&one.demand);
+            let mut faults: Vec<String> = found.fast_fault(&one.stream).into_iter().collect();
+            for asked in &asked {
+                let line = line_of(asked, number);
+                faults.extend(differing(&found.line(), line));
+                faults.extend(copies.fault(one, &found, line));
+            }
+            note(report, &one.what, &[&one.stream], &[one.words, one.room], &faults);
+        }
     }
     report.packed += copies.of_group.len();
     Ok(())
 }
 
-/// What the rows of the reading show, and rows that no reading left.
+/// What the rows of the lenient reading show, which are those of the strict one
+/// where that has any, and rows that no reading left; each under both settings.
 fn compare_views(
     linked: &str,
     seed: u64,
@@ -249,7 +298,7 @@ fn compare_views(
     let mut random = Random::new(seed);
     let mut asked_of: Vec<(&Case, Vec<u32>)> = Vec::new();
     for case in cases {
-        asked_of.push((case, found(&case.stream, case.words).table));
+        asked_of.push((case, found(&case.stream, case.words, Setting::Lenient).table));
         asked_of.push((case, planted(&case.stream, &mut random)));
     }
     let mut sent = Vec::new();
@@ -257,24 +306,35 @@ fn compare_views(
         send(&case.stream, &[table.len()], &mut sent);
         send_table(table, &mut sent);
     }
-    let asked = ask(&[linked.to_string(), LINKED_VIEWS.to_string()], sent)?;
-    note_program(&asked, asked_of.len(), report);
-    for (number, (case, table)) in asked_of.iter().enumerate() {
-        let views = found_views(&case.stream, table);
-        report.tables += 1;
-        report.rows += rows_asked(table.len()).count();
-        report.texts += views.texts;
-        let faults = differing(&views.line(), line_of(&asked, number));
-        note(report, &format!("{}, texts", case.what), &[&case.stream], &[table.len()], &faults);
+    for setting in Setting::BOTH {
+        let number = number_of(setting, seed as usize);
+        let asked = ask(&linked_program(linked, LINKED_VIEWS, number), sent.clone())?;
+        note_program(&asked, asked_of.len(), report);
+        for (number, (case, table)) in asked_of.iter().enumerate() {
+            let views = found_views(&case.stream, table, setting);
+            report.tables += 1;
+            report.rows += rows_asked(table.len()).count();
+            report.texts += views.texts;
+            let faults = differing(&views.line(), line_of(&asked, number));
+            let what = format!("{}, texts, {setting:?}", case.what);
+            note(report, &what, &[&case.stream], &[table.len()], &faults);
+        }
     }
     Ok(())
 }
 
 /// Whether the two of a pair say the same.
-fn compare_pairs(linked: &str, pairs: &[Pair], report: &mut Report) -> Result<(), String> {
+fn compare_pairs(
+    linked: &str,
+    seed: u64,
+    pairs: &[Pair],
+    report: &mut Report,
+) -> Result<(), String> {
+    let mut random = Random::new(seed);
     let mut sent = Vec::new();
-    for Pair { streams: [a, b], words, rooms, .. } in pairs {
-        send(a, &[b.len(), *words, rooms[0], rooms[1]], &mut sent);
+    for Pair { streams: [a, b], settings, words, rooms, .. } in pairs {
+        let numbers = settings.map(|setting| number_of(setting, random.below(BATCH)) as usize);
+        send(a, &[b.len(), *words, rooms[0], rooms[1], numbers[0], numbers[1]], &mut sent);
         sent.extend_from_slice(b);
     }
     let asked = ask(&[linked.to_string(), LINKED_COMPARING.to_string()], sent)?;
@@ -292,6 +352,22 @@ fn compare_pairs(linked: &str, pairs: &[Pair], report: &mut Report) -> Result<()
         note(report, &pair.what, &pair.streams, &sizes, &faults);
     }
     Ok(())
+}
+
+/// What each program answers to what is sent for so many streams.
+fn ask_all(
+    programs: &[Vec<String>],
+    sent: &[u8],
+    streams: usize,
+    report: &mut Report,
+) -> Result<Vec<Asked>, String> {
+    let mut all = Vec::new();
+    for program in programs {
+        let asked = ask(program, sent.to_vec())?;
+        note_program(&asked, streams, report);
+        all.push(asked);
+    }
+    Ok(all)
 }
 
 /// What went wrong with the program itself, and lines after the last stream,
@@ -338,7 +414,7 @@ fn note(
 /// What is known of a reading besides what the independent reader finds.
 fn against_known(case: &Case, found: &Found, line: &str) -> Vec<String> {
     let mut faults = Vec::new();
-    let Some(known) = &case.known else {
+    let Some(known) = case.known_under(found.setting) else {
         return faults;
     };
     let rows = found.outcome.ok().map(|rows| rows_hash(&found.table, rows));
@@ -361,32 +437,30 @@ fn answer_of(line: &str) -> &str {
 struct Copies {
     /// The first copy of each group.
     of_group: HashMap<usize, Option<(String, String)>>,
+    /// What was said first of each tidy copy, by the copy and the words of the
+    /// table.
+    of_copy: HashMap<(Vec<u8>, usize), String>,
 }
 
 impl Copies {
-    fn fault(
-        &mut self,
-        one: &Tidying,
-        found: &Found,
-        line: &str,
-        report: &mut Report,
-    ) -> Option<String> {
+    fn fault(&mut self, one: &Tidying, found: &Found, line: &str) -> Option<String> {
         let part = copy_part(line);
         match &one.demand {
             Demand::None => None,
             Demand::Noted(known) => {
-                report.noted += 1;
                 let copy = found.out.as_deref().map(copy_note);
                 let same = copy.as_ref() == Some(known);
                 (!same).then(|| format!("known copy   {known}, not {copy:?}"))
             }
             Demand::Unchanged => {
-                report.unchanged += 1;
-                let same = part == Some(part_of(&one.stream));
-                (!same).then(|| format!("a tidy copy is changed: {line}"))
+                if part != Some(part_of(&one.stream)) {
+                    return Some(format!("a tidy copy is changed: {line}"));
+                }
+                let key = (one.stream.clone(), one.words);
+                let first = self.of_copy.entry(key).or_insert_with(|| line.to_string());
+                (first != line).then(|| format!("a copy has other rows: {first}, not {line}"))
             }
             Demand::OneCopy(group) => {
-                report.packings += 1;
                 let first = self.of_group.entry(*group).or_insert_with(|| part.clone());
                 let same = part.is_some() && part == *first;
                 (!same).then(|| format!("another packing has another copy: {first:?}, {line}"))

@@ -1,9 +1,10 @@
 //! Prints what the listing program prints for standard input or for each file
-//! named; with `--tidy` also the tidy copy in hex; with `--corpus DIR` holds a
-//! folder of lists against its expected.tsv.
+//! named; with `--tidy` also the tidy copy in hex, with `--lenient` under the
+//! lenient setting; with `--corpus DIR` holds a folder of lists against its
+//! expected.tsv.
 
 use independent_reader::corpus::{self, copy_note, refused};
-use independent_reader::{read, tidy};
+use independent_reader::{read, tidy, Setting};
 use std::io::Read;
 use std::path::Path;
 use std::process::ExitCode;
@@ -21,22 +22,32 @@ fn main() -> ExitCode {
             None => fail("--corpus needs a folder"),
         };
     }
-    let with_tidy = arguments.iter().any(|argument| argument == "--tidy");
-    arguments.retain(|argument| argument != "--tidy");
+    let with_tidy = taken(&mut arguments, "--tidy");
+    let setting = match taken(&mut arguments, "--lenient") {
+        true => Setting::Lenient,
+        false => Setting::Strict,
+    };
     if arguments.is_empty() {
         let mut stream = Vec::new();
         return match std::io::stdin().read_to_end(&mut stream) {
-            Ok(_) => show(&stream, with_tidy),
+            Ok(_) => show(&stream, setting, with_tidy),
             Err(error) => fail(&error.to_string()),
         };
     }
     for name in &arguments {
         match std::fs::read(name) {
-            Ok(stream) => drop(show(&stream, with_tidy)),
+            Ok(stream) => drop(show(&stream, setting, with_tidy)),
             Err(error) => return fail(&format!("{name}: {error}")),
         }
     }
     ExitCode::SUCCESS
+}
+
+/// Whether the switch is there; it is not among the arguments afterwards.
+fn taken(arguments: &mut Vec<String>, switch: &str) -> bool {
+    let there = arguments.iter().any(|argument| argument == switch);
+    arguments.retain(|argument| argument != switch);
+    there
 }
 
 fn fail(why: &str) -> ExitCode {
@@ -44,20 +55,20 @@ fn fail(why: &str) -> ExitCode {
     ExitCode::FAILURE
 }
 
-fn show(stream: &[u8], with_tidy: bool) -> ExitCode {
-    print!("{}", listing(stream));
+fn show(stream: &[u8], setting: Setting, with_tidy: bool) -> ExitCode {
+    print!("{}", listing(stream, setting));
     if with_tidy {
-        println!("{}", tidy_line(stream));
+        println!("{}", tidy_line(stream, setting));
     }
     ExitCode::SUCCESS
 }
 
-fn listing(stream: &[u8]) -> String {
+fn listing(stream: &[u8], setting: Setting) -> String {
     if stream.len() > LISTING_BYTES {
         return "refused 1 at 0\n".to_string();
     }
     let mut table = vec![0; LISTING_ROWS * 8];
-    match read(stream, &mut table) {
+    match read(stream, &mut table, setting) {
         Ok(rows) => format!("accepted {rows}\n{}", row_lines(&table[..rows * 8])),
         Err(refusal) => format!("{}\n", refused(&refusal)),
     }
@@ -68,10 +79,10 @@ fn row_lines(words: &[u32]) -> String {
     words.chunks(8).map(line).collect()
 }
 
-fn tidy_line(stream: &[u8]) -> String {
+fn tidy_line(stream: &[u8], setting: Setting) -> String {
     let mut table = vec![0; TIDY_ROWS * 8];
     let mut out = vec![0; TIDY_BYTES];
-    match tidy(stream, &mut table, &mut out) {
+    match tidy(stream, &mut table, &mut out, setting) {
         Ok(length) => out[..length].iter().map(|byte| format!("{byte:02X}")).collect(),
         Err(refusal) => format!("tidy {}", refused(&refusal)),
     }
@@ -109,7 +120,7 @@ fn corpus_outcome(stream: &[u8]) -> String {
 fn corpus_tidy(stream: &[u8]) -> String {
     let mut table = vec![0; TIDY_ROWS * 8];
     let mut out = vec![0; TIDY_BYTES];
-    match tidy(stream, &mut table, &mut out) {
+    match tidy(stream, &mut table, &mut out, Setting::Strict) {
         Ok(length) => format!("tidy {}", copy_note(&out[..length])),
         Err(refusal) => format!("tidy {}", refused(&refusal)),
     }

@@ -1,6 +1,6 @@
 //! Which classes are equal, and which libraries have one name.
 
-use super::found::{Class, Found};
+use super::found::{prefix, Class, Found, Padded};
 use std::borrow::Cow;
 use std::collections::HashMap;
 use std::hash::{BuildHasherDefault, Hash, Hasher};
@@ -13,7 +13,8 @@ pub struct Firsts {
 }
 
 /// The own library, 0 for a system class, and the bytes from the name to the
-/// last info, each LibraryId replaced by the first library with its name.
+/// last info, each LibraryId replaced by the first library with its name, and
+/// each padded prefix by the shortest.
 #[derive(PartialEq, Eq, Hash)]
 struct Content<'a> {
     library: u32,
@@ -48,7 +49,23 @@ fn content<'a>(stream: &'a [u8], class: &Class, found: &Found, libraries: &[u32]
         let at = one.place - class.from;
         bytes.to_mut()[at..at + 4].copy_from_slice(&first(one.library).to_le_bytes());
     }
+    let padded = found.padded_in(class.from, class.to);
+    if !padded.is_empty() {
+        bytes = Cow::Owned(unpadded(&bytes, class.from, padded));
+    }
     Content { library, bytes }
+}
+
+/// The bytes, which stand at `start` in the stream, with the shortest prefixes.
+fn unpadded(bytes: &[u8], start: usize, padded: &[Padded]) -> Vec<u8> {
+    let (mut shorter, mut from) = (Vec::with_capacity(bytes.len()), 0);
+    for one in padded {
+        shorter.extend_from_slice(&bytes[from..one.place - start]);
+        shorter.extend(prefix(one.length));
+        from = one.end - start;
+    }
+    shorter.extend_from_slice(&bytes[from..]);
+    shorter
 }
 
 /// Eight bytes at a time.

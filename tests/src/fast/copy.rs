@@ -2,7 +2,7 @@
 //! then written.
 
 use super::classes::Firsts;
-use super::found::{Found, Use};
+use super::found::{prefix, Found, Padded, Use};
 use crate::reader::*;
 
 /// Bytes of a kind and a number.
@@ -96,6 +96,8 @@ pub struct Walk<'n, 'a, S> {
     number: u32,
     class_objects: usize,
     uses: usize,
+    /// Padded prefixes that are yet to come.
+    padded: &'n [Padded],
     /// By library: its number once it is written, else 0.
     library_numbers: Vec<u32>,
     last_library: u32,
@@ -110,6 +112,7 @@ impl<'n, 'a, S: Sink> Walk<'n, 'a, S> {
             number: 0,
             class_objects: 0,
             uses: 0,
+            padded: &found.padded,
             library_numbers: vec![0; found.libraries.len()],
             last_library: 0,
         }
@@ -151,7 +154,7 @@ impl<'n, 'a, S: Sink> Walk<'n, 'a, S> {
     #[inline]
     fn record(&mut self, kind: u8, offset: usize, end: usize, id: i32) {
         match kind {
-            TYPED_PRIMITIVE | MEMBER_VALUE => self.sink.keep(offset, end),
+            TYPED_PRIMITIVE | MEMBER_VALUE => self.keep(offset, end),
             REFERENCE => self.head(REFERENCE, self.number_of(id)),
             CLASS_BY_ID => {
                 self.number += 1;
@@ -174,9 +177,35 @@ impl<'n, 'a, S: Sink> Walk<'n, 'a, S> {
             _ => {
                 self.number += 1;
                 self.head(kind, self.number);
-                self.sink.keep(offset + HEAD, end);
+                self.keep(offset + HEAD, end);
             }
         }
+    }
+
+    /// Bytes of the stream, but for padded prefixes, which get shorter. What is
+    /// kept goes up in the stream, and what lies between is passed.
+    #[inline]
+    fn keep(&mut self, from: usize, to: usize) {
+        match self.padded {
+            [first, ..] if first.place < to => self.keep_shorter(from, to),
+            _ => self.sink.keep(from, to),
+        }
+    }
+
+    #[cold]
+    fn keep_shorter(&mut self, mut from: usize, to: usize) {
+        while let [first, later @ ..] = self.padded {
+            if first.place >= to {
+                break;
+            }
+            if first.place >= from {
+                self.sink.keep(from, first.place);
+                self.prefix(first.length);
+                from = first.end;
+            }
+            self.padded = later;
+        }
+        self.sink.keep(from, to);
     }
 
     /// The number of the object that an id names.
@@ -225,11 +254,11 @@ impl<'n, 'a, S: Sink> Walk<'n, 'a, S> {
         self.head(kind, self.number);
         let mut from = offset + HEAD;
         for one in uses {
-            self.sink.keep(from, one.place);
+            self.keep(from, one.place);
             self.sink.put(self.library_numbers[self.first(one)].to_le_bytes());
             from = one.place + 4;
         }
-        self.sink.keep(from, end);
+        self.keep(from, end);
     }
 
     fn first(&self, one: &Use) -> usize {
@@ -251,11 +280,6 @@ impl<'n, 'a, S: Sink> Walk<'n, 'a, S> {
     }
 
     fn prefix(&mut self, length: usize) {
-        let mut rest = length;
-        while rest > 0x7F {
-            self.sink.put([rest as u8 | 0x80]);
-            rest >>= 7;
-        }
-        self.sink.put([rest as u8]);
+        prefix(length).for_each(|byte| self.sink.put([byte]));
     }
 }

@@ -1,6 +1,7 @@
 //! The fields of a stream, one after the other.
 
-use crate::reader::Reply;
+use super::found::Padded;
+use crate::reader::{Reply, Setting};
 
 /// What a field gives; its place is that of the record around it.
 pub type Field<T> = Result<T, Reply>;
@@ -14,11 +15,19 @@ const TICKS: u64 = 3_652_059 * 864_000_000_000;
 pub struct Cursor<'a> {
     rest: &'a [u8],
     bytes: usize,
+    setting: Setting,
+    /// In the order of the stream.
+    padded: Vec<Padded>,
 }
 
 impl<'a> Cursor<'a> {
-    pub fn new(stream: &'a [u8]) -> Cursor<'a> {
-        Cursor { rest: stream, bytes: stream.len() }
+    pub fn new(stream: &'a [u8], setting: Setting) -> Cursor<'a> {
+        Cursor { rest: stream, bytes: stream.len(), setting, padded: Vec::new() }
+    }
+
+    /// The padded prefixes that were passed.
+    pub fn into_padded(self) -> Vec<Padded> {
+        self.padded
     }
 
     #[inline]
@@ -75,14 +84,19 @@ impl<'a> Cursor<'a> {
         }
     }
 
+    /// A last byte of 0 is padding.
     fn longer_prefix(&mut self, first: u8) -> Field<usize> {
+        let place = self.place() - 1;
         let mut length = usize::from(first & 0x7F);
         for group in 1..5 {
             let byte = self.byte()?;
-            if byte == 0 || (group == 4 && byte > 7) {
+            if (group == 4 && byte > 7) || (byte == 0 && self.setting == Setting::Strict) {
                 return Err(Reply::BadLength);
             }
             length |= usize::from(byte & 0x7F) << (7 * group);
+            if byte == 0 {
+                self.padded.push(Padded { place, end: self.place(), length });
+            }
             if byte < 0x80 {
                 break;
             }

@@ -17,6 +17,8 @@ pub struct Found<'a> {
     pub libraries: Vec<&'a [u8]>,
     /// In the order of the stream.
     pub uses: Vec<Use>,
+    /// In the order of the stream; none where it was read strictly.
+    pub padded: Vec<Padded>,
     /// Rows of references whose targets were not yet there.
     pub forward: Vec<usize>,
 }
@@ -46,6 +48,14 @@ pub struct Use {
     pub library: u32,
 }
 
+/// A length prefix that is not the shortest.
+#[derive(Clone, Copy)]
+pub struct Padded {
+    pub place: usize,
+    pub end: usize,
+    pub length: usize,
+}
+
 impl Found<'_> {
     pub fn new() -> Self {
         Found {
@@ -57,7 +67,25 @@ impl Found<'_> {
             library_ids: Ids::new(),
             libraries: Vec::new(),
             uses: Vec::new(),
+            padded: Vec::new(),
             forward: Vec::new(),
         }
     }
+
+    /// The padded prefixes from one place to another.
+    pub fn padded_in(&self, from: usize, to: usize) -> &[Padded] {
+        let before = self.padded.partition_point(|one| one.place < from);
+        let within = self.padded[before..].partition_point(|one| one.place < to);
+        &self.padded[before..before + within]
+    }
+}
+
+/// The bytes of the shortest prefix, one by one.
+pub fn prefix(length: usize) -> impl Iterator<Item = u8> {
+    let mut rest = Some(length);
+    std::iter::from_fn(move || {
+        let length = rest?;
+        rest = (length > 0x7F).then_some(length >> 7);
+        Some(length as u8 & 0x7F | if rest.is_some() { 0x80 } else { 0 })
+    })
 }

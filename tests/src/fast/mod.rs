@@ -10,37 +10,51 @@ mod ids;
 mod reader;
 mod slots;
 
-use crate::reader::{Refusal, Reply, ROW_WORDS, STREAM_LIMIT};
+use crate::reader::{Refusal, Reply, Setting, ROW_WORDS, STREAM_LIMIT};
 use copy::{Length, Output, Walk};
 
 /// Fills the table with the rows of the stream and answers their number.
-pub fn read(stream: &[u8], table: &mut [u32]) -> Result<usize, Refusal> {
-    let answer = read_within_limit(stream, table).map(|found| found.rows);
+pub fn read(stream: &[u8], table: &mut [u32], setting: Setting) -> Result<usize, Refusal> {
+    let answer = read_within_limit(stream, table, setting).map(|found| found.rows);
     if answer.is_err() {
         table.fill(0);
     }
     answer
 }
 
-fn read_within_limit<'a>(stream: &'a [u8], table: &mut [u32]) -> Result<found::Found<'a>, Refusal> {
+fn read_within_limit<'a>(
+    stream: &'a [u8],
+    table: &mut [u32],
+    setting: Setting,
+) -> Result<found::Found<'a>, Refusal> {
     if stream.len() > STREAM_LIMIT {
         return Err(Refusal::at(Reply::TooLarge, 0));
     }
-    reader::read(stream, table)
+    reader::read(stream, table, setting)
 }
 
 /// Writes the tidy copy and answers its length; the table gets the reading of
 /// the stream.
-pub fn tidy(stream: &[u8], table: &mut [u32], out: &mut [u8]) -> Result<usize, Refusal> {
-    let answer = copy_into(stream, table, out);
+pub fn tidy(
+    stream: &[u8],
+    table: &mut [u32],
+    out: &mut [u8],
+    setting: Setting,
+) -> Result<usize, Refusal> {
+    let answer = copy_into(stream, table, out, setting);
     if answer.is_err() {
         table.fill(0);
     }
     answer
 }
 
-fn copy_into(stream: &[u8], table: &mut [u32], out: &mut [u8]) -> Result<usize, Refusal> {
-    let found = read_within_limit(stream, table)?;
+fn copy_into(
+    stream: &[u8],
+    table: &mut [u32],
+    out: &mut [u8],
+    setting: Setting,
+) -> Result<usize, Refusal> {
+    let found = read_within_limit(stream, table, setting)?;
     let rows = &table[..found.rows * ROW_WORDS];
     let classes = classes::by_first(stream, &found);
     let needed = Walk::new(&found, &classes, Length::default()).over(rows).bytes;

@@ -31,9 +31,13 @@ struct Reader<'a, 't> {
 }
 
 /// After a refusal the table is as the reading left it.
-pub fn read<'a>(stream: &'a [u8], table: &mut [u32]) -> Result<Found<'a>, Refusal> {
+pub fn read<'a>(
+    stream: &'a [u8],
+    table: &mut [u32],
+    setting: Setting,
+) -> Result<Found<'a>, Refusal> {
     let mut reader = Reader {
-        cursor: Cursor::new(stream),
+        cursor: Cursor::new(stream, setting),
         table,
         found: Found::new(),
         frame: Frame::TOP,
@@ -50,7 +54,7 @@ pub fn read<'a>(stream: &'a [u8], table: &mut [u32]) -> Result<Found<'a>, Refusa
         }
     }
     reader.link()?;
-    Ok(reader.found)
+    Ok(Found { padded: reader.cursor.into_padded(), ..reader.found })
 }
 
 impl<'a> Reader<'a, '_> {

@@ -2,21 +2,25 @@
 
 use crate::cases::{by_hand, generated, lists, Case};
 use crate::large::large;
+use crate::padding::padded_to;
+use crate::reader::Setting;
 use crate::show::{found, found_tidying};
 use crate::tidying::{of_case, repacked, Tidying};
 use std::path::Path;
 
 fn agrees_on(cases: &[Case]) {
     for case in cases {
-        let clear = found(&case.stream, case.words);
-        assert_eq!(clear.fast_fault(&case.stream), None, "{}", case.what);
+        for setting in Setting::BOTH {
+            let clear = found(&case.stream, case.words, setting);
+            assert_eq!(clear.fast_fault(&case.stream), None, "{}, {setting:?}", case.what);
+        }
         agrees_in_tidying(&of_case(case));
     }
 }
 
 fn agrees_in_tidying(tidyings: &[Tidying]) {
     for one in tidyings {
-        let clear = found_tidying(&one.stream, one.words, one.room);
+        let clear = found_tidying(&one.stream, one.words, one.room, one.setting);
         assert_eq!(clear.fast_fault(&one.stream), None, "{}", one.what);
     }
 }
@@ -40,6 +44,16 @@ fn on_real_lists_and_packings_of_them() {
     let lists = real_lists();
     agrees_on(&lists);
     agrees_in_tidying(&repacked(11, 200, &lists));
+}
+
+/// All prefixes of one list in the same number of bytes.
+#[test]
+fn on_real_lists_with_padded_prefixes() {
+    for bytes in 2..=5 {
+        let padded = |list: Case| Case { stream: padded_to(&list.stream, bytes), ..list };
+        let short = |list: &Case| list.stream.len() <= 65_536;
+        agrees_on(&real_lists().into_iter().filter(short).map(padded).collect::<Vec<_>>());
+    }
 }
 
 #[test]

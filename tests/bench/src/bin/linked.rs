@@ -1,24 +1,30 @@
-//! `linked read|tidy|view|same`: takes streams from standard input as the proved
+//! `linked read|tidy|view|same SETTING`: takes streams from standard input as the proved
 //! comparing programs do and prints the same lines, but calls the C forms and
 //! has space for streams, tables and outputs of any size. `view` takes the
-//! words of each table too and prints what its rows show. `same` takes a second
-//! stream with each and prints what the comparing job answers and leaves.
+//! words of each table too and prints what its rows show. SETTING is the number
+//! that the jobs are given. `same` takes none: a second stream and the settings of
+//! both come with each, and it prints what the comparing job answers and leaves.
 
 use independent_reader::show::{byte_trace, littered, trace};
 use independent_reader::views::{rows_asked, Views};
 use std::io::{self, BufWriter, Read, Write};
 
 fn main() -> io::Result<()> {
-    let job = std::env::args().nth(1).unwrap_or_default();
+    let words: Vec<String> = std::env::args().skip(1).collect();
+    let (job, setting) = match &words.iter().map(String::as_str).collect::<Vec<_>>()[..] {
+        ["same"] => ("same", None),
+        [job, setting] => (*job, setting.parse().ok()),
+        _ => ("", None),
+    };
     let mut input = io::stdin().lock();
     let mut output = BufWriter::new(io::stdout().lock());
     while let Some(bytes) = size(&mut input) {
-        let line = match job.as_str() {
-            "read" => read(&mut input, bytes)?,
-            "tidy" => tidy(&mut input, bytes)?,
-            "view" => view(&mut input, bytes)?,
-            "same" => same(&mut input, bytes)?,
-            _ => return Err(io::Error::other("linked read|tidy|view|same")),
+        let line = match (job, setting) {
+            ("read", Some(setting)) => read(&mut input, bytes, setting)?,
+            ("tidy", Some(setting)) => tidy(&mut input, bytes, setting)?,
+            ("view", Some(setting)) => view(&mut input, bytes, setting)?,
+            ("same", None) => same(&mut input, bytes)?,
+            _ => return Err(io::Error::other("linked read|tidy|view SETTING, or linked same")),
         };
         writeln!(output, "{line}")?;
     }
@@ -46,11 +52,11 @@ fn refused(answer: &bench::Answer) -> String {
     format!("refused {} at {}", answer.number, answer.place)
 }
 
-fn read(input: &mut impl Read, bytes: usize) -> io::Result<String> {
+fn read(input: &mut impl Read, bytes: usize, setting: u32) -> io::Result<String> {
     let words = next_size(input)?;
     let stream = taken(input, bytes)?;
     let (mut table, _) = littered(words, 0);
-    let answer = bench::read(&stream, &mut table);
+    let answer = bench::read(&stream, &mut table, setting);
     let said = match answer.number {
         0 => format!("accepted {}", answer.value),
         _ => refused(&answer),
@@ -58,11 +64,11 @@ fn read(input: &mut impl Read, bytes: usize) -> io::Result<String> {
     Ok(format!("{said} {}", trace(&table)))
 }
 
-fn tidy(input: &mut impl Read, bytes: usize) -> io::Result<String> {
+fn tidy(input: &mut impl Read, bytes: usize, setting: u32) -> io::Result<String> {
     let (words, room) = (next_size(input)?, next_size(input)?);
     let stream = taken(input, bytes)?;
     let (mut table, mut out) = littered(words, room);
-    let answer = bench::tidy(&stream, &mut table, &mut out);
+    let answer = bench::tidy(&stream, &mut table, &mut out, setting);
     let said = match answer.number {
         0 => format!("written {}", answer.value),
         20 => format!("full {}", answer.value),
@@ -71,7 +77,7 @@ fn tidy(input: &mut impl Read, bytes: usize) -> io::Result<String> {
     Ok(format!("{said} {} {}", trace(&table), byte_trace(&out)))
 }
 
-fn view(input: &mut impl Read, bytes: usize) -> io::Result<String> {
+fn view(input: &mut impl Read, bytes: usize, setting: u32) -> io::Result<String> {
     let words = next_size(input)?;
     let stream = taken(input, bytes)?;
     let table: Vec<u32> = taken(input, 4 * words)?
@@ -80,8 +86,8 @@ fn view(input: &mut impl Read, bytes: usize) -> io::Result<String> {
         .collect();
     let mut views = Views::default();
     for row in rows_asked(words) {
-        let (reply, part) = bench::text_view(&stream, &table, row);
-        if reply != bench::row_question(&stream, &table, row) {
+        let (reply, part) = bench::text_view(&stream, &table, row, setting);
+        if reply != bench::row_question(&stream, &table, row, setting) {
             return Ok(format!("the row question and the text view differ at row {row}"));
         }
         views.note(reply, &stream[part]);
@@ -92,9 +98,10 @@ fn view(input: &mut impl Read, bytes: usize) -> io::Result<String> {
 fn same(input: &mut impl Read, bytes: usize) -> io::Result<String> {
     let (other_bytes, words) = (next_size(input)?, next_size(input)?);
     let (room, other_room) = (next_size(input)?, next_size(input)?);
+    let settings = [next_size(input)? as u32, next_size(input)? as u32];
     let (a, b) = (taken(input, bytes)?, taken(input, other_bytes)?);
     let (mut table, mut first) = littered(words, room);
     let (_, mut second) = littered(0, other_room);
-    let answer = bench::say_the_same(&a, &b, &mut table, &mut first, &mut second);
+    let answer = bench::say_the_same(&a, &b, &mut table, &mut first, &mut second, settings);
     Ok(answer.line(&table, [&first, &second]))
 }
