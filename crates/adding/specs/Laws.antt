@@ -113,56 +113,56 @@ module _ (room : ℕ) (t f : List ℕ) (m : Reader) (kind : ℕ) (h : Head) wher
 
 -- ---- a null run
 
-module _ (s : List ℕ) (room : ℕ) (st : State) (kind : ℕ) (h : Head) where
-  pub run-long : st .stack .cur .left < h .count → refuse R.BadCount (st .at) ≡ nullRun s room st kind h
+module _ (β s : List ℕ) (room : ℕ) (st : State) (kind : ℕ) (h : Head) where
+  pub run-long : st .stack .cur .left < h .count → refuse R.BadCount (st .at) ≡ nullRun β s room st kind h
   unfolding nullRun
   run-long w = rw (lt-ltb (st .stack .cur .left) (h .count) w)
 
-  module _ (w : h .count ≤ st .stack .cur .left) (p : Passed) (e : p ≡ passedOf s (st .stack .cur .typed) (h .count)) where
-    pub run-over : (ty : Typed) → p ≡ O.Over ty → slotsTaken room st kind h (h .count) ty ≡ nullRun s room st kind h
+  module _ (w : h .count ≤ st .stack .cur .left) (p : Passed) (e : p ≡ passedOf β s (st .stack .cur .typed) (h .count)) where
+    pub run-over : (ty : Typed) → p ≡ O.Over ty → slotsTaken room st kind h (h .count) ty ≡ nullRun β s room st kind h
     unfolding nullRun slotsTaken
     run-over ty q = rw (le-ltb (st .stack .cur .left) (h .count) w, ← e, q)
 
-    pub run-crossed : p ≡ O.Crossed → refuse R.BadCount (st .at) ≡ nullRun s room st kind h
+    pub run-crossed : p ≡ O.Crossed → refuse R.BadCount (st .at) ≡ nullRun β s room st kind h
     unfolding nullRun
     run-crossed q = rw (le-ltb (st .stack .cur .left) (h .count) w, ← e, q)
 
 -- ---- by kind
 
-module _ (s : List ℕ) (room : ℕ) (st : State) (h : Head) where
-  pub act-13 : (kind : ℕ) → kind ≡ 13 → nullRun s room st kind h ≡ act s room st kind (H.Fields h)
+module _ (β s : List ℕ) (room : ℕ) (st : State) (h : Head) where
+  pub act-13 : (kind : ℕ) → kind ≡ 13 → nullRun β s room st kind h ≡ act β s room st kind (H.Fields h)
   unfolding act
   act-13 kind e = rw e
 
-  pub act-14 : (kind : ℕ) → kind ≡ 14 → nullRun s room st kind h ≡ act s room st kind (H.Fields h)
+  pub act-14 : (kind : ℕ) → kind ≡ 14 → nullRun β s room st kind h ≡ act β s room st kind (H.Fields h)
   unfolding act
   act-14 kind e = rw e
 
-  pub act-12 : (kind : ℕ) → kind ≡ 12 → libraryTaken room st kind h ≡ act s room st kind (H.Fields h)
+  pub act-12 : (kind : ℕ) → kind ≡ 12 → libraryTaken room st kind h ≡ act β s room st kind (H.Fields h)
   unfolding act libraryTaken
   act-12 kind e = rw e
 
-  pub act-11 : (kind : ℕ) → kind ≡ 11 → ending room st h ≡ act s room st kind (H.Fields h)
+  pub act-11 : (kind : ℕ) → kind ≡ 11 → ending room st h ≡ act β s room st kind (H.Fields h)
   unfolding act
   act-11 kind e = rw e
 
-  module _ (kind : ℕ) (ty : Typed) (e : ty ≡ moved s (st .stack .cur .typed)) where
-    pub act-object : isObject kind ≡ true → object room st kind h ty ≡ act s room st kind (H.Fields h)
+  module _ (kind : ℕ) (ty : Typed) (e : ty ≡ moved β s (st .stack .cur .typed)) where
+    pub act-object : isObject kind ≡ true → object room st kind h ty ≡ act β s room st kind (H.Fields h)
     unfolding act
     act-object o = rw (o, e)
 
     pub act-plain : isObject kind ≡ false → (kind ≡ 13 → ⊥) → (kind ≡ 14 → ⊥) → (kind ≡ 12 → ⊥) → (kind ≡ 11 → ⊥)
-        → slotsTaken room st kind h 1 ty ≡ act s room st kind (H.Fields h)
+        → slotsTaken room st kind h 1 ty ≡ act β s room st kind (H.Fields h)
     unfolding act slotsTaken
     act-plain o a b c d = rw (o, ne-eqb kind 13 a, ne-eqb kind 14 b, ne-eqb kind 12 c, ne-eqb kind 11 d, e)
 
-pub act-bad : (s : List ℕ) (room : ℕ) (st : State) (kind : ℕ) (f : Refusal) → refuse f (st .at) ≡ act s room st kind (H.Bad f)
+pub act-bad : (β s : List ℕ) (room : ℕ) (st : State) (kind : ℕ) (f : Refusal) → refuse f (st .at) ≡ act β s room st kind (H.Bad f)
 unfolding act
-act-bad s room st kind f = refl
+act-bad β s room st kind f = refl
 
 -- a heading by what it is known to be
-pub act-as : (s : List ℕ) (room : ℕ) (st : State) (kind : ℕ) (x y : Heading) → x ≡ y → act s room st kind y ≡ act s room st kind x
-act-as s room st kind x y e = ap (λ (z : Heading). act s room st kind z) (sym e)
+pub act-as : (β s : List ℕ) (room : ℕ) (st : State) (kind : ℕ) (x y : Heading) → x ≡ y → act β s room st kind y ≡ act β s room st kind x
+act-as β s room st kind x y e = ap (λ (z : Heading). act β s room st kind z) (sym e)
 
 pub short-of : (x : Heading) (h : Head) → x ≡ H.Fields h → Short x → h .end ≤ 16777216
 short-of x h e k = subst (λ (z : Heading). Short z) e k
@@ -170,12 +170,12 @@ short-of x h e k = subst (λ (z : Heading). Short z) e k
 -- ---- a member value
 
 module _ (τ : Terms) (s : List ℕ) (room : ℕ) (st : State) (code : PrimitiveCode) (v : Field) (e : v ≡ valueAt (τ .setting) s code (st .at)) where
-  pub value-end : (end : ℕ) (ty : Typed) → v ≡ F.End end → ty ≡ moved s (st .stack .cur .typed)
+  pub value-end : (end : ℕ) (ty : Typed) → v ≡ F.End end → ty ≡ moved (τ .book) s (st .stack .cur .typed)
       → slotsTaken room st 32 (valueHead code end) 1 ty ≡ valueStep τ s room st code
   unfolding valueStep slotsTaken
   value-end end ty q w = rw (← e, q, w)
 
-  pub value-took : (end : ℕ) (ty : Typed) (h : Head) → v ≡ F.End end → h ≡ valueHead code end → ty ≡ moved s (st .stack .cur .typed)
+  pub value-took : (end : ℕ) (ty : Typed) (h : Head) → v ≡ F.End end → h ≡ valueHead code end → ty ≡ moved (τ .book) s (st .stack .cur .typed)
       → slotsTaken room st 32 h 1 ty ≡ valueStep τ s room st code
   value-took end ty h q g w = ap (λ (x : Head). slotsTaken room st 32 x 1 ty) g ∙ value-end end ty q w
 

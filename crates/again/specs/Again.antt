@@ -7,8 +7,9 @@ use lib.ListN.{length, getD, drop, length-append}
 use Rattle.format.specs.Terms.{Terms}
 use Rattle.format.specs.declared.Row.{Row}
 use Rattle.format.specs.Rows.{blank, findFrom, objectRow, linkOf, linked}
-use Rattle.format.specs.Contents.{header, end, enc, encs}
+use Rattle.format.specs.Contents.{header, end, enc, encs, Class}
 use Rattle.format.specs.Says.{Node, Model, objectsIn, orderOf, nodesOf, nodesFrom, says}
+use Rattle.format.specs.Grammar.{Book}
 use Rattle.format.specs.Tidy.{nothing, tidyOf}
 use Rattle.format.specs.Machine.{accepted, readOf}
 use Rattle.num.specs.Le.{length-leBytes}
@@ -46,34 +47,36 @@ module _ (τ : Terms) (m : Model) (g : Good m) (small : length (tidyOf m) ≤ 16
   unfolding objectRow findFrom
   ordered k a b = orders τ (whichIn m) (rawOf m) (tableOf m) (written-legal τ m g small) (placed-all (shownOf m)) 17 rows-there none-before k a b
 
-  knows-header : Knows τ (tidyOf m) (tableOf m) (writtenOf m) 1 []
-  unfolding findFrom linked
-  knows-header = record { right = tt; fresh = λ i e. refl }
-
-  nodes-after : nodesFrom (tidyOf m) (tableOf m) (drop 1 (tableOf m)) ≡ m .nodes
-  nodes-after =
-      records-said τ (tidyOf m) (rawOf m) (tableOf m) (writtenOf m) (whichIn m) refl (g .total) (λ k a b. ordered k a b .1) (λ k a b. ordered k a b .0)
-      (written-legal τ m g small) (placed-all (shownOf m)) 17 (all-kept τ m g) tt tt knows-header bytes-there rows-there
-      ∙ round (g .total) (m .nodes) (g .nodes-fit)
-
-  nodes-said : nodesFrom (tidyOf m) (tableOf m) (tableOf m) ≡ m .nodes
-  unfolding nodesFrom nodesOf linked
-  nodes-said = nodes-after
-
   root-said : orderOf (tableOf m) (getD (tableOf m) 0 blank .link) ≡ m .root
   unfolding linked linkOf
   root-said =
       let r = ordered (m .root) (g .rooted) (g .root-in) in
       ap (orderOf (tableOf m)) (r .0) ∙ r .1
 
-  pub written-says : says (tidyOf m) (tableOf m) ≡ m
-  unfolding says
-  written-says =
-      ap (λ (k : ℕ). record { root = k; nodes = nodesFrom (tidyOf m) (tableOf m) (tableOf m) }) root-said
-      ∙ ap (λ (ns : List Node). record { root = m .root; nodes = ns }) nodes-said
+  -- by any book: its classes have their types
+  module _ (β : List ℕ) where
+    knows-header : Knows τ β (tidyOf m) (tableOf m) (writtenOf m) 1 []
+    unfolding findFrom linked
+    knows-header = record { right = tt; fresh = λ i e. refl }
 
--- what is written of a good model is accepted wherever its rows fit, and says the model
-pub written-read : (τ : Terms) (m : Model) → Good m → length (tidyOf m) ≤ 16777216
-    → (rows : List Row) × ((room : ℕ) → length rows ≤ room → readOf τ (tidyOf m) room ≡ accepted rows) × (says (tidyOf m) rows ≡ m)
+    nodes-after : nodesFrom β (tidyOf m) (tableOf m) (drop 1 (tableOf m)) ≡ m .nodes
+    nodes-after =
+        records-said τ β (tidyOf m) (rawOf m) (tableOf m) (writtenOf m) (whichIn m) refl (g .total) (λ k a b. ordered k a b .1) (λ k a b. ordered k a b .0)
+        (written-legal τ m g small) (placed-all (shownOf m)) 17 (all-kept τ m g) tt tt knows-header bytes-there rows-there
+        ∙ round (g .total) (m .nodes) (g .nodes-fit)
+
+    nodes-said : nodesFrom β (tidyOf m) (tableOf m) (tableOf m) ≡ m .nodes
+    unfolding nodesFrom nodesOf linked
+    nodes-said = nodes-after
+
+    pub written-says : says β (tidyOf m) (tableOf m) ≡ m
+    unfolding says
+    written-says =
+        ap (λ (k : ℕ). record { root = k; nodes = nodesFrom β (tidyOf m) (tableOf m) (tableOf m) }) root-said
+        ∙ ap (λ (ns : List Node). record { root = m .root; nodes = ns }) nodes-said
+
+-- what is written of a good model is accepted wherever its rows fit, with any good book, and says the model by any book at all
+pub written-read : (τ : Terms) (cs : List Class) → Book (τ .book) cs → (m : Model) → Good m → length (tidyOf m) ≤ 16777216
+    → (rows : List Row) × ((room : ℕ) → length rows ≤ room → readOf τ (tidyOf m) room ≡ accepted rows) × ((β : List ℕ) → says β (tidyOf m) rows ≡ m)
     × (length rows ≡ 2 + length (squeezed noWait (packed nothing (m .nodes))))
-written-read τ m g small = (tableOf m, accepts τ (reading τ m g small), written-says τ m g small, length-table m)
+written-read τ cs book m g small = (tableOf m, accepts τ (reading τ m g small cs book), written-says τ m g small, length-table m)

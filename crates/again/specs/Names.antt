@@ -12,9 +12,9 @@ use Rattle.format.specs.declared.SlotType.{SlotType}
 use Rattle.format.specs.declared.Row.{Row}
 use Rattle.format.specs.Bytes.{pick}
 use Rattle.format.specs.Rows.{blank, findFrom}
-use Rattle.format.specs.Contents.{Prefixed, Detail, primitive, text, object, system, class, objects, texts, primitives, Member, Rec, systemClass, libraryClass, enc}
+use Rattle.format.specs.Contents.{Prefixed, Detail, primitive, text, object, system, class, objects, texts, primitives, Member, Rec, systemClass, libraryClass, enc, theSystem, theLibrary, From, Class}
 use Rattle.format.specs.Grammar.{Entry, aClass, another, aLibrary, known, classed, classOf, GoodDetail, Members, no-more, member, of-objects, of-strings, of-primitives, of-any, of-values}
-use Rattle.format.specs.Says.{theSystem, theLibrary, From, Class, anArray, anObject, node, textFrom, libraryName, classFrom}
+use Rattle.format.specs.Says.{anArray, anObject, node, textFrom, libraryName, classFrom}
 use Rattle.format.specs.Tidy.{Progress}
 use Rattle.laws.specs.Tests.{apart}
 use Rattle.format.specs.Meant.{named, namedAll, classOfAll}
@@ -76,10 +76,10 @@ module _ (τ : Terms) (one other : ℕ → List ℕ) (es : List Entry) (agree : 
 
 -- ---- what is known
 
-module _ (τ : Terms) (s : List ℕ) (table : List Row) (v : Progress) where
+module _ (τ : Terms) (β s : List ℕ) (table : List Row) (v : Progress) where
   -- the class of this number, with slots of these types, is told by this row
   abbrev pub ClassIs : ℕ → ℕ → List SlotType → Type 0
-  ClassIs i row ts = (classFrom s table (getD table (row - 1) blank) ≡ classIn v i) × (slotsOf (classIn v i .members) ≡ ts)
+  ClassIs i row ts = (classFrom β s table (getD table (row - 1) blank) ≡ classIn v i) × (slotsOf (classIn v i .members) ≡ ts)
 
   -- a class by its row, a library by its number
   abbrev Right : Entry → Type 0
@@ -141,12 +141,12 @@ module _ (τ : Terms) (s : List ℕ) (table : List Row) (v : Progress) where
     knows-another : (i : ℕ) → eqb (w .kind) 12 ≡ false → Knows (suc row) (es ++ (another i ∷ []))
     knows-another i n = knows-entry (another i) tt (λ j q. rw n)
 
-    knows-class : (i : ℕ) (ts : List SlotType) (c : Class) → eqb (w .kind) 12 ≡ false → classFrom s table w ≡ c → c ≡ classIn v i
+    knows-class : (i : ℕ) (ts : List SlotType) (c : Class) → eqb (w .kind) 12 ≡ false → classFrom β s table w ≡ c → c ≡ classIn v i
         → slotsOf (c .members) ≡ ts → Knows (suc row) (es ++ (aClass i (suc row) ts ∷ []))
     knows-class i ts c n q f g =
         let z : suc row - 1 ≡ row = omega arith in
         let y : getD table (suc row - 1) blank ≡ w = ap (λ (j : ℕ). getD table j blank) z ∙ item-there table is w row e blank in
-        knows-entry (aClass i (suc row) ts) (ap (classFrom s table) y ∙ (q ∙ f), ap (λ (d : Class). slotsOf (d .members)) (sym f) ∙ g) (λ j q. rw n)
+        knows-entry (aClass i (suc row) ts) (ap (classFrom β s table) y ∙ (q ∙ f), ap (λ (d : Class). slotsOf (d .members)) (sym f) ∙ g) (λ j q. rw n)
 
     knows-library : (i : ℕ) → w .kind ≡ 12 → w .id ≡ i → known i es ≡ false → textFrom s (w .offset + 5) ≡ nameIn v i → Knows (suc row) (es ++ (aLibrary i ∷ []))
     unfolding libraryName
@@ -168,11 +168,11 @@ module _ (τ : Terms) (s : List ℕ) (table : List Row) (v : Progress) where
       knows-more (class-by-id {i = i} a b c) o d f n = knows-another i (no-library f refl)
       knows-more {total} (system-class {i = i} {n = x} {ms = ms} a b c) o d f n =
           let g : GoodRec τ (systemClass i x ms) = own-contents τ {total = total} (system-class a b c) in
-          knows-class i _ _ (no-library f refl) (system-class-from τ s table w at q i x ms (g .0) (g .1) d f)
+          knows-class i _ _ (no-library f refl) (system-class-from τ β s table w at q i x ms (g .0) (g .1) d f)
           (class-same τ (libraryName s table) (nameIn v) es agrees (x .text) theSystem theSystem (b .members) refl ∙ o) (slots-same (libraryName s table) ms)
       knows-more {total} (library-class {i = i} {l = l} {n = x} {ms = ms} a b c e) o d f n =
           let g : GoodRec τ (libraryClass i x ms l) = own-contents τ {total = total} (library-class a b c e) in
-          knows-class i _ _ (no-library f refl) (library-class-from τ s table w at q i x ms (g .0) (g .1) l (g .2) d f)
+          knows-class i _ _ (no-library f refl) (library-class-from τ β s table w at q i x ms (g .0) (g .1) l (g .2) d f)
           (class-same τ (libraryName s table) (nameIn v) es agrees (x .text) (theLibrary (libraryName s table l)) (theLibrary (nameIn v l)) (b .members) (ap theLibrary (agrees l (c .there))) ∙ o)
           (slots-same (libraryName s table) ms)
       knows-more (a-string {i = i} a b) o d f n = knows-another i (no-library f refl)

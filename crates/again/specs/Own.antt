@@ -11,10 +11,10 @@ use borrow.Author.Tests.{eq-eqb, ne-eqb}
 use Rattle.format.specs.Terms.{Terms}
 use Rattle.format.specs.declared.PrimitiveCode.{PrimitiveCode}
 use Rattle.format.specs.Bytes.{pick, sameBytes}
-use Rattle.format.specs.Contents.{Prefixed, shortest, hasPrefix, bytesIn, Rec, header, classById, systemClass, libraryClass, string, array, typedPrimitive, reference, null, nulls, manyNulls, end, library, primitiveArray, objectArray, stringArray, value, enc, encs}
+use Rattle.format.specs.Contents.{Prefixed, shortest, hasPrefix, bytesIn, Rec, header, classById, systemClass, libraryClass, string, array, typedPrimitive, reference, null, nulls, manyNulls, end, library, primitiveArray, objectArray, stringArray, value, enc, encs, From, theSystem, theLibrary, Class}
 use Rattle.format.specs.Grammar.{Content, number, boolean, scalar, exact, moment, PrefixIf, Value, size}
 use Rattle.format.specs.Own.{sized-exactly}
-use Rattle.format.specs.Says.{From, theSystem, theLibrary, Class, What, anObject, aString, anArray, aPrimitive, aReference, aNull, aPrimitiveArray, anObjectArray, aStringArray, aValue, Node}
+use Rattle.format.specs.Says.{What, anObject, aString, anArray, aPrimitive, aReference, aNull, aPrimitiveArray, anObjectArray, aStringArray, aValue, Node}
 use Rattle.format.specs.Tidy.{sameClass, numberIn, Progress, Libraries, libraryRecords, entered, allEntered, classNeeds, detailNeeds, classBy, objectBy, afterObject, recordsOf, afterWhat, runOf}
 use Rattle.fields.specs.Judged.{picked}
 use Rattle.same.specs.Laws.{same-eq, same-refl}

@@ -8,8 +8,8 @@ use lib.ListN.{length, length-append}
 use Rattle.format.specs.Terms.{Terms}
 use Rattle.format.specs.declared.Row.{Row}
 use Rattle.format.specs.Rows.{linked}
-use Rattle.format.specs.Contents.{Rec, header, end, enc, encs}
-use Rattle.format.specs.Grammar.{cur, rowOf, Objects, idsOf, refsOf, among, Reading}
+use Rattle.format.specs.Contents.{Rec, header, end, enc, encs, Class}
+use Rattle.format.specs.Grammar.{Book, cur, rowOf, Objects, idsOf, refsOf, among, Reading}
 use Rattle.format.specs.Says.{Model}
 use Rattle.format.specs.Tidy.{Progress, nothing, tidyRecords, tidyOf}
 use Rattle.links.specs.Links.{length-linked}
@@ -97,9 +97,12 @@ module _ (τ : Terms) (m : Model) (g : Good m) where
     targets : (i : ℕ) → among i (refsOf (records m g small)) ≡ true → among i (idsOf (records m g small)) ≡ true
     targets i e = let r = legal-refs τ (written-legal τ m g small) i e in legal-ids τ (written-legal τ m g small) i (r .0) (r .1)
 
-    pub reading : Reading τ (tidyOf m) (tableOf m)
-    reading =
+    -- with a book, which it does not need
+    pub reading : (cs : List Class) → Book (τ .book) cs → Reading τ (tidyOf m) (tableOf m)
+    reading cs book =
         record {
+          classes = cs;
+          book-is = book;
           root = m .root;
           header-id = m .root;
           rs = records m g small;

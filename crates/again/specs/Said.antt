@@ -50,7 +50,7 @@ count-is es (objectArray i n) = refl
 count-is es (stringArray i n) = refl
 count-is es (value c v) = tt
 
-module _ (τ : Terms) (s : List ℕ) (raw table : List Row) (v : Progress) (which : ℕ → ℕ) (none : which 0 ≡ 0) (total : ℕ) (order : (k : ℕ) → 0 < k → k ≤ total → orderOf table (which k) ≡ k) (finds : (k : ℕ) → 0 < k → k ≤ total → objectRow k raw ≡ which k) where
+module _ (τ : Terms) (β s : List ℕ) (raw table : List Row) (v : Progress) (which : ℕ → ℕ) (none : which 0 ≡ 0) (total : ℕ) (order : (k : ℕ) → 0 < k → k ≤ total → orderOf table (which k) ≡ k) (finds : (k : ℕ) → 0 < k → k ≤ total → objectRow k raw ≡ which k) where
   -- ---- owners
 
   order-none : orderOf table (which 0) ≡ 0
@@ -96,7 +96,7 @@ module _ (τ : Terms) (s : List ℕ) (raw table : List Row) (v : Progress) (whic
 
   -- the code of a slot, by the order of its object and the slot's number
   abbrev pub codeAt : ℕ → ℕ → PrimitiveCode
-  codeAt o = codeIn (ownerClass τ s table (which o) .members)
+  codeAt o = codeIn (ownerClass τ β s table (which o) .members)
 
   -- ---- one record
 
@@ -108,19 +108,19 @@ module _ (τ : Terms) (s : List ℕ) (raw table : List Row) (v : Progress) (whic
     row-is r = row-linked (linkOf raw (rowShown which es at r o n)) (row-of r at (numberOf r) (which o) n (linkFor es r) (countFor es r) (count-is es r))
 
     -- a kind 1 leads to its class
-    by-id-class : (i k row : ℕ) (ts : List SlotType) → AllRight τ s table v es → classOf k es ≡ classed row ts
-        → classFrom s table (getD table (rowAs (classById i k) .link - 1) blank) ≡ classIn v k
+    by-id-class : (i k row : ℕ) (ts : List SlotType) → AllRight τ β s table v es → classOf k es ≡ classed row ts
+        → classFrom β s table (getD table (rowAs (classById i k) .link - 1) blank) ≡ classIn v k
     unfolding linkOf
-    by-id-class i k row ts h c = ap (λ (d : Classed). classFrom s table (getD table (classRowOf d - 1) blank)) c ∙ class-right τ s table v es h k row ts c .0
+    by-id-class i k row ts h c = ap (λ (d : Classed). classFrom β s table (getD table (classRowOf d - 1) blank)) c ∙ class-right τ β s table v es h k row ts c .0
 
     -- the code of a member value is that of the slot where it stands
     code-is : (fs : List Place) (c : PrimitiveCode) (x : Prefixed) → o ≡ ownerOf fs → n ≡ slotOf fs → codeAt (ownerOf fs) (slotOf fs) ≡ c
-        → valueCode s table (rowAs (value c x)) ≡ c
-    code-is fs c x e f g = value-code τ s table (rowAs (value c x)) c (ap (λ (k : ℕ). codeAt k n) e ∙ (ap (codeAt (ownerOf fs)) f ∙ g))
+        → valueCode β s table (rowAs (value c x)) ≡ c
+    code-is fs c x e f g = value-code τ β s table (rowAs (value c x)) c (ap (λ (k : ℕ). codeAt k n) e ∙ (ap (codeAt (ownerOf fs)) f ∙ g))
 
     -- a kind 1 leads to its class, a reference to its object, a member value to its code
-    link-is : {fs : List Place} {r : Rec} {ts : List SlotType} → AllRight τ s table v es → OpenCodes codeAt fs → Stands τ fs r ts
-        → o ≡ pick (isApart r) 0 (ownerOf fs) → n ≡ pick (isApart r) 0 (slotOf fs) → Takes τ total es r ts → LinkIs s table (classIn v) (λ (k : ℕ). k) r (rowAs r)
+    link-is : {fs : List Place} {r : Rec} {ts : List SlotType} → AllRight τ β s table v es → OpenCodes codeAt fs → Stands τ fs r ts
+        → o ≡ pick (isApart r) 0 (ownerOf fs) → n ≡ pick (isApart r) 0 (slotOf fs) → Takes τ total es r ts → LinkIs β s table (classIn v) (λ (k : ℕ). k) r (rowAs r)
     unfolding linkOf
     link-is h cs st e f (class-by-id {i = i} {k = k} {row = row} {ts = ts} a b c) = by-id-class i k row ts h c
     link-is h cs st e f (system-class a b c) = tt
@@ -139,32 +139,32 @@ module _ (τ : Terms) (s : List ℕ) (raw table : List Row) (v : Progress) (whic
     link-is h cs st e f (a-library a b c) = tt
     link-is {fs} h cs st e f (a-value {c = c} {v = x} a) = code-is fs c x e f (value-coded τ codeAt st cs)
 
-    record-said : (q : List ℕ) (r : Rec) {ts : List SlotType} → AllRight τ s table v es → Takes τ total es r ts → LinkIs s table (classIn v) (λ (k : ℕ). k) r (rowAs r)
-        → orderOf table (which o) ≡ o → drop at s ≡ enc r ++ q → nodesOf s table (rowAs r) ≡ saidAt (nameIn v) (classIn v) (λ (k : ℕ). k) o n r
+    record-said : (q : List ℕ) (r : Rec) {ts : List SlotType} → AllRight τ β s table v es → Takes τ total es r ts → LinkIs β s table (classIn v) (λ (k : ℕ). k) r (rowAs r)
+        → orderOf table (which o) ≡ o → drop at s ≡ enc r ++ q → nodesOf β s table (rowAs r) ≡ saidAt (nameIn v) (classIn v) (λ (k : ℕ). k) o n r
     record-said q r h t l e d =
-        row-said τ s table (rowAs r) (classIn v) (λ (k : ℕ). k) q at r d (row-is r) (own-contents τ t) l
+        row-said τ β s table (rowAs r) (classIn v) (λ (k : ℕ). k) q at r d (row-is r) (own-contents τ t) l
         ∙ (ap (λ (k : ℕ). saidAt (libraryName s table) (classIn v) (λ (k : ℕ). k) k n r) e
-        ∙ said-same τ (libraryName s table) (nameIn v) es (name-right τ s table v es h) (classIn v) (λ (k : ℕ). k) o n t)
+        ∙ said-same τ (libraryName s table) (nameIn v) es (name-right τ β s table v es h) (classIn v) (λ (k : ℕ). k) o n t)
 
     -- the slots of a record have the codes of its class
     module _ (is : List Row) (row : ℕ) where
-      record-codes : (q : List ℕ) (r : Rec) {ts : List SlotType} → AllRight τ s table v es → Takes τ total es r ts → drop at s ≡ enc r ++ q
-          → drop row table ≡ rowAs r ∷ is → Codes τ s table (suc row) 0 ts
+      record-codes : (q : List ℕ) (r : Rec) {ts : List SlotType} → AllRight τ β s table v es → Takes τ total es r ts → drop at s ≡ enc r ++ q
+          → drop row table ≡ rowAs r ∷ is → Codes τ β s table (suc row) 0 ts
       record-codes q (classById i k) h (class-by-id {row = first} {ts = ts} a b c) d e =
-          class-codes τ s table (suc row) (classIn v k) ts (row-class τ s table is (rowAs (classById i k)) row e ∙ by-id-class i k first ts h c)
-          (class-right τ s table v es h k first ts c .1)
+          class-codes τ β s table (suc row) (classIn v k) ts (row-class τ β s table is (rowAs (classById i k)) row e ∙ by-id-class i k first ts h c)
+          (class-right τ β s table v es h k first ts c .1)
       record-codes q (systemClass i x ms) {ts} h (system-class a b c) d e =
           let r : Rec = systemClass i x ms in
           let g : GoodRec τ r = own-contents τ {total = total} (system-class a b c) in
-          class-codes τ s table (suc row) _ ts (row-class τ s table is (rowAs r) row e ∙ system-class-from τ s table (rowAs r) at q i x ms (g .0) (g .1) d (row-is r))
+          class-codes τ β s table (suc row) _ ts (row-class τ β s table is (rowAs r) row e ∙ system-class-from τ β s table (rowAs r) at q i x ms (g .0) (g .1) d (row-is r))
           (slots-same (libraryName s table) ms ∙ sym c)
       record-codes q (libraryClass i x ms l) {ts} h (library-class a b c f) d e =
           let r : Rec = libraryClass i x ms l in
           let g : GoodRec τ r = own-contents τ {total = total} (library-class a b c f) in
-          class-codes τ s table (suc row) _ ts (row-class τ s table is (rowAs r) row e ∙ library-class-from τ s table (rowAs r) at q i x ms (g .0) (g .1) l (g .2) d (row-is r))
+          class-codes τ β s table (suc row) _ ts (row-class τ β s table is (rowAs r) row e ∙ library-class-from τ β s table (rowAs r) at q i x ms (g .0) (g .1) l (g .2) d (row-is r))
           (slots-same (libraryName s table) ms ∙ sym f)
       record-codes q r h (a-string a b) d e = tt
-      record-codes q r h (an-array a b) d e = array-codes τ s table (suc row) b
+      record-codes q r h (an-array a b) d e = array-codes τ β s table (suc row) b
       record-codes q r h (a-primitive a) d e = tt
       record-codes q r h (a-reference a b) d e = tt
       record-codes q r h a-null d e = tt
@@ -186,14 +186,14 @@ module _ (τ : Terms) (s : List ℕ) (raw table : List Row) (v : Progress) (whic
     unfolding rowsFrom
     first-row e = e
 
-  end-said : (row at : ℕ) (es : List Entry) → drop row table ≡ map (withOwn τ which raw table) (rowsFrom which at row es []) → nodesFrom s table (drop row table) ≡ []
+  end-said : (row at : ℕ) (es : List Entry) → drop row table ≡ map (withOwn τ which raw table) (rowsFrom which at row es []) → nodesFrom β s table (drop row table) ≡ []
   unfolding rowsFrom nodesFrom nodesOf
-  end-said row at es e = ap (nodesFrom s table) e
+  end-said row at es e = ap (nodesFrom β s table) e
 
   pub records-said : {count row : ℕ} {fs : List Place} {es : List Entry} {xs : List Shown} → Legal τ total count row fs es xs → Placed which count row xs → (at : ℕ)
-      → All (Kept v) (recsOf xs) → Owns fs → OpenCodes codeAt fs → Knows τ s table v row es → drop at s ≡ encs (recsOf xs ++ (end ∷ []))
+      → All (Kept v) (recsOf xs) → Owns fs → OpenCodes codeAt fs → Knows τ β s table v row es → drop at s ≡ encs (recsOf xs ++ (end ∷ []))
       → drop row table ≡ map (withOwn τ which raw table) (rowsFrom which at row es xs)
-      → nodesFrom s table (drop row table) ≡ saidAll (nameIn v) (classIn v) (λ (k : ℕ). k) xs
+      → nodesFrom β s table (drop row table) ≡ saidAll (nameIn v) (classIn v) (λ (k : ℕ). k) xs
   records-said {row = row} {es = es} (all-shown e) p at k h cs w d there = end-said row at es there
   records-said {count} {row} {fs} {es} (a-record {next = next} {gs = gs} {ds = ds} {x = x} {xs = xs} {ts = ts} t st o n id e g known l) p at k h cs w d there =
       let r : Rec = x .rec in
@@ -205,16 +205,16 @@ module _ (τ : Terms) (s : List ℕ) (raw table : List Row) (v : Progress) (whic
       let b : drop at s ≡ enc r ++ q = first-bytes row at es x xs d in
       let c : drop row table ≡ y ∷ rest = first-row row at es x xs there in
       let u : drop (suc row) table ≡ rest = items-after table rest y row c in
-      let z = knows-more τ s table v rest y row c es w q at t (k .0 .0) b (row-is es at (x .owner) (x .slot) r) refl in
+      let z = knows-more τ β s table v rest y row c es w q at t (k .0 .0) b (row-is es at (x .owner) (x .slot) r) refl in
       let m = legal-le τ l in
       let f : Owns gs = subst Owns (sym g) (owns-next count fs r ts (omega arith) h) in
       let j = record-codes es at (x .owner) (x .slot) rest row q r (w .right) t b c in
       let i : OpenCodes codeAt gs =
       subst (OpenCodes codeAt) (sym g)
-      (codes-next codeAt count fs r ts (λ z. subst (λ (m : ℕ). Codes τ s table m 0 ts) (sym (placed-here which count row x xs p z)) j) cs) in
-      let again = records-said l (placed-next which count row x xs p next e) a (k .1) f i (subst (Knows τ s table v (suc row)) (sym known) z)
+      (codes-next codeAt count fs r ts (λ z. subst (λ (m : ℕ). Codes τ β s table m 0 ts) (sym (placed-here which count row x xs p z)) j) cs) in
+      let again = records-said l (placed-next which count row x xs p next e) a (k .1) f i (subst (Knows τ β s table v (suc row)) (sym known) z)
       (rest-there s (enc r) q at a refl b) (u ∙ ap (λ (i : List Entry). map (withOwn τ which raw table) (rowsFrom which a (suc row) i xs)) (sym known)) in
-      nodes-more table rest y row c s
-      ∙ (ap (λ (i : List Node). i ++ nodesFrom s table (drop (suc row) table))
+      nodes-more table rest y row c β s
+      ∙ (ap (λ (i : List Node). i ++ nodesFrom β s table (drop (suc row) table))
       (record-said es at (x .owner) (x .slot) q r (w .right) t (link-is es at (x .owner) (x .slot) (w .right) cs st o n t) (owner-is fs (isApart r) (x .owner) h o) b)
       ∙ ap (λ (i : List Node). saidNodes (nameIn v) (classIn v) (λ (k : ℕ). k) x ++ i) again)

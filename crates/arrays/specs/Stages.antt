@@ -4,7 +4,7 @@ use mathlib.Core.Path.{_≡_, refl}
 use mathlib.Core.Bool.{true, false}
 use mathlib.Core.List.{List}
 use lib.ListN.{getD}
-use Rattle.format.specs.Terms.{Terms}
+use Rattle.format.specs.declared.Setting.{Setting}
 use Rattle.format.specs.declared.Refusal.{Refusal}
 use Rattle.format.specs.declared.Refusal.the-variants as R
 use Rattle.format.specs.declared.SlotType.{SlotType}
@@ -72,48 +72,48 @@ slot-array-is s rows slot at = refl
 
 -- ---- kind 15
 
-abbrev pub codedItemsAt : Terms → List ℕ → ℕ → ℕ → ℕ → Heading
-codedItemsAt τ s id n at = onField (withItems τ s (coded (primitiveOf (getD s at 0))) id n) (codeAt s at)
+abbrev pub codedItemsAt : Setting → List ℕ → ℕ → ℕ → ℕ → Heading
+codedItemsAt σ s id n at = onField (withItems σ s (coded (primitiveOf (getD s at 0))) id n) (codeAt s at)
 
-abbrev pub primitiveLengthAt : Terms → List ℕ → ℕ → ℕ → Heading
-primitiveLengthAt τ s id at = afterLength (codedItemsAt τ s id) (u32At s at)
+abbrev pub primitiveLengthAt : Setting → List ℕ → ℕ → ℕ → Heading
+primitiveLengthAt σ s id at = afterLength (codedItemsAt σ s id) (u32At s at)
 
-pub primitive-array-is : (τ : Terms) (s : List ℕ) (rows : List Row) (at : ℕ)
-    → primitiveArrayAt τ s rows at ≡ afterId rows (primitiveLengthAt τ s) (u32At s (at + 1))
+pub primitive-array-is : (σ : Setting) (s : List ℕ) (rows : List Row) (at : ℕ)
+    → primitiveArrayAt σ s rows at ≡ afterId rows (primitiveLengthAt σ s) (u32At s (at + 1))
 unfolding primitiveArrayAt afterId afterLength
-primitive-array-is τ s rows at = refl
+primitive-array-is σ s rows at = refl
 
 -- ---- kind 7
 
-pub binary-array-is : (τ : Terms) (s : List ℕ) (rows : List Row) (at : ℕ) → binaryArrayAt τ s rows at ≡ afterId rows (arrayTypeAt τ s rows) (u32At s (at + 1))
+pub binary-array-is : (σ : Setting) (s : List ℕ) (rows : List Row) (at : ℕ) → binaryArrayAt σ s rows at ≡ afterId rows (arrayTypeAt σ s rows) (u32At s (at + 1))
 unfolding binaryArrayAt afterId
-binary-array-is τ s rows at = refl
+binary-array-is σ s rows at = refl
 
-module _ (τ : Terms) (s : List ℕ) (rows : List Row) (id : ℕ) where
+module _ (σ : Setting) (s : List ℕ) (rows : List Row) (id : ℕ) where
   -- the lengths, and the items
   unfoldable pub shapeAt : ℕ → ℕ → Heading
-  shapeAt rank p = onSlots (itemTypeAt τ s rows id) (lengthsAt s rank 1 p)
+  shapeAt rank p = onSlots (itemTypeAt σ s rows id) (lengthsAt s rank 1 p)
 
   -- the detail of the items' type, and the items
   unfoldable pub itemInfoAt : ℕ → ℕ → ℕ → Heading
-  itemInfoAt n types infos = onField (λ end. itemsOf τ s id n infos end (typedAt s types infos .slot)) (infoKnown τ s rows (getD s types 0) infos)
+  itemInfoAt n types infos = onField (λ end. itemsOf σ s id n infos end (typedAt s types infos .slot)) (infoKnown σ s rows (getD s types 0) infos)
 
   module _ (type at : ℕ) where
-    pub rank-short : u32At s at ≡ N32.Short → rankAt τ s rows id type at ≡ H.Bad R.CutShort
+    pub rank-short : u32At s at ≡ N32.Short → rankAt σ s rows id type at ≡ H.Bad R.CutShort
     unfolding rankAt
     rank-short h = rw h
 
     module _ (rank p : ℕ) (h : u32At s at ≡ N32.Value rank p) where
-      pub rank-good : goodRank type rank ≡ true → rankAt τ s rows id type at ≡ shapeAt rank p
+      pub rank-good : goodRank type rank ≡ true → rankAt σ s rows id type at ≡ shapeAt rank p
       unfolding rankAt shapeAt
       rank-good g = rw (h, g)
 
-      pub rank-bad : goodRank type rank ≡ false → rankAt τ s rows id type at ≡ H.Bad R.BadCount
+      pub rank-bad : goodRank type rank ≡ false → rankAt σ s rows id type at ≡ H.Bad R.BadCount
       unfolding rankAt
       rank-bad g = rw (h, g)
 
   module _ (rank p : ℕ) where
-    pub shape-good : (n types : ℕ) → lengthsAt s rank 1 p ≡ L.Product n types → shapeAt rank p ≡ itemTypeAt τ s rows id n types
+    pub shape-good : (n types : ℕ) → lengthsAt s rank 1 p ≡ L.Product n types → shapeAt rank p ≡ itemTypeAt σ s rows id n types
     unfolding shapeAt
     shape-good n types h = rw h
 
@@ -122,21 +122,21 @@ module _ (τ : Terms) (s : List ℕ) (rows : List Row) (id : ℕ) where
     shape-bad f h = rw h
 
   module _ (n types : ℕ) where
-    pub item-type-good : (infos : ℕ) → typeByteAt s types ≡ F.End infos → itemTypeAt τ s rows id n types ≡ itemInfoAt n types infos
+    pub item-type-good : (infos : ℕ) → typeByteAt s types ≡ F.End infos → itemTypeAt σ s rows id n types ≡ itemInfoAt n types infos
     unfolding itemTypeAt itemInfoAt
     item-type-good infos h = rw h
 
-    pub item-type-bad : (f : Refusal) → typeByteAt s types ≡ F.Fault f → itemTypeAt τ s rows id n types ≡ H.Bad f
+    pub item-type-bad : (f : Refusal) → typeByteAt s types ≡ F.Fault f → itemTypeAt σ s rows id n types ≡ H.Bad f
     unfolding itemTypeAt
     item-type-bad f h = rw h
 
     -- b is the type byte
     module _ (infos b : ℕ) (h : b ≡ getD s types 0) where
-      pub item-info-good : (end code : ℕ) (slot : SlotType) → infoKnown τ s rows b infos ≡ F.End end → code ≡ getD s infos 0 → slot ≡ slotOf b code
-          → itemInfoAt n types infos ≡ itemsOf τ s id n infos end slot
+      pub item-info-good : (end code : ℕ) (slot : SlotType) → infoKnown σ s rows b infos ≡ F.End end → code ≡ getD s infos 0 → slot ≡ slotOf b code
+          → itemInfoAt n types infos ≡ itemsOf σ s id n infos end slot
       unfolding itemInfoAt typedAt
       item-info-good end code slot i j k = rw (k, j, ← h, i)
 
-      pub item-info-bad : (f : Refusal) → infoKnown τ s rows b infos ≡ F.Fault f → itemInfoAt n types infos ≡ H.Bad f
+      pub item-info-bad : (f : Refusal) → infoKnown σ s rows b infos ≡ F.Fault f → itemInfoAt n types infos ≡ H.Bad f
       unfolding itemInfoAt
       item-info-bad f i = rw (← h, i)

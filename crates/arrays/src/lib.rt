@@ -17,7 +17,6 @@ ghost use Rattle.format.specs.Types.{alike};
 ghost use Rattle.format.specs.Rows.{roomOf, rowsOf};
 ghost use Rattle.format.specs.Records.{goodId, plain, slotted, slotArrayAt, withItems, primitiveArrayAt};
 ghost use Rattle.arrays.specs.Stages.{slotLengthAt, primitiveLengthAt, codedItemsAt};
-ghost use Rattle.format.specs.Terms.{terms};
 
 // ---- ids and what is made of them
 
@@ -108,7 +107,7 @@ pub fn with_items(
     at: usize,
     setting: Setting,
 ) -> Heading
-    ensures { λ r. ⌜ r ≡ withItems (terms setting) (now (s .entry)) code id count at ⌝ }
+    ensures { λ r. ⌜ r ≡ withItems setting (now (s .entry)) code id count at ⌝ }
 {
     match items::items_at(s, code, count, at, setting) {
         Field::End(end) => plain_head(id, end, count),
@@ -117,7 +116,7 @@ pub fn with_items(
 }
 
 fn coded_items_at(s: &[u8], id: u32, count: u32, at: usize, setting: Setting) -> Heading
-    ensures { λ r. ⌜ r ≡ codedItemsAt (terms setting) (now (s .entry)) id count at ⌝ }
+    ensures { λ r. ⌜ r ≡ codedItemsAt setting (now (s .entry)) id count at ⌝ }
 {
     match codes::code_at(s, at) {
         Field::End(p) => {
@@ -129,7 +128,7 @@ fn coded_items_at(s: &[u8], id: u32, count: u32, at: usize, setting: Setting) ->
 }
 
 fn primitive_length_at(s: &[u8], id: u32, at: usize, setting: Setting) -> Heading
-    ensures { λ r. ⌜ r ≡ primitiveLengthAt (terms setting) (now (s .entry)) id at ⌝ }
+    ensures { λ r. ⌜ r ≡ primitiveLengthAt setting (now (s .entry)) id at ⌝ }
 {
     let Number32::Value(count, p) = num::u32_at(s, at) else {
         return Heading::Bad(Refusal::CutShort);
@@ -143,7 +142,7 @@ fn primitive_length_at(s: &[u8], id: u32, at: usize, setting: Setting) -> Headin
 // 15, ArraySinglePrimitive (2.4.3.3): ObjectId, length, primitive code, items.
 pub fn primitive_array_at(s: &[u8], table: &[u32], n: usize, at: usize, setting: Setting) -> Heading
     requires { ⌜ (n ≤ roomOf (now table)) × (at < length (now s)) ⌝ }
-    ensures { λ r. ⌜ r ≡ primitiveArrayAt (terms setting) (now (s .entry)) (rowsOf n (now (table .entry))) at ⌝ }
+    ensures { λ r. ⌜ r ≡ primitiveArrayAt setting (now (s .entry)) (rowsOf n (now (table .entry))) at ⌝ }
 {
     let Number32::Value(id, p) = num::u32_at(s, at + 1) else {
         return Heading::Bad(Refusal::CutShort);

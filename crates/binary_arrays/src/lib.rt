@@ -14,7 +14,6 @@ ghost use lib.ListN.{length};
 ghost use Rattle.format.specs.Rows.{roomOf, rowsOf};
 ghost use Rattle.format.specs.Records.{itemsOf, itemTypeAt, rankAt, arrayTypeAt, binaryArrayAt};
 ghost use Rattle.arrays.specs.Stages.{itemInfoAt, shapeAt};
-ghost use Rattle.format.specs.Terms.{terms};
 
 // Primitive items follow at once, the others fill slots.
 fn items_of(
@@ -26,7 +25,7 @@ fn items_of(
     slot: SlotType,
     setting: Setting,
 ) -> Heading
-    ensures { λ r. ⌜ r ≡ itemsOf (terms setting) (now (s .entry)) id count infos at slot ⌝ }
+    ensures { λ r. ⌜ r ≡ itemsOf setting (now (s .entry)) id count infos at slot ⌝ }
 {
     match slot {
         SlotType::Primitive(code) => arrays::with_items(s, code, id, count, at, setting),
@@ -60,7 +59,7 @@ fn item_info_at(
     setting: Setting,
 ) -> Heading
     requires { ⌜ (n ≤ roomOf (now table)) × (length (now s) ≤ 16777216) × (infos ≤ length (now s)) ⌝ }
-    ensures { λ r. ⌜ r ≡ itemInfoAt (terms setting) (now (s .entry)) (rowsOf n (now (table .entry))) id count types infos ⌝ }
+    ensures { λ r. ⌜ r ≡ itemInfoAt setting (now (s .entry)) (rowsOf n (now (table .entry))) id count types infos ⌝ }
 {
     let kind = codes::byte_at(s, types);
     match class_info::info_known(s, table, n, kind, infos, setting) {
@@ -82,7 +81,7 @@ fn item_type_at(
     setting: Setting,
 ) -> Heading
     requires { ⌜ (n ≤ roomOf (now table)) × (length (now s) ≤ 16777216) ⌝ }
-    ensures { λ r. ⌜ r ≡ itemTypeAt (terms setting) (now (s .entry)) (rowsOf n (now (table .entry))) id count types ⌝ }
+    ensures { λ r. ⌜ r ≡ itemTypeAt setting (now (s .entry)) (rowsOf n (now (table .entry))) id count types ⌝ }
 {
     match codes::type_byte_at(s, types) {
         Field::End(infos) => item_info_at(s, table, n, id, count, types, infos, setting),
@@ -101,7 +100,7 @@ fn shape_at(
     setting: Setting,
 ) -> Heading
     requires { ⌜ (n ≤ roomOf (now table)) × (length (now s) ≤ 16777216) ⌝ }
-    ensures { λ r. ⌜ r ≡ shapeAt (terms setting) (now (s .entry)) (rowsOf n (now (table .entry))) id rank at ⌝ }
+    ensures { λ r. ⌜ r ≡ shapeAt setting (now (s .entry)) (rowsOf n (now (table .entry))) id rank at ⌝ }
 {
     match shapes::lengths_at(s, rank, at) {
         Slots::Product(count, types) => item_type_at(s, table, n, id, count, types, setting),
@@ -119,7 +118,7 @@ fn rank_at(
     setting: Setting,
 ) -> Heading
     requires { ⌜ (n ≤ roomOf (now table)) × (length (now s) ≤ 16777216) ⌝ }
-    ensures { λ r. ⌜ r ≡ rankAt (terms setting) (now (s .entry)) (rowsOf n (now (table .entry))) id kind at ⌝ }
+    ensures { λ r. ⌜ r ≡ rankAt setting (now (s .entry)) (rowsOf n (now (table .entry))) id kind at ⌝ }
 {
     let Number32::Value(rank, p) = num::u32_at(s, at) else {
         return Heading::Bad(Refusal::CutShort);
@@ -133,7 +132,7 @@ fn rank_at(
 // Array types 0 to 2 are taken, Single, Jagged and Rectangular (2.4.1.1). 3 to 5 have lower bounds; they are refused by name, and no bound is read.
 fn array_type_at(s: &[u8], table: &[u32], n: usize, id: u32, at: usize, setting: Setting) -> Heading
     requires { ⌜ (n ≤ roomOf (now table)) × (length (now s) ≤ 16777216) ⌝ }
-    ensures { λ r. ⌜ r ≡ arrayTypeAt (terms setting) (now (s .entry)) (rowsOf n (now (table .entry))) id at ⌝ }
+    ensures { λ r. ⌜ r ≡ arrayTypeAt setting (now (s .entry)) (rowsOf n (now (table .entry))) id at ⌝ }
 {
     if s.len() <= at {
         return Heading::Bad(Refusal::CutShort);
@@ -151,7 +150,7 @@ fn array_type_at(s: &[u8], table: &[u32], n: usize, id: u32, at: usize, setting:
 // 7, BinaryArray (2.4.3.1): ObjectId, array type, rank, lengths, type byte, type info; then primitive items.
 pub fn binary_array_at(s: &[u8], table: &[u32], n: usize, at: usize, setting: Setting) -> Heading
     requires { ⌜ (n ≤ roomOf (now table)) × (length (now s) ≤ 16777216) × (at < length (now s)) ⌝ }
-    ensures { λ r. ⌜ r ≡ binaryArrayAt (terms setting) (now (s .entry)) (rowsOf n (now (table .entry))) at ⌝ }
+    ensures { λ r. ⌜ r ≡ binaryArrayAt setting (now (s .entry)) (rowsOf n (now (table .entry))) at ⌝ }
 {
     let Number32::Value(id, p) = num::u32_at(s, at + 1) else {
         return Heading::Bad(Refusal::CutShort);

@@ -7,7 +7,7 @@ fn one(name: &[u8], s: &[u8]) {
     io::write_all(STDOUT_FILENO, name);
     io::write_all(STDOUT_FILENO, b": ");
     let mut table = [0u32; 512];
-    let a = reader::read(s, &mut table, Setting::Strict);
+    let a = reader::read(s, b"", &mut table, Setting::Strict);
     lines::answer(&table, a);
 }
 
@@ -16,7 +16,7 @@ fn small(name: &[u8], s: &[u8]) {
     io::write_all(STDOUT_FILENO, name);
     io::write_all(STDOUT_FILENO, b": ");
     let mut table = [0u32; 16];
-    let a = reader::read(s, &mut table, Setting::Strict);
+    let a = reader::read(s, b"", &mut table, Setting::Strict);
     lines::answer(&table, a);
 }
 

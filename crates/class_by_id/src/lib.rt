@@ -4,11 +4,13 @@ use format::Heading;
 use format::Number32;
 use format::ObjectNo;
 use format::Refusal;
+use format::Row;
+use format::Typed;
 ghost use Prim.Native.Nat.{_+_, _-_, _≤_, _<_};
 ghost use mathlib.Core.Path.{_≡_};
 ghost use lib.ListN.{length, getD};
 ghost use Rattle.format.specs.Rows.{blank, roomOf, rowsOf, classRow};
-ghost use Rattle.format.specs.Records.{within, ofClass, classByIdAt};
+ghost use Rattle.format.specs.Records.{within, firstType, ofClass, classByIdAt};
 ghost use Rattle.class_info.specs.Stages.{byMetadataAt};
 
 // ---- kind 1
@@ -25,15 +27,34 @@ fn infos_of(s: &[u8], types: u32, count: u32) -> u32
     p as u32
 }
 
+// The type of the first member of the class in this row: in its record or, for kinds 2 and 3, in the book.
+fn first_type(s: &[u8], book: &[u8], class: Row) -> Typed
+    requires { ⌜ length (now s) ≤ 16777216 ⌝ }
+    ensures { λ r. ⌜ r ≡ firstType (now (book .entry)) (now (s .entry)) class ⌝ }
+{
+    let types = class.link;
+    if lookups::is_untyped(class.kind) {
+        return slots::booked_at(book, types);
+    }
+    slots::typed_at(s, types, infos_of(s, types, class.count))
+}
+
 // An object of the class in this row, a row number plus 1.
-fn of_class(s: &[u8], table: &[u32], n: usize, id: u32, end: usize, row: usize) -> Heading
+fn of_class(
+    s: &[u8],
+    book: &[u8],
+    table: &[u32],
+    n: usize,
+    id: u32,
+    end: usize,
+    row: usize,
+) -> Heading
     requires { ⌜ (n ≤ roomOf (now table)) × (length (now s) ≤ 16777216) × (n ≤ 16777216) × (0 < row) × (row ≤ n) ⌝ }
-    ensures { λ r. ⌜ r ≡ ofClass (now (s .entry)) id end row (getD (rowsOf n (now (table .entry))) (row - 1) blank) ⌝ }
+    ensures { λ r. ⌜ r ≡ ofClass (now (book .entry)) (now (s .entry)) id end row (getD (rowsOf n (now (table .entry))) (row - 1) blank) ⌝ }
 {
     let class = table::row_at(table, n, row - 1);
-    let types = class.link;
     let count = class.count;
-    let first = slots::typed_at(s, types, infos_of(s, types, count));
+    let first = first_type(s, book, class);
     Heading::Fields(Head {
         id,
         end,
@@ -53,9 +74,9 @@ fn class_row(table: &[u32], n: usize, class: ObjectNo) -> usize
 }
 
 // A class by id whose ObjectId is read: the MetadataId, and the row of its class.
-fn by_metadata_at(s: &[u8], table: &[u32], n: usize, id: u32, at: usize) -> Heading
+fn by_metadata_at(s: &[u8], book: &[u8], table: &[u32], n: usize, id: u32, at: usize) -> Heading
     requires { ⌜ (n ≤ roomOf (now table)) × (length (now s) ≤ 16777216) × (n ≤ 16777216) ⌝ }
-    ensures { λ r. ⌜ r ≡ byMetadataAt (now (s .entry)) (rowsOf n (now (table .entry))) id at ⌝ }
+    ensures { λ r. ⌜ r ≡ byMetadataAt (now (book .entry)) (now (s .entry)) (rowsOf n (now (table .entry))) id at ⌝ }
 {
     let Number32::Value(class, end) = num::u32_at(s, at) else {
         return Heading::Bad(Refusal::CutShort);
@@ -64,19 +85,19 @@ fn by_metadata_at(s: &[u8], table: &[u32], n: usize, id: u32, at: usize) -> Head
     if row == 0 {
         return Heading::Bad(Refusal::NoClass);
     }
-    of_class(s, table, n, id, end, row)
+    of_class(s, book, table, n, id, end, row)
 }
 
 // 1, ClassWithId (2.3.2.5): ObjectId, MetadataId.
-pub fn class_by_id_at(s: &[u8], table: &[u32], n: usize, at: usize) -> Heading
+pub fn class_by_id_at(s: &[u8], book: &[u8], table: &[u32], n: usize, at: usize) -> Heading
     requires { ⌜ (n ≤ roomOf (now table)) × (length (now s) ≤ 16777216) × (n ≤ 16777216) × (at < length (now s)) ⌝ }
-    ensures { λ r. ⌜ r ≡ classByIdAt (now (s .entry)) (rowsOf n (now (table .entry))) at ⌝ }
+    ensures { λ r. ⌜ r ≡ classByIdAt (now (book .entry)) (now (s .entry)) (rowsOf n (now (table .entry))) at ⌝ }
 {
     let Number32::Value(id, p) = num::u32_at(s, at + 1) else {
         return Heading::Bad(Refusal::CutShort);
     };
     if classes::is_free_class_id(table, n, ObjectNo(id)) {
-        return by_metadata_at(s, table, n, id, p);
+        return by_metadata_at(s, book, table, n, id, p);
     }
     Heading::Bad(Refusal::BadId)
 }

@@ -12,7 +12,6 @@ ghost use lib.ListN.{length};
 ghost use Rattle.format.specs.Rows.{roomOf, rowsOf};
 ghost use Rattle.format.specs.Records.{knownLibrary, ownLibraryAt, infoKnown, infosAt, membersAt};
 ghost use Rattle.class_info.specs.Stages.{detailsAt, typedMembersAt};
-ghost use Rattle.format.specs.Terms.{terms};
 
 // The LibraryId in the four bytes before a place: its library is known.
 fn known_library(s: &[u8], table: &[u32], n: usize, end: usize) -> Field
@@ -46,7 +45,7 @@ pub fn own_library_at(s: &[u8], table: &[u32], n: usize, at: usize) -> Field
 // The detail of a type, and for type 4 its library known.
 pub fn info_known(s: &[u8], table: &[u32], n: usize, kind: u8, at: usize, setting: Setting) -> Field
     requires { ⌜ n ≤ roomOf (now table) ⌝ }
-    ensures { λ r. ⌜ r ≡ infoKnown (terms setting) (now (s .entry)) (rowsOf n (now (table .entry))) kind at ⌝ }
+    ensures { λ r. ⌜ r ≡ infoKnown setting (now (s .entry)) (rowsOf n (now (table .entry))) kind at ⌝ }
 {
     match types::info_at(s, kind, at, setting) {
         Field::End(end) => {
@@ -70,7 +69,7 @@ fn infos_at(
     setting: Setting,
 ) -> Field
     requires { ⌜ (n ≤ roomOf (now table)) × (types + count ≤ length (now s)) ⌝ }
-    ensures { λ r. ⌜ r ≡ infosAt (terms setting) (now (s .entry)) (rowsOf n (now (table .entry))) count types at ⌝ }
+    ensures { λ r. ⌜ r ≡ infosAt setting (now (s .entry)) (rowsOf n (now (table .entry))) count types at ⌝ }
 {
     let mut left = count;
     let mut t = types;
@@ -104,7 +103,7 @@ fn details_at(
     setting: Setting,
 ) -> Field
     requires { ⌜ (n ≤ roomOf (now table)) × (types + count ≤ length (now s)) ⌝ }
-    ensures { λ r. ⌜ r ≡ detailsAt (terms setting) (now (s .entry)) (rowsOf n (now (table .entry))) own count types infos ⌝ }
+    ensures { λ r. ⌜ r ≡ detailsAt setting (now (s .entry)) (rowsOf n (now (table .entry))) own count types infos ⌝ }
 {
     match infos_at(s, table, n, count, types, infos, setting) {
         Field::End(p) => {
@@ -129,7 +128,7 @@ fn typed_members_at(
     setting: Setting,
 ) -> Heading
     requires { ⌜ (n ≤ roomOf (now table)) × (length (now s) ≤ 16777216) × (types ≤ length (now s)) ⌝ }
-    ensures { λ r. ⌜ r ≡ typedMembersAt (terms setting) (now (s .entry)) (rowsOf n (now (table .entry))) own id count types ⌝ }
+    ensures { λ r. ⌜ r ≡ typedMembersAt setting (now (s .entry)) (rowsOf n (now (table .entry))) own id count types ⌝ }
 {
     match types::type_bytes_at(s, count, types) {
         Field::End(infos) => match details_at(s, table, n, own, count, types, infos, setting) {
@@ -163,7 +162,7 @@ pub fn members_at(
     setting: Setting,
 ) -> Heading
     requires { ⌜ (n ≤ roomOf (now table)) × (length (now s) ≤ 16777216) × (at ≤ length (now s)) ⌝ }
-    ensures { λ r. ⌜ r ≡ membersAt (terms setting) (now (s .entry)) (rowsOf n (now (table .entry))) own id count at ⌝ }
+    ensures { λ r. ⌜ r ≡ membersAt setting (now (s .entry)) (rowsOf n (now (table .entry))) own id count at ⌝ }
 {
     match types::names_at(s, count, at, setting) {
         Field::End(types) => typed_members_at(s, table, n, own, id, count, types, setting),

@@ -11,7 +11,6 @@ ghost use lib.ListN.{length};
 ghost use Rattle.format.specs.Rows.{roomOf, rowsOf};
 ghost use Rattle.format.specs.Records.{goodClassId, classAt};
 ghost use Rattle.class_info.specs.Stages.{namedClassAt};
-ghost use Rattle.format.specs.Terms.{terms};
 
 // ---- ids
 
@@ -40,7 +39,7 @@ fn named_class_at(
     setting: Setting,
 ) -> Heading
     requires { ⌜ (n ≤ roomOf (now table)) × (length (now s) ≤ 16777216) ⌝ }
-    ensures { λ r. ⌜ r ≡ namedClassAt (terms setting) (now (s .entry)) (rowsOf n (now (table .entry))) own id at ⌝ }
+    ensures { λ r. ⌜ r ≡ namedClassAt setting (now (s .entry)) (rowsOf n (now (table .entry))) own id at ⌝ }
 {
     let q = match types::name_at(s, at, setting) {
         Field::End(next) => next,
@@ -67,7 +66,7 @@ pub fn class_at(
     setting: Setting,
 ) -> Heading
     requires { ⌜ (n ≤ roomOf (now table)) × (length (now s) ≤ 16777216) × (at < length (now s)) ⌝ }
-    ensures { λ r. ⌜ r ≡ classAt (terms setting) (now (s .entry)) (rowsOf n (now (table .entry))) own at ⌝ }
+    ensures { λ r. ⌜ r ≡ classAt setting (now (s .entry)) (rowsOf n (now (table .entry))) own at ⌝ }
 {
     let Number32::Value(id, p) = num::u32_at(s, at + 1) else {
         return Heading::Bad(Refusal::CutShort);

@@ -1,11 +1,12 @@
-// Reads many streams, one behind another, each with its length and the size of its table in words before it (four bytes each, the low
-// byte first), and prints the answer to each and a hash of the words that are left. For comparing with the independent reader. With the word
-// `--lenient` length prefixes may be padded.
+// Reads many streams, one behind another, each with its class book behind it, and before it its length, the size of its table in words and the length of
+// its book (four bytes each, the low byte first), and prints the answer to each and a hash of the words that are left. For comparing with the
+// independent reader. With the word `--lenient` length prefixes may be padded.
 use format::ReadAnswer;
 use format::Setting;
 use libc::STDIN_FILENO;
 use libc::STDOUT_FILENO;
-use options::ForOne;
+use options::Choice;
+use options::Chosen;
 ghost use mathlib.Core.Path.{_≡_};
 ghost use lib.ListN.{length};
 
@@ -19,48 +20,71 @@ fn answer(a: ReadAnswer) {
     }
 }
 
-// One stream and the words that its table has.
-fn show(s: &[u8], table: &mut [u32], setting: Setting) {
+// One stream with its book, and the words that its table has.
+fn show(s: &[u8], book: &[u8], table: &mut [u32], setting: Setting) {
     traces::litter_words(table);
-    let a = reader::read(s, table, setting);
+    let a = reader::read(s, book, table, setting);
     answer(a);
     traces::print_lanes(traces::words(table));
     io::write_all(STDOUT_FILENO, b"\n");
 }
 
-// The stream of so many bytes that comes next, with so many words for its table. False where the input ends before.
-fn one(space: &mut [u8], table: &mut [u32], bytes: usize, words: usize, setting: Setting) -> bool {
-    if space.len() < bytes {
-        return false;
-    }
+// What stands before a stream.
+pub struct Sizes {
+    pub bytes: usize,
+    pub words: usize,
+    pub book: usize,
+}
+
+// The stream and the book that come next, with the sizes of them and of the table. False where the input ends before.
+fn one(
+    space: &mut [u8],
+    book: &mut [u8],
+    table: &mut [u32],
+    sizes: Sizes,
+    setting: Setting,
+) -> bool {
+    let bytes = sizes.bytes;
+    let words = sizes.words;
+    let length = sizes.book;
     if table.len() < words {
         return false;
     }
-    let got = io::read_full(STDIN_FILENO, &mut space[..bytes]);
-    if got != bytes {
+    if traces::missing(space, bytes) {
         return false;
     }
-    show(&space[..bytes], &mut table[..words], setting);
+    if traces::missing(book, length) {
+        return false;
+    }
+    show(
+        &space[..bytes],
+        &book[..length],
+        &mut table[..words],
+        setting,
+    );
     true
 }
 
-// The next stream. False where there is none, or it is larger than the space for it.
-fn next(space: &mut [u8], table: &mut [u32], setting: Setting) -> bool {
-    let mut head = [0u8; 8];
+// The next stream. False where there is none, or it or its book is larger than the space for it.
+fn next(space: &mut [u8], book: &mut [u8], table: &mut [u32], setting: Setting) -> bool {
+    let mut head = [0u8; 12];
     let n = io::read_full(STDIN_FILENO, &mut head);
-    if n != 8 {
+    if n != 12 {
         return false;
     }
-    let bytes = traces::size_at(&head, 0);
-    let words = traces::size_at(&head, 4);
-    one(space, table, bytes, words, setting)
+    let sizes = Sizes {
+        bytes: traces::size_at(&head, 0),
+        words: traces::size_at(&head, 4),
+        book: traces::size_at(&head, 8),
+    };
+    one(space, book, table, sizes, setting)
 }
 
 // All streams, of which there are at most a million.
-fn all(space: &mut [u8], table: &mut [u32], setting: Setting) {
+fn all(space: &mut [u8], book: &mut [u8], table: &mut [u32], setting: Setting) {
     let mut i: u32 = 0;
     while i < 1000000 {
-        if !next(space, table, setting) {
+        if !next(space, book, table, setting) {
             return;
         }
         i += 1;
@@ -74,16 +98,31 @@ fn stream_room() -> [u8; 600000]
     [0; 600000]
 }
 
-// All streams under a setting.
+// All streams under a setting, with room for a book of 65,536 bytes.
 fn under(setting: Setting) {
     let mut space = stream_room();
+    let mut book = io::large_buffer();
     let mut table = [0u32; 8192];
-    all(&mut space, &mut table, setting);
+    all(&mut space, &mut book, &mut table, setting);
+}
+
+// A book comes with each stream, and none from a file.
+fn chosen(c: Choice) {
+    let setting = c.first;
+    if c.first_book != 0 {
+        usage();
+        return;
+    }
+    under(setting);
+}
+
+fn usage() {
+    options::usage(b"compare [--lenient]");
 }
 
 fn main() {
     match options::one() {
-        ForOne::Take(setting) => under(setting),
-        ForOne::Wrong => options::usage(b"compare [--lenient]"),
+        Chosen::Take(c) => chosen(c),
+        Chosen::Wrong => usage(),
     }
 }

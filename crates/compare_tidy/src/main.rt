@@ -1,11 +1,12 @@
-// Tidies many streams, one behind another, each with its length, the size of its table in words and the size of its output in bytes before it
-// (four bytes each, the low byte first), and prints the answer to each, a hash of the words that are left and one of all bytes of the output.
-// For comparing with the independent tidier. With the word `--lenient` length prefixes may be padded.
+// Tidies many streams, one behind another, each with its class book behind it, and before it its length, the size of its table in words, the size of its
+// output in bytes and the length of its book (four bytes each, the low byte first), and prints the answer to each, a hash of the words that are left and
+// one of all bytes of the output. For comparing with the independent tidier. With the word `--lenient` length prefixes may be padded.
 use format::Setting;
 use format::TidyAnswer;
 use libc::STDIN_FILENO;
 use libc::STDOUT_FILENO;
-use options::ForOne;
+use options::Choice;
+use options::Chosen;
 ghost use mathlib.Core.Path.{_≡_};
 ghost use lib.ListN.{length};
 
@@ -23,11 +24,11 @@ fn answer(a: TidyAnswer) {
     }
 }
 
-// One stream, the words that its table has and the bytes that its output has.
-fn show(s: &[u8], table: &mut [u32], out: &mut [u8], setting: Setting) {
+// One stream with its book, the words that its table has and the bytes that its output has.
+fn show(s: &[u8], book: &[u8], table: &mut [u32], out: &mut [u8], setting: Setting) {
     traces::litter_words(table);
     traces::litter_bytes(out);
-    let a = tidy::tidy(s, table, out, setting);
+    let a = tidy::tidy(s, book, table, out, setting);
     answer(a);
     traces::print_lanes(traces::words(table));
     traces::print_lanes(traces::bytes(out));
@@ -39,11 +40,13 @@ pub struct Sizes {
     pub bytes: usize,
     pub words: usize,
     pub room: usize,
+    pub book: usize,
 }
 
-// The stream that comes next, with the sizes of it, its table and its output. False where the input ends before.
+// The stream and the book that come next, with the sizes of them, of the table and of the output. False where the input ends before.
 fn one(
     space: &mut [u8],
+    book: &mut [u8],
     table: &mut [u32],
     out: &mut [u8],
     sizes: Sizes,
@@ -52,21 +55,22 @@ fn one(
     let bytes = sizes.bytes;
     let words = sizes.words;
     let room = sizes.room;
-    if space.len() < bytes {
-        return false;
-    }
+    let length = sizes.book;
     if table.len() < words {
         return false;
     }
     if out.len() < room {
         return false;
     }
-    let got = io::read_full(STDIN_FILENO, &mut space[..bytes]);
-    if got != bytes {
+    if traces::missing(space, bytes) {
+        return false;
+    }
+    if traces::missing(book, length) {
         return false;
     }
     show(
         &space[..bytes],
+        &book[..length],
         &mut table[..words],
         &mut out[..room],
         setting,
@@ -74,26 +78,33 @@ fn one(
     true
 }
 
-// The next stream. False where there is none, or it is larger than the space for it.
-fn next(space: &mut [u8], table: &mut [u32], out: &mut [u8], setting: Setting) -> bool {
-    let mut head = [0u8; 12];
+// The next stream. False where there is none, or it or its book is larger than the space for it.
+fn next(
+    space: &mut [u8],
+    book: &mut [u8],
+    table: &mut [u32],
+    out: &mut [u8],
+    setting: Setting,
+) -> bool {
+    let mut head = [0u8; 16];
     let n = io::read_full(STDIN_FILENO, &mut head);
-    if n != 12 {
+    if n != 16 {
         return false;
     }
     let sizes = Sizes {
         bytes: traces::size_at(&head, 0),
         words: traces::size_at(&head, 4),
         room: traces::size_at(&head, 8),
+        book: traces::size_at(&head, 12),
     };
-    one(space, table, out, sizes, setting)
+    one(space, book, table, out, sizes, setting)
 }
 
 // All streams, of which there are at most a million.
-fn all(space: &mut [u8], table: &mut [u32], out: &mut [u8], setting: Setting) {
+fn all(space: &mut [u8], book: &mut [u8], table: &mut [u32], out: &mut [u8], setting: Setting) {
     let mut i: u32 = 0;
     while i < 1000000 {
-        if !next(space, table, out, setting) {
+        if !next(space, book, table, out, setting) {
             return;
         }
         i += 1;
@@ -114,17 +125,32 @@ fn copy_room() -> [u8; 1000000]
     [0; 1000000]
 }
 
-// All streams under a setting.
+// All streams under a setting, with room for a book of 65,536 bytes.
 fn under(setting: Setting) {
     let mut space = stream_room();
+    let mut book = io::large_buffer();
     let mut table = [0u32; 8192];
     let mut out = copy_room();
-    all(&mut space, &mut table, &mut out, setting);
+    all(&mut space, &mut book, &mut table, &mut out, setting);
+}
+
+// A book comes with each stream, and none from a file.
+fn chosen(c: Choice) {
+    let setting = c.first;
+    if c.first_book != 0 {
+        usage();
+        return;
+    }
+    under(setting);
+}
+
+fn usage() {
+    options::usage(b"compare_tidy [--lenient]");
 }
 
 fn main() {
     match options::one() {
-        ForOne::Take(setting) => under(setting),
-        ForOne::Wrong => options::usage(b"compare_tidy [--lenient]"),
+        Chosen::Take(c) => chosen(c),
+        Chosen::Wrong => usage(),
     }
 }

@@ -1,11 +1,13 @@
 // The tidy copy: at most 65,535 bytes from standard input, the copy to standard output. A refusal goes to standard error, and nothing to
-// standard output. With the word `--lenient` length prefixes may be padded; the copy has the shortest.
+// standard output. With the word `--lenient` length prefixes may be padded; the copy has the shortest. After the word `--book` stands the file of a
+// class book of at most 1,048,575 bytes.
 use format::Setting;
 use format::TidyAnswer;
 use libc::STDERR_FILENO;
 use libc::STDIN_FILENO;
 use libc::STDOUT_FILENO;
-use options::ForOne;
+use options::Choice;
+use options::Chosen;
 ghost use mathlib.Core.Path.{_≡_};
 ghost use lib.ListN.{length};
 
@@ -48,8 +50,8 @@ fn table_room() -> [u32; 524288]
     [0; 524288]
 }
 
-// The copy under a setting.
-fn copied(setting: Setting) {
+// The copy with a book and under a setting.
+fn copied(book: &[u8], setting: Setting) {
     let mut space = io::large_buffer();
     let n = io::read_full(STDIN_FILENO, &mut space);
     if n == 65536 {
@@ -58,13 +60,32 @@ fn copied(setting: Setting) {
     }
     let mut table = table_room();
     let mut out = copy_room();
-    let a = tidy::tidy(&space[..n], &mut table, &mut out, setting);
+    let a = tidy::tidy(&space[..n], book, &mut table, &mut out, setting);
     answer(&out, a);
+}
+
+// The copy as the words of the call choose, with room for a book. A book is never longer than its room, so the second test only says so to the proof.
+fn chosen(room: &mut [u8], c: Choice) {
+    let setting = c.first;
+    let l = files::load_book(c.first_book, room);
+    if files::unusable_book(STDERR_FILENO, c.first_book, l) {
+        return;
+    }
+    let k = l.size;
+    if k <= room.len() {
+        copied(&room[..k], setting);
+    }
+}
+
+// The call with a room for its book.
+fn called(c: Choice) {
+    let mut room = files::book_room();
+    chosen(&mut room, c);
 }
 
 fn main() {
     match options::one() {
-        ForOne::Take(setting) => copied(setting),
-        ForOne::Wrong => options::usage(b"copy [--lenient]"),
+        Chosen::Take(c) => called(c),
+        Chosen::Wrong => options::usage(b"copy [--lenient] [--book FILE]"),
     }
 }

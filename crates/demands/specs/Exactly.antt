@@ -22,21 +22,21 @@ use Rattle.demands.specs.Calls.{tidy-writes, two-tidied, CopyShown}
 
 -- two lists say the same exactly when their records mean the same
 pub same-meant : (τ υ : Terms) {s : List ℕ} {rows : List Row} (a : Reading τ s rows) {t : List ℕ} {others : List Row} (b : Reading υ t others)
-    → SayTheSame s rows t others ↔ (meantBy a ≡ meantBy b)
+    → SayTheSame (τ .book) s rows (υ .book) t others ↔ (meantBy a ≡ meantBy b)
 same-meant τ υ a b = (λ e. sym (says-meant τ a) ∙ (e ∙ says-meant υ b), λ e. says-meant τ a ∙ (e ∙ sym (says-meant υ b)))
 
 -- two readings of one stream mean the same
 pub one-meaning : (τ : Terms) {s : List ℕ} {rows others : List Row} (a : Reading τ s rows) (b : Reading τ s others) → meantBy a ≡ meantBy b
-one-meaning τ {s} {rows} {others} a b = sym (says-meant τ a) ∙ (ap (says s) (reading-unique τ s rows others a b) ∙ says-meant τ b)
+one-meaning τ {s} {rows} {others} a b = sym (says-meant τ a) ∙ (ap (says (τ .book) s) (reading-unique τ s rows others a b) ∙ says-meant τ b)
 
 -- the copy of what is said is as long as that of what is meant; so one is within the stream limit where the other is
-pub as-long : (τ : Terms) {s : List ℕ} {rows : List Row} (a : Reading τ s rows) → length (tidyOf (says s rows)) ≡ length (tidyOf (meantBy a))
+pub as-long : (τ : Terms) {s : List ℕ} {rows : List Row} (a : Reading τ s rows) → length (tidyOf (says (τ .book) s rows)) ≡ length (tidyOf (meantBy a))
 as-long τ a = ap (λ (m : Model). length (tidyOf m)) (says-meant τ a)
 
-pub said-small : (τ : Terms) {s : List ℕ} {rows : List Row} (a : Reading τ s rows) → length (tidyOf (meantBy a)) ≤ 16777216 → length (tidyOf (says s rows)) ≤ 16777216
+pub said-small : (τ : Terms) {s : List ℕ} {rows : List Row} (a : Reading τ s rows) → length (tidyOf (meantBy a)) ≤ 16777216 → length (tidyOf (says (τ .book) s rows)) ≤ 16777216
 said-small τ a small = subst (λ (n : ℕ). n ≤ 16777216) (sym (as-long τ a)) small
 
-pub meant-small : (τ : Terms) {s : List ℕ} {rows : List Row} (a : Reading τ s rows) → length (tidyOf (says s rows)) ≤ 16777216 → length (tidyOf (meantBy a)) ≤ 16777216
+pub meant-small : (τ : Terms) {s : List ℕ} {rows : List Row} (a : Reading τ s rows) → length (tidyOf (says (τ .book) s rows)) ≤ 16777216 → length (tidyOf (meantBy a)) ≤ 16777216
 meant-small τ a small = subst (λ (n : ℕ). n ≤ 16777216) (as-long τ a) small
 
 -- exactly when their tidy copies are equal
@@ -55,28 +55,28 @@ pub copy-means : (τ υ : Terms) {s : List ℕ} {rows : List Row} (a : Reading �
     → {copies : List Row} (c : Reading υ (tidyOf (meantBy a)) copies) → meantBy c ≡ meantBy a
 copy-means τ υ {s} {rows} a small {copies} c =
     let p = says-meant τ a in
-    let P : Model → Type 0 = λ m. length (tidyOf m) ≤ 16777216 → Reading υ (tidyOf m) copies → says (tidyOf m) copies ≡ m in
-    let f : P (meantBy a) = subst P p (λ l r. tidy-says τ υ s rows a l copies r) in
+    let P : Model → Type 0 = λ m. length (tidyOf m) ≤ 16777216 → Reading υ (tidyOf m) copies → says (υ .book) (tidyOf m) copies ≡ m in
+    let f : P (meantBy a) = subst P p (λ l r. tidy-says τ υ s rows a l (υ .book) copies r) in
     sym (says-meant υ c) ∙ f small c
 
 -- ---- from the promise of tidying alone
 
 -- the copy that a call leaves is the tidy form of what the records mean
-pub written-meant : (τ : Terms) (s t d : List ℕ) → Bytes s → (n : ℕ) (u e : List ℕ) → TidyPromise τ s t d (Q.Written n) u e → {rows : List Row} (w : Reading τ s rows)
+pub written-meant : (τ : Terms) (s t d : List ℕ) → Bytes (τ .book) → Bytes s → (n : ℕ) (u e : List ℕ) → TidyPromise τ s t d (Q.Written n) u e → {rows : List Row} (w : Reading τ s rows)
     → take n e ≡ tidyOf (meantBy w)
-written-meant τ s t d byte n u e p {rows} w =
-    let x = tidy-writes τ s t d byte n u e p in
+written-meant τ s t d booked byte n u e p {rows} w =
+    let x = tidy-writes τ s t d booked byte n u e p in
     x .copy-is ∙ ap tidyOf (says-meant τ (x .reads) ∙ one-meaning τ (x .reads) w)
 
 -- two calls leave equal copies exactly when the records mean the same
-pub two-meant : (τ : Terms) (s t d : List ℕ) → Bytes s → (n : ℕ) (u e : List ℕ) → TidyPromise τ s t d (Q.Written n) u e
-    → (τ′ : Terms) (s′ t′ d′ : List ℕ) → Bytes s′ → (m : ℕ) (u′ e′ : List ℕ) → TidyPromise τ′ s′ t′ d′ (Q.Written m) u′ e′
+pub two-meant : (τ : Terms) (s t d : List ℕ) → Bytes (τ .book) → Bytes s → (n : ℕ) (u e : List ℕ) → TidyPromise τ s t d (Q.Written n) u e
+    → (τ′ : Terms) (s′ t′ d′ : List ℕ) → Bytes (τ′ .book) → Bytes s′ → (m : ℕ) (u′ e′ : List ℕ) → TidyPromise τ′ s′ t′ d′ (Q.Written m) u′ e′
     → {rows others : List Row} (w : Reading τ s rows) (w′ : Reading τ′ s′ others) → (meantBy w ≡ meantBy w′) ↔ (take n e ≡ take m e′)
-two-meant τ s t d byte n u e p τ′ s′ t′ d′ byte′ m u′ e′ p′ {rows} {others} w w′ =
-    let x = two-tidied τ s t d byte n u e p τ′ s′ t′ d′ byte′ m u′ e′ p′ rows others w w′ in
+two-meant τ s t d booked byte n u e p τ′ s′ t′ d′ booked′ byte′ m u′ e′ p′ {rows} {others} w w′ =
+    let x = two-tidied τ s t d booked byte n u e p τ′ s′ t′ d′ booked′ byte′ m u′ e′ p′ rows others w w′ in
     let y = same-meant τ τ′ w w′ in
     (λ h. x .0 (y .1 h), λ h. y .0 (x .1 h))
 
 -- and the records of a copy that is read again mean what those of its list mean
 pub shown-means : (τ υ : Terms) {s c l : List ℕ} {a : ReadAnswer} {v : List ℕ} (x : CopyShown τ υ s c l a v) {list : List Row} (w : Reading τ s list) → meantBy (x .reads) ≡ meantBy w
-shown-means τ υ x {list} w = same-meant υ τ (x .reads) w .0 (x .says-same list w)
+shown-means τ υ x {list} w = same-meant υ τ (x .reads) w .0 (x .says-same (υ .book) list w)

@@ -1,7 +1,7 @@
--- What strict accepts, lenient accepts, with the same rows: a reading goes over to terms that take every prefix that its own take, constructor by
--- constructor. And what a caller of reading or tidying learns of it, from the promises alone.
+-- What strict accepts, lenient accepts, with the same book and the same rows: a reading goes over to terms that take every prefix that its own take,
+-- constructor by constructor. And what a caller of reading or tidying learns of it, from the promises alone.
 use Prim.Native.Nat.{ℕ, _≤_}
-use mathlib.Core.Path.{_≡_, refl, sym, ap, _∙_}
+use mathlib.Core.Path.{_≡_, refl, sym, ap, subst, _∙_}
 use mathlib.Core.Bool.{Bool, true, false}
 use mathlib.Core.List.{List}
 use lib.ListN.{length}
@@ -14,10 +14,10 @@ use Rattle.format.specs.declared.ReadAnswer.the-variants as A
 use Rattle.format.specs.declared.TidyAnswer.{TidyAnswer}
 use Rattle.format.specs.declared.TidyAnswer.the-variants as Q
 use Rattle.format.specs.declared.Row.{Row}
-use Rattle.format.specs.Terms.{Terms, strict, lenient}
+use Rattle.format.specs.Terms.{Terms, terms}
 use Rattle.format.specs.Rows.{roomOf}
 use Rattle.format.specs.Contents.{Prefixed, hasPrefix, Detail, primitive, text, object, system, class, objects, texts, primitives, Member, Rec}
-use Rattle.format.specs.Grammar.{Width, Name, PrefixIf, Value, Values, none, more, Entry, GoodDetail, Members, no-more, member, ClassInfo, Cur, Object, system-class, library-class, class-by-id, Body, hollow, filled, Slots, full, member-value, an-object, a-string, a-typed-primitive, a-reference, a-null, a-run, a-long-run, a-library, Array, of-objects, of-strings, of-primitives, of-any, of-values, Objects, the-end, one-object, one-string, one-array, one-library, Reading}
+use Rattle.format.specs.Grammar.{Book, Width, Name, PrefixIf, Value, Values, none, more, Entry, GoodDetail, Members, no-more, member, ClassInfo, Cur, Object, system-class, library-class, class-by-id, Body, hollow, filled, Slots, full, member-value, an-object, a-string, a-typed-primitive, a-reference, a-null, a-run, a-long-run, a-library, Array, of-objects, of-strings, of-primitives, of-any, of-values, Objects, the-end, one-object, one-string, one-array, one-library, Reading}
 use Rattle.format.specs.Machine.{Outcome, accepted, refused, readOf, readAnswer, tableWords}
 use Rattle.format.specs.Tidy.{tidyAnswer, tidyOutput, tidyTable}
 use Rattle.format.specs.Promises.{ReadPromise, TidyPromise}
@@ -99,10 +99,12 @@ module _ (τ υ : Terms) (wider : (w n : ℕ) → Width (τ .setting) w n → Wi
   objects-more (one-array a b q d f) = one-array a (array-more b) q (body-more d) (objects-more f)
   objects-more (one-library a b n q d) = one-library a b (name-more n) q (objects-more d)
 
-  -- the same records and the same rows
-  pub reading-more : {s : List ℕ} {rows : List Row} → Reading τ s rows → Reading υ s rows
-  reading-more w =
+  -- the same records and the same rows, where the book is the same
+  pub reading-more : τ .book ≡ υ .book → {s : List ℕ} {rows : List Row} → Reading τ s rows → Reading υ s rows
+  reading-more e w =
       record {
+        classes = w .classes;
+        book-is = subst (λ (β : List ℕ). Book β (w .classes)) e (w .book-is);
         root = w .root;
         header-id = w .header-id;
         rs = w .rs;
@@ -119,65 +121,73 @@ module _ (τ υ : Terms) (wider : (w n : ℕ) → Width (τ .setting) w n → Wi
 
 -- ---- strict and lenient
 
-pub lenient-more : (s : List ℕ) (rows : List Row) → Reading strict s rows → Reading lenient s rows
-lenient-more s rows = reading-more strict lenient (lenient-width S.Lenient)
+-- β is the book of both
+module _ (β : List ℕ) where
+  abbrev strict : Terms
+  strict = terms S.Strict β
 
--- a reading that fits the room: both settings come to the same
-same-outcome : (s : List ℕ) (room : ℕ) (rows : List Row) → Reading strict s rows → length rows ≤ room → readOf lenient s room ≡ readOf strict s room
-same-outcome s room rows w l = accepts lenient (lenient-more s rows w) room l ∙ sym (accepts strict w room l)
+  abbrev lenient : Terms
+  lenient = terms S.Lenient β
 
-pub lenient-accepts : (s : List ℕ) → Bytes s → (room : ℕ) (rows : List Row) → readOf strict s room ≡ accepted rows → readOf lenient s room ≡ accepted rows
-lenient-accepts s byte room rows e = let w = accepted-exactly strict s byte room rows .0 e in same-outcome s room rows (w .0) (w .1) ∙ e
+  pub lenient-more : (s : List ℕ) (rows : List Row) → Reading strict s rows → Reading lenient s rows
+  lenient-more s rows = reading-more strict lenient (lenient-width S.Lenient) refl
 
--- ---- reading
+  -- a reading that fits the room: both settings come to the same
+  same-outcome : (s : List ℕ) (room : ℕ) (rows : List Row) → Reading strict s rows → length rows ≤ room → readOf lenient s room ≡ readOf strict s room
+  same-outcome s room rows w l = accepts lenient (lenient-more s rows w) room l ∙ sym (accepts strict w room l)
 
--- a list that strict accepts: lenient answers the same and leaves the same table
-pub read-more : (s t : List ℕ) → Bytes s → (n : ℕ) (u : List ℕ) → ReadPromise strict s t (A.Accepted n) u → (a : ReadAnswer) (v : List ℕ) → ReadPromise lenient s t a v
-    → (a ≡ A.Accepted n) × (v ≡ u)
-read-more s t byte n u p a v q =
-    let x = accepted-of (readOf strict s (roomOf t)) n (p .answer) in
-    let e = lenient-accepts s byte (roomOf t) (x .0) (x .1) ∙ sym (x .1) in
-    (q .answer ∙ (ap readAnswer e ∙ sym (p .answer)), q .table ∙ (ap (tableWords (length t)) e ∙ sym (p .table)))
+  pub lenient-accepts : (s : List ℕ) → Bytes β → Bytes s → (room : ℕ) (rows : List Row) → readOf strict s room ≡ accepted rows → readOf lenient s room ≡ accepted rows
+  lenient-accepts s booked byte room rows e = let w = accepted-exactly strict s booked byte room rows .0 e in same-outcome s room rows (w .0) (w .1) ∙ e
 
--- what lenient refuses, strict refuses, be it with another number or at another place
-pub strict-refuses : (s t : List ℕ) → Bytes s → (r : Refusal) (place : ℕ) (u : List ℕ) → ReadPromise lenient s t (A.Refused r place) u
-    → (a : ReadAnswer) (v : List ℕ) → ReadPromise strict s t a v → (x : Refusal) × (y : ℕ) × (a ≡ A.Refused x y)
-unfolding readAnswer
-strict-refuses s t byte r place u p a v q = go (readOf strict s (roomOf t)) refl
-  where
-    go : (o : Outcome) → readOf strict s (roomOf t) ≡ o → (x : Refusal) × (y : ℕ) × (a ≡ A.Refused x y)
-    go (accepted rows) e =
-        absurd (not-both rows r place (sym (lenient-accepts s byte (roomOf t) rows e) ∙ refused-of (readOf lenient s (roomOf t)) r place (p .answer)))
-    go (refused x y) e = (x, y, q .answer ∙ ap readAnswer e)
+  -- ---- reading
 
--- ---- tidying
+  -- a list that strict accepts: lenient answers the same and leaves the same table
+  pub read-more : (s t : List ℕ) → Bytes β → Bytes s → (n : ℕ) (u : List ℕ) → ReadPromise strict s t (A.Accepted n) u → (a : ReadAnswer) (v : List ℕ) → ReadPromise lenient s t a v
+      → (a ≡ A.Accepted n) × (v ≡ u)
+  read-more s t booked byte n u p a v q =
+      let x = accepted-of (readOf strict s (roomOf t)) n (p .answer) in
+      let e = lenient-accepts s booked byte (roomOf t) (x .0) (x .1) ∙ sym (x .1) in
+      (q .answer ∙ (ap readAnswer e ∙ sym (p .answer)), q .table ∙ (ap (tableWords (length t)) e ∙ sym (p .table)))
 
--- one reading for both settings: one answer, one table, one output
-same-tidied : (s t d : List ℕ) (rows : List Row) → Reading strict s rows → length rows ≤ roomOf t → (q : TidyAnswer) (u e : List ℕ) → TidyPromise strict s t d q u e
-    → (o : TidyAnswer) (v f : List ℕ) → TidyPromise lenient s t d o v f → (o ≡ q) × ((v ≡ u) × (f ≡ e))
-same-tidied s t d rows w l q u e p o v f z =
-    let x = same-outcome s (roomOf t) rows w l in (
-      z .answer ∙ (ap (tidyAnswer s d) x ∙ sym (p .answer)),
-      (z .table ∙ (ap (tidyTable (length t) s d) x ∙ sym (p .table)), z .output ∙ (ap (tidyOutput s d) x ∙ sym (p .output))),
-    )
+  -- what lenient refuses, strict refuses, be it with another number or at another place
+  pub strict-refuses : (s t : List ℕ) → Bytes β → Bytes s → (r : Refusal) (place : ℕ) (u : List ℕ) → ReadPromise lenient s t (A.Refused r place) u
+      → (a : ReadAnswer) (v : List ℕ) → ReadPromise strict s t a v → (x : Refusal) × (y : ℕ) × (a ≡ A.Refused x y)
+  unfolding readAnswer
+  strict-refuses s t booked byte r place u p a v q = go (readOf strict s (roomOf t)) refl
+    where
+      go : (o : Outcome) → readOf strict s (roomOf t) ≡ o → (x : Refusal) × (y : ℕ) × (a ≡ A.Refused x y)
+      go (accepted rows) e =
+          absurd (not-both rows r place (sym (lenient-accepts s booked byte (roomOf t) rows e) ∙ refused-of (readOf lenient s (roomOf t)) r place (p .answer)))
+      go (refused x y) e = (x, y, q .answer ∙ ap readAnswer e)
 
--- a copy that strict writes, lenient writes
-pub tidy-more : (s t d : List ℕ) → Bytes s → (n : ℕ) (u e : List ℕ) → TidyPromise strict s t d (Q.Written n) u e
-    → (q : TidyAnswer) (v f : List ℕ) → TidyPromise lenient s t d q v f → (q ≡ Q.Written n) × ((v ≡ u) × (f ≡ e))
-tidy-more s t d byte n u e p =
-    let x = tidy-writes strict s t d byte n u e p in
-    same-tidied s t d (x .rows) (x .reads) (x .fit) (Q.Written n) u e p
+  -- ---- tidying
 
--- a copy that strict has no room for, lenient has no room for
-pub tidy-more-full : (s t d : List ℕ) → Bytes s → (n : ℕ) (u e : List ℕ) → TidyPromise strict s t d (Q.OutFull n) u e
-    → (q : TidyAnswer) (v f : List ℕ) → TidyPromise lenient s t d q v f → (q ≡ Q.OutFull n) × ((v ≡ u) × (f ≡ e))
-tidy-more-full s t d byte n u e p =
-    let x = tidy-full strict s t d byte n u e p in
-    same-tidied s t d (x .rows) (x .reads) (x .fit) (Q.OutFull n) u e p
+  -- one reading for both settings: one answer, one table, one output
+  same-tidied : (s t d : List ℕ) (rows : List Row) → Reading strict s rows → length rows ≤ roomOf t → (q : TidyAnswer) (u e : List ℕ) → TidyPromise strict s t d q u e
+      → (o : TidyAnswer) (v f : List ℕ) → TidyPromise lenient s t d o v f → (o ≡ q) × ((v ≡ u) × (f ≡ e))
+  same-tidied s t d rows w l q u e p o v f z =
+      let x = same-outcome s (roomOf t) rows w l in (
+        z .answer ∙ (ap (tidyAnswer β s d) x ∙ sym (p .answer)),
+        (z .table ∙ (ap (tidyTable (length t) β s d) x ∙ sym (p .table)), z .output ∙ (ap (tidyOutput β s d) x ∙ sym (p .output))),
+      )
 
--- what lenient refuses to tidy, strict refuses to tidy
-pub tidy-strict-refuses : (s t d : List ℕ) → Bytes s → (r : Refusal) (place : ℕ) (u e : List ℕ) → TidyPromise lenient s t d (Q.Refused r place) u e
-    → (q : TidyAnswer) (v f : List ℕ) → TidyPromise strict s t d q v f → (x : Refusal) × (y : ℕ) × (q ≡ Q.Refused x y)
-tidy-strict-refuses s t d byte r place u e p =
-    let x = tidy-refuses lenient s t d r place u e p in
-    tidy-none strict s t d byte (λ rows w. x .1 .1 rows (lenient-more s rows w))
+  -- a copy that strict writes, lenient writes
+  pub tidy-more : (s t d : List ℕ) → Bytes β → Bytes s → (n : ℕ) (u e : List ℕ) → TidyPromise strict s t d (Q.Written n) u e
+      → (q : TidyAnswer) (v f : List ℕ) → TidyPromise lenient s t d q v f → (q ≡ Q.Written n) × ((v ≡ u) × (f ≡ e))
+  tidy-more s t d booked byte n u e p =
+      let x = tidy-writes strict s t d booked byte n u e p in
+      same-tidied s t d (x .rows) (x .reads) (x .fit) (Q.Written n) u e p
+
+  -- a copy that strict has no room for, lenient has no room for
+  pub tidy-more-full : (s t d : List ℕ) → Bytes β → Bytes s → (n : ℕ) (u e : List ℕ) → TidyPromise strict s t d (Q.OutFull n) u e
+      → (q : TidyAnswer) (v f : List ℕ) → TidyPromise lenient s t d q v f → (q ≡ Q.OutFull n) × ((v ≡ u) × (f ≡ e))
+  tidy-more-full s t d booked byte n u e p =
+      let x = tidy-full strict s t d booked byte n u e p in
+      same-tidied s t d (x .rows) (x .reads) (x .fit) (Q.OutFull n) u e p
+
+  -- what lenient refuses to tidy, strict refuses to tidy
+  pub tidy-strict-refuses : (s t d : List ℕ) → Bytes β → Bytes s → (r : Refusal) (place : ℕ) (u e : List ℕ) → TidyPromise lenient s t d (Q.Refused r place) u e
+      → (q : TidyAnswer) (v f : List ℕ) → TidyPromise strict s t d q v f → (x : Refusal) × (y : ℕ) × (q ≡ Q.Refused x y)
+  tidy-strict-refuses s t d booked byte r place u e p =
+      let x = tidy-refuses lenient s t d r place u e p in
+      tidy-none strict s t d booked byte (λ rows w. x .1 .1 rows (lenient-more s rows w))

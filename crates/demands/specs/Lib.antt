@@ -1,5 +1,7 @@
 -- What a user can be taught to trust.
 pub mod Readings
+pub mod Unneeded
+pub mod Books
 pub mod Records
 pub mod Copies
 pub mod Settled

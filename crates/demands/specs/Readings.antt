@@ -17,9 +17,9 @@ use Rattle.standing.specs.Accepted.{accepted-stands}
 use Rattle.readings.specs.Accept.{accepts}
 use Rattle.readings.specs.Derive.{accepted-reading}
 
--- for every stream of bytes and every room: the machine accepts with rows exactly when the rows are a reading and number at most room
-pub accepted-exactly : (τ : Terms) (s : List ℕ) → Bytes s → (room : ℕ) (rows : List Row) → (readOf τ s room ≡ accepted rows) ↔ (Reading τ s rows × (length rows ≤ room))
-accepted-exactly τ s byte room rows = (accepted-reading τ s byte room rows, λ w. accepts τ (w .0) room (w .1))
+-- for every book and stream of bytes and every room: the machine accepts with rows exactly when the rows are a reading and number at most room
+pub accepted-exactly : (τ : Terms) (s : List ℕ) → Bytes (τ .book) → Bytes s → (room : ℕ) (rows : List Row) → (readOf τ s room ≡ accepted rows) ↔ (Reading τ s rows × (length rows ≤ room))
+accepted-exactly τ s booked byte room rows = (accepted-reading τ s booked byte room rows, λ w. accepts τ (w .0) room (w .1))
 
 same-rows : {a b : List Row} → accepted a ≡ accepted b → a ≡ b
 same-rows e = cc

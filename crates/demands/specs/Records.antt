@@ -18,9 +18,9 @@ use Rattle.format.specs.Numbers.{leBytes}
 use Rattle.format.specs.Text.{spanAt}
 use Rattle.format.specs.Types.{codeNumber, afterText, afterInfo}
 use Rattle.format.specs.Rows.{objectRow, withLink, linkOf, linked}
-use Rattle.format.specs.Contents.{Prefixed, bytesIn, itemsBytes, Detail, primitive, text, object, system, class, objects, texts, primitives, Member, Rec, header, classById, systemClass, libraryClass, string, array, typedPrimitive, reference, null, nulls, manyNulls, end, library, primitiveArray, objectArray, stringArray, value, typeByte, infoBytes, namesBytes, typesBytes, infosBytes, classBytes, numbersBytes, enc, encs}
+use Rattle.format.specs.Contents.{Prefixed, bytesIn, itemsBytes, Detail, primitive, text, object, system, class, objects, texts, primitives, Member, Rec, header, classById, systemClass, libraryClass, string, array, typedPrimitive, reference, null, nulls, manyNulls, end, library, primitiveArray, objectArray, stringArray, value, typeByte, infoBytes, namesBytes, typesBytes, infosBytes, classBytes, numbersBytes, enc, encs, Class}
 use Rattle.format.specs.Grammar.{Positive, Name, Value, Values, product, Shape, Ranked, single, jagged, rectangular, Entry, Cur, cur, size, rowOf, Object, system-class, library-class, class-by-id, Body, hollow, filled, Slots, full, member-value, an-object, a-string, a-typed-primitive, a-reference, a-null, a-run, a-long-run, a-library, Array, of-objects, of-strings, of-primitives, of-any, of-values, Objects, the-end, one-object, one-string, one-array, one-library, Reading}
-use Rattle.format.specs.Says.{Class, aNull, aValue, Node, node, Model, textFrom, afterTexts, numberFrom, codeFrom, contentFrom, numbersFrom, valueCode, orderOf, whatFrom, spread, isNulls, isSilent, nodesOf, nodesFrom, says}
+use Rattle.format.specs.Says.{aNull, aValue, Node, node, Model, textFrom, afterTexts, numberFrom, codeFrom, contentFrom, numbersFrom, valueCode, orderOf, whatFrom, spread, isNulls, isSilent, nodesOf, nodesFrom, says}
 use Rattle.format.specs.Meant.{nameBy, classBy, orderBy, senseOf, Open, ownerIn, slotIn, nodesBy, countBy, openBy, walk, meant}
 use Rattle.num.specs.Le.{length-leBytes}
 use Rattle.laws.specs.Fields.{positive-bits, length-numbers-bytes}
@@ -55,8 +55,8 @@ arrayHere s r =
     (pick (eqb (getD s types 0) 0) (itemsIn s (codeFrom s (types + 1)) (r .count) items) [])
 
 -- a member value by the code of its owner's class for its slot, any other record by its bytes and its row
-unfoldable pub recFrom : List ℕ → List Row → Row → Rec
-recFrom s rows r =
+unfoldable pub recFrom : (β s : List ℕ) → List Row → Row → Rec
+recFrom β s rows r =
     pick (eqb (r .kind) 0) (header (r .id) (numberFrom s (r .offset + 5)))
     (pick (eqb (r .kind) 1) (classById (r .id) (numberFrom s (r .offset + 5)))
     (pick (eqb (r .kind) 4) (systemClass (r .id) (prefixedAt s (r .offset + 5)) (membersHere s r))
@@ -73,7 +73,7 @@ recFrom s rows r =
     (pick (eqb (r .kind) 15) (primitiveArray (r .id) (r .count) (codeFrom s (r .offset + 9)) (itemsIn s (codeFrom s (r .offset + 9)) (r .count) (r .offset + 10)))
     (pick (eqb (r .kind) 16) (objectArray (r .id) (r .count))
     (pick (eqb (r .kind) 17) (stringArray (r .id) (r .count))
-    (value (valueCode s rows r) (valueIn s (valueCode s rows r) (r .offset))))))))))))))))))
+    (value (valueCode β s rows r) (valueIn s (valueCode β s rows r) (r .offset))))))))))))))))))
 
 -- ---- records along rows
 
@@ -296,42 +296,42 @@ module _ (τ : Terms) (s q : List ℕ) (p n : ℕ) (vs : List Prefixed) where
   array-items (primitives c) g d = sym g
 
 -- a member value says what its bytes say by the code of its owner's class for its slot
-value-row : (s : List ℕ) (rows : List Row) (w : Row) → w .kind ≡ 32 → recFrom s rows w ≡ value (valueCode s rows w) (valueIn s (valueCode s rows w) (w .offset))
+value-row : (β s : List ℕ) (rows : List Row) (w : Row) → w .kind ≡ 32 → recFrom β s rows w ≡ value (valueCode β s rows w) (valueIn s (valueCode β s rows w) (w .offset))
 unfolding recFrom valueCode
-value-row s rows w k = ap (recFrom s rows) (row-like w k refl refl refl refl)
+value-row β s rows w k = ap (recFrom β s rows) (row-like w k refl refl refl refl)
 
-value-node : (s : List ℕ) (rows : List Row) (w : Row) → w .kind ≡ 32
-    → nodesOf s rows w ≡ node (aValue (valueCode s rows w) (contentFrom s (valueCode s rows w) (w .offset))) (orderOf rows (w .owner)) (w .slot) ∷ []
+value-node : (β s : List ℕ) (rows : List Row) (w : Row) → w .kind ≡ 32
+    → nodesOf β s rows w ≡ node (aValue (valueCode β s rows w) (contentFrom s (valueCode β s rows w) (w .offset))) (orderOf rows (w .owner)) (w .slot) ∷ []
 unfolding nodesOf whatFrom valueCode
-value-node s rows w k = ap (nodesOf s rows) (row-like w k refl refl refl refl)
+value-node β s rows w k = ap (nodesOf β s rows) (row-like w k refl refl refl refl)
 
 -- a row that shows a member value leads to its code
-abbrev CodeIs : List ℕ → List Row → Rec → Row → Type 0
-CodeIs s rows r w = (c : PrimitiveCode) (v : Prefixed) → r ≡ value c v → valueCode s rows w ≡ c
+abbrev CodeIs : (β s : List ℕ) → List Row → Rec → Row → Type 0
+CodeIs β s rows r w = (c : PrimitiveCode) (v : Prefixed) → r ≡ value c v → valueCode β s rows w ≡ c
 
 module _ (τ : Terms) (s : List ℕ) (rows : List Row) (w : Row) (at : ℕ) (q : List ℕ) where
-  header-here : (root h : ℕ) → h < 4294967296 → w .id ≡ root → drop at s ≡ enc (header root h) ++ q → RowOf (header root h) at w → recFrom s rows w ≡ header root h
+  header-here : (root h : ℕ) → h < 4294967296 → w .id ≡ root → drop at s ≡ enc (header root h) ++ q → RowOf (header root h) at w → recFrom (τ .book) s rows w ≡ header root h
   unfolding enc recFrom
   header-here root h b i d r =
       let x = after-id τ s q at 0 root (leBytes 4 h ++ (leBytes 4 1 ++ leBytes 4 0)) d in
       let y = number-there s ((leBytes 4 1 ++ leBytes 4 0) ++ q) h (at + 5) (x ∙ append-assoc (leBytes 4 h) (leBytes 4 1 ++ leBytes 4 0) q) b in
-      ap (recFrom s rows) (row-like w (r .kind-is) (r .offset-is) refl i refl) ∙ ap (header root) y
+      ap (recFrom (τ .book) s rows) (row-like w (r .kind-is) (r .offset-is) refl i refl) ∙ ap (header root) y
 
-  class-by-id-here : (i k : ℕ) → k < 4294967296 → w .id ≡ i → drop at s ≡ enc (classById i k) ++ q → RowOf (classById i k) at w → recFrom s rows w ≡ classById i k
+  class-by-id-here : (i k : ℕ) → k < 4294967296 → w .id ≡ i → drop at s ≡ enc (classById i k) ++ q → RowOf (classById i k) at w → recFrom (τ .book) s rows w ≡ classById i k
   unfolding enc recFrom
   class-by-id-here i k b z d r =
       let y = number-there s q k (at + 5) (after-id τ s q at 1 i (leBytes 4 k) d) b in
-      ap (recFrom s rows) (row-like w (r .kind-is) (r .offset-is) refl z refl) ∙ ap (classById i) y
+      ap (recFrom (τ .book) s rows) (row-like w (r .kind-is) (r .offset-is) refl z refl) ∙ ap (classById i) y
 
   system-class-here : (i : ℕ) (n : Prefixed) (ms : List (Member Prefixed ℕ)) → Name τ n → OwnMembers τ ms → w .id ≡ i → drop at s ≡ enc (systemClass i n ms) ++ q
-      → RowOf (systemClass i n ms) at w → recFrom s rows w ≡ systemClass i n ms
+      → RowOf (systemClass i n ms) at w → recFrom (τ .book) s rows w ≡ systemClass i n ms
   unfolding enc recFrom
   system-class-here i n ms g gs z d r =
       let c = class-here τ s 4 at (w .end) i w n ms q g gs (after-id τ s q at 4 i (classBytes n ms) d) in
-      ap (recFrom s rows) (row-like w (r .kind-is) (r .offset-is) refl z (r .count-is)) ∙ rw (c .0, c .1)
+      ap (recFrom (τ .book) s rows) (row-like w (r .kind-is) (r .offset-is) refl z (r .count-is)) ∙ rw (c .0, c .1)
 
   library-class-here : (i : ℕ) (n : Prefixed) (ms : List (Member Prefixed ℕ)) (l : ℕ) → Name τ n → OwnMembers τ ms → l < 4294967296 → w .id ≡ i
-      → drop at s ≡ enc (libraryClass i n ms l) ++ q → RowOf (libraryClass i n ms l) at w → recFrom s rows w ≡ libraryClass i n ms l
+      → drop at s ≡ enc (libraryClass i n ms l) ++ q → RowOf (libraryClass i n ms l) at w → recFrom (τ .book) s rows w ≡ libraryClass i n ms l
   unfolding enc recFrom
   library-class-here i n ms l g gs h z d r =
       let b = classBytes n ms in
@@ -341,31 +341,31 @@ module _ (τ : Terms) (s : List ℕ) (rows : List Row) (w : Row) (at : ℕ) (q :
       let f : e - 4 ≡ at + 5 + length b = omega arith in
       let m = number-there s q l (e - 4) (rest-there s b (leBytes 4 l ++ q) (at + 5) (e - 4) f d1) h in
       let c = class-here τ s 5 at e i w n ms (leBytes 4 l ++ q) g gs d1 in
-      ap (recFrom s rows) (row-like w (r .kind-is) (r .offset-is) (r .end-is) z (r .count-is)) ∙ rw (c .0, c .1, m)
+      ap (recFrom (τ .book) s rows) (row-like w (r .kind-is) (r .offset-is) (r .end-is) z (r .count-is)) ∙ rw (c .0, c .1, m)
 
-  string-here : (i : ℕ) (x : Prefixed) → Name τ x → w .id ≡ i → drop at s ≡ enc (string i x) ++ q → RowOf (string i x) at w → recFrom s rows w ≡ string i x
+  string-here : (i : ℕ) (x : Prefixed) → Name τ x → w .id ≡ i → drop at s ≡ enc (string i x) ++ q → RowOf (string i x) at w → recFrom (τ .book) s rows w ≡ string i x
   unfolding enc recFrom
   string-here i x g z d r =
-      ap (recFrom s rows) (row-like w (r .kind-is) (r .offset-is) refl z refl) ∙ ap (string i) (name-here τ s x q (at + 5) g (after-id τ s q at 6 i (bytesIn x) d))
+      ap (recFrom (τ .book) s rows) (row-like w (r .kind-is) (r .offset-is) refl z refl) ∙ ap (string i) (name-here τ s x q (at + 5) g (after-id τ s q at 6 i (bytesIn x) d))
 
-  library-here : (i : ℕ) (x : Prefixed) → Name τ x → w .id ≡ i → drop at s ≡ enc (library i x) ++ q → RowOf (library i x) at w → recFrom s rows w ≡ library i x
+  library-here : (i : ℕ) (x : Prefixed) → Name τ x → w .id ≡ i → drop at s ≡ enc (library i x) ++ q → RowOf (library i x) at w → recFrom (τ .book) s rows w ≡ library i x
   unfolding enc recFrom
   library-here i x g z d r =
-      ap (recFrom s rows) (row-like w (r .kind-is) (r .offset-is) refl z refl) ∙ ap (library i) (name-here τ s x q (at + 5) g (after-id τ s q at 12 i (bytesIn x) d))
+      ap (recFrom (τ .book) s rows) (row-like w (r .kind-is) (r .offset-is) refl z refl) ∙ ap (library i) (name-here τ s x q (at + 5) g (after-id τ s q at 12 i (bytesIn x) d))
 
   typed-primitive-here : (c : PrimitiveCode) (v : Prefixed) → Value τ c v → drop at s ≡ enc (typedPrimitive c v) ++ q → RowOf (typedPrimitive c v) at w
-      → recFrom s rows w ≡ typedPrimitive c v
+      → recFrom (τ .book) s rows w ≡ typedPrimitive c v
   unfolding enc recFrom
   typed-primitive-here c v g d r =
       let x = bytesIn v in
       let a : drop (at + 1) s ≡ codeNumber c ∷ (x ++ q) = byte-rest s (codeNumber c ∷ (x ++ q)) 8 at d in
       let b : drop (at + 2) s ≡ x ++ q = rest-there s (8 ∷ codeNumber c ∷ []) (x ++ q) at (at + 2) (omega arith) d in
       let l = place-inside s (x ++ q) (codeNumber c) (at + 1) a in
-      ap (recFrom s rows) (row-like w (r .kind-is) (r .offset-is) refl refl refl)
+      ap (recFrom (τ .book) s rows) (row-like w (r .kind-is) (r .offset-is) refl refl refl)
       ∙ rw (code-there s (x ++ q) c (at + 1) a) (ap (typedPrimitive c) (value-from τ s q c (at + 2) (omega arith) v g b))
 
   primitive-array-here : (i n : ℕ) (c : PrimitiveCode) (vs : List Prefixed) → Values τ c n vs → w .id ≡ i → drop at s ≡ enc (primitiveArray i n c vs) ++ q
-      → RowOf (primitiveArray i n c vs) at w → recFrom s rows w ≡ primitiveArray i n c vs
+      → RowOf (primitiveArray i n c vs) at w → recFrom (τ .book) s rows w ≡ primitiveArray i n c vs
   unfolding enc recFrom
   primitive-array-here i n c vs g z d r =
       let x = itemsBytes vs in
@@ -375,20 +375,20 @@ module _ (τ : Terms) (s : List ℕ) (rows : List Row) (w : Row) (at : ℕ) (q :
       let b : drop (at + 9) s ≡ codeNumber c ∷ (x ++ q) = rest-there s (leBytes 4 n) (codeNumber c ∷ (x ++ q)) (at + 5) (at + 9) (omega arith) a in
       let e : drop (at + 10) s ≡ x ++ q = rest-there s (codeNumber c ∷ []) (x ++ q) (at + 9) (at + 10) (omega arith) b in
       let h = place-inside s (x ++ q) (codeNumber c) (at + 9) b in
-      ap (recFrom s rows) (row-like w (r .kind-is) (r .offset-is) refl z (r .count-is))
+      ap (recFrom (τ .book) s rows) (row-like w (r .kind-is) (r .offset-is) refl z (r .count-is))
       ∙ rw (code-there s (x ++ q) c (at + 9) b) (ap (primitiveArray i n c) (items-from τ s q c (at + 10) (omega arith) n vs g e))
 
   -- of the code that its owner and slot lead to
-  value-here : (c : PrimitiveCode) (v : Prefixed) → Value τ c v → at ≤ length s → valueCode s rows w ≡ c → drop at s ≡ enc (value c v) ++ q → RowOf (value c v) at w
-      → recFrom s rows w ≡ value c v
+  value-here : (c : PrimitiveCode) (v : Prefixed) → Value τ c v → at ≤ length s → valueCode (τ .book) s rows w ≡ c → drop at s ≡ enc (value c v) ++ q → RowOf (value c v) at w
+      → recFrom (τ .book) s rows w ≡ value c v
   unfolding enc
   value-here c v g h e d r =
-      value-row s rows w (r .kind-is)
+      value-row (τ .book) s rows w (r .kind-is)
       ∙ (ap (λ (x : PrimitiveCode). value x (valueIn s x (w .offset))) e
       ∙ (ap (λ (x : ℕ). value c (valueIn s c x)) (r .offset-is) ∙ ap (value c) (value-from τ s q c at h v g d)))
 
   array-here : (i t : ℕ) (ns : List ℕ) (x : Detail Prefixed ℕ) (vs : List Prefixed) → Shape t ns → OwnDetail τ x → ItemsOf τ x (product ns) vs → w .id ≡ i
-      → drop at s ≡ enc (array i t ns x vs) ++ q → RowOf (array i t ns x vs) at w → recFrom s rows w ≡ array i t ns x vs
+      → drop at s ≡ enc (array i t ns x vs) ++ q → RowOf (array i t ns x vs) at w → recFrom (τ .book) s rows w ≡ array i t ns x vs
   unfolding enc recFrom
   array-here i t ns x vs g h y z d r =
       let items = infoBytes x ++ itemsBytes vs in
@@ -405,7 +405,7 @@ module _ (τ : Terms) (s : List ℕ) (rows : List Row) (w : Row) (at : ℕ) (q :
       let f = rest-there s (numbersBytes ns) (item ++ q) (at + 10) p (omega arith) c in
       let u : drop (p + 1) s ≡ infoBytes x ++ (itemsBytes vs ++ q) = byte-rest s (items ++ q) (typeByte x) p f ∙ append-assoc (infoBytes x) (itemsBytes vs) q in
       let m = detail-there τ s (itemsBytes vs ++ q) (p + 1) [] x h u in
-      ap (recFrom s rows) (row-like w (r .kind-is) (r .offset-is) refl z (r .count-is))
+      ap (recFrom (τ .book) s rows) (row-like w (r .kind-is) (r .offset-is) refl z (r .count-is))
       ∙ rw (
         byte-there s ((rank ++ (numbersBytes ns ++ item)) ++ q) t (at + 5) a,
         number-there s ((numbersBytes ns ++ item) ++ q) (length ns) (at + 6) b (rank-bits (g .ranked)),
@@ -417,11 +417,11 @@ module _ (τ : Terms) (s : List ℕ) (rows : List Row) (w : Row) (at : ℕ) (q :
       (ap (array i t ns x) (array-items τ s q (p + 1) (product ns) vs x y u))
 
   -- by the row alone
-  row-here : (k i n : ℕ) → w .kind ≡ k → w .id ≡ i → w .count ≡ n → recFrom s rows w ≡ recFrom s rows (like k (w .offset) (w .end) i n w)
-  row-here k i n a b c = ap (recFrom s rows) (row-like w a refl refl b c)
+  row-here : (k i n : ℕ) → w .kind ≡ k → w .id ≡ i → w .count ≡ n → recFrom (τ .book) s rows w ≡ recFrom (τ .book) s rows (like k (w .offset) (w .end) i n w)
+  row-here k i n a b c = ap (recFrom (τ .book) s rows) (row-like w a refl refl b c)
 
-  pub rec-here : (r : Rec) → drop at s ≡ enc r ++ q → RowOf r at w → GoodRec τ r → OwnIs r (w .id) → at ≤ length s → CodeIs s rows r w
-      → recFrom s rows w ≡ r
+  pub rec-here : (r : Rec) → drop at s ≡ enc r ++ q → RowOf r at w → GoodRec τ r → OwnIs r (w .id) → at ≤ length s → CodeIs (τ .book) s rows r w
+      → recFrom (τ .book) s rows w ≡ r
   unfolding recFrom
   rec-here (header root h) d r g o l e = header-here root h (o .1) (o .0) d r
   rec-here (classById i k) d r g o l e = class-by-id-here i k (o .1) (o .0) d r
@@ -452,12 +452,12 @@ length-spread (suc n) owner slot = ap suc (length-spread n owner (slot + 1))
 abbrev nodesIn : ℕ → ℕ → ℕ
 nodesIn kind count = pick (isSilent kind) 0 (pick (isNulls kind) count 1)
 
-nodes-shown : (s : List ℕ) (rows : List Row) (w : Row) → length (nodesOf s rows w) ≡ nodesIn (w .kind) (w .count)
+nodes-shown : (β s : List ℕ) (rows : List Row) (w : Row) → length (nodesOf β s rows w) ≡ nodesIn (w .kind) (w .count)
 unfolding nodesOf
-nodes-shown s rows w = go (isSilent (w .kind)) (isNulls (w .kind)) (spread (w .count) (orderOf rows (w .owner)) (w .slot)) (length-spread _ _ _)
+nodes-shown β s rows w = go (isSilent (w .kind)) (isNulls (w .kind)) (spread (w .count) (orderOf rows (w .owner)) (w .slot)) (length-spread _ _ _)
   where
     go : (a b : Bool) (l : List Node) → length l ≡ w .count
-        → length (pick a [] (pick b l (node (whatFrom s rows w) (orderOf rows (w .owner)) (w .slot) ∷ []))) ≡ pick a 0 (pick b (w .count) 1)
+        → length (pick a [] (pick b l (node (whatFrom β s rows w) (orderOf rows (w .owner)) (w .slot) ∷ []))) ≡ pick a 0 (pick b (w .count) 1)
     go true b l e = refl
     go false true l e = e
     go false false l e = refl
@@ -490,15 +490,15 @@ module _ (name : ℕ → List ℕ) (of : ℕ → Class) (order : ℕ → ℕ) (o
   nodes-meant (stringArray i m) n e = refl
   nodes-meant (value c v) n e = refl
 
-  module _ (s : List ℕ) (rows : List Row) (at : ℕ) (w : Row) where
-    as-many : (r : Rec) → RowOf r at w → length (nodesOf s rows w) ≡ length (nodesBy (senseOf name of order r) o k)
-    as-many r x = nodes-shown s rows w ∙ (ap (λ (m : ℕ). nodesIn m (w .count)) (x .kind-is) ∙ nodes-meant r (w .count) (x .count-is))
+  module _ (β s : List ℕ) (rows : List Row) (at : ℕ) (w : Row) where
+    as-many : (r : Rec) → RowOf r at w → length (nodesOf β s rows w) ≡ length (nodesBy (senseOf name of order r) o k)
+    as-many r x = nodes-shown β s rows w ∙ (ap (λ (m : ℕ). nodesIn m (w .count)) (x .kind-is) ∙ nodes-meant r (w .count) (x .count-is))
 
-    code-meant : (r : Rec) → RowOf r at w → nodesOf s rows w ≡ nodesBy (senseOf name of order r) o k → CodeIs s rows r w
+    code-meant : (r : Rec) → RowOf r at w → nodesOf β s rows w ≡ nodesBy (senseOf name of order r) o k → CodeIs β s rows r w
     code-meant r x e c v z =
-        let f = value-node s rows w (x .kind-is ∙ ap kindOf z) in
-        let g : nodesOf s rows w ≡ node (aValue c (v .text)) o k ∷ [] = e ∙ ap (λ (r : Rec). nodesBy (senseOf name of order r) o k) z in
-        let y = valueCode s rows w in
+        let f = value-node β s rows w (x .kind-is ∙ ap kindOf z) in
+        let g : nodesOf β s rows w ≡ node (aValue c (v .text)) o k ∷ [] = e ∙ ap (λ (r : Rec). nodesBy (senseOf name of order r) o k) z in
+        let y = valueCode β s rows w in
         let h : aValue y (contentFrom s y (w .offset)) ≡ aValue c (v .text) = ap (λ (l : List Node). getD l 0 (node aNull 0 0) .what) (sym f ∙ g) in
         cc
 
@@ -506,21 +506,21 @@ module _ (name : ℕ → List ℕ) (of : ℕ → Class) (order : ℕ → ℕ) (o
 
 module _ (τ : Terms) (s : List ℕ) (rows : List Row) (name : ℕ → List ℕ) (of : ℕ → Class) (order : ℕ → ℕ) where
   along-records : {at : ℕ} {rs : List Rec} {is : List Row} → Along τ at rs is → at ≤ length s → drop at s ≡ encs rs → (c : ℕ) (os : List Open)
-      → nodesFrom s rows is ≡ walk name of order c os rs → rs ≡ map (recFrom s rows) is
+      → nodesFrom (τ .book) s rows is ≡ walk name of order c os rs → rs ≡ map (recFrom (τ .book) s rows) is
   unfolding encs nodesFrom walk
   along-records no-record h d c os n = refl
   along-records (one-record {at = at} {next = next} {r = r} {rs = rs} {it = it} {is = is} w g o e k) h d c os n =
       let m = senseOf name of order r in
       let u = nodesBy m (ownerIn os) (slotIn os) in
-      let a = as-many name of order (ownerIn os) (slotIn os) s rows at it r w in
-      let p = same-pieces (nodesOf s rows it) (nodesFrom s rows is) u (walk name of order (countBy m c) (openBy m c os) rs) (sym a) n in
-      let x = rec-here τ s rows it at (encs rs) r d w g o h (code-meant name of order (ownerIn os) (slotIn os) s rows at it r w (p .0)) in
+      let a = as-many name of order (ownerIn os) (slotIn os) (τ .book) s rows at it r w in
+      let p = same-pieces (nodesOf (τ .book) s rows it) (nodesFrom (τ .book) s rows is) u (walk name of order (countBy m c) (openBy m c os) rs) (sym a) n in
+      let x = rec-here τ s rows it at (encs rs) r d w g o h (code-meant name of order (ownerIn os) (slotIn os) (τ .book) s rows at it r w (p .0)) in
       let t = stand-of s (enc r) (encs rs) at h d in
       let y = along-records k (omega (arith, t .room)) (rest-there s (enc r) (encs rs) at next e d) (countBy m c) (openBy m c os) (p .1) in
-      ap (λ (z : Rec). z ∷ rs) (sym x) ∙ ap (λ (l : List Rec). recFrom s rows it ∷ l) y
+      ap (λ (z : Rec). z ∷ rs) (sym x) ∙ ap (λ (l : List Rec). recFrom (τ .book) s rows it ∷ l) y
 
 -- the records of a reading are those that its rows show
-pub records-are : (τ : Terms) {s : List ℕ} {rows : List Row} (w : Reading τ s rows) → recordsIn τ w ≡ map (recFrom s rows) rows
+pub records-are : (τ : Terms) {s : List ℕ} {rows : List Row} (w : Reading τ s rows) → recordsIn τ w ≡ map (recFrom (τ .book) s rows) rows
 unfolding says meant walk
 records-are τ {s} {rows} w =
     along-records τ s rows (nameBy (w .rs)) (classBy (w .rs)) (orderBy (w .rs)) (reading-along τ w) (omega arith) (reading-bytes τ w) 0 []
@@ -532,7 +532,7 @@ heads e = (cc, (cc, cc))
 -- two readings of one stream have equal roots, HeaderIds and records
 records-unique : (τ : Terms) (s : List ℕ) (rows others : List Row) (a : Reading τ s rows) (b : Reading τ s others)
     → (a .root ≡ b .root) × ((a .header-id ≡ b .header-id) × (a .rs ≡ b .rs))
-records-unique τ s rows others a b = heads (records-are τ a ∙ (ap (λ (l : List Row). map (recFrom s l) l) (reading-unique τ s rows others a b) ∙ sym (records-are τ b)))
+records-unique τ s rows others a b = heads (records-are τ a ∙ (ap (λ (l : List Row). map (recFrom (τ .book) s l) l) (reading-unique τ s rows others a b) ∙ sym (records-are τ b)))
 
 -- ---- the rows before linking
 

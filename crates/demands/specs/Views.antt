@@ -20,7 +20,7 @@ use Rattle.format.specs.declared.RowAnswer.the-variants as Q
 use Rattle.format.specs.declared.Text.{Text}
 use Rattle.format.specs.declared.Text.the-variants as T
 use Rattle.format.specs.declared.Row.{Row}
-use Rattle.format.specs.Terms.{Terms, terms, strict}
+use Rattle.format.specs.Terms.{Terms, terms}
 use Rattle.format.specs.Prefix.{prefixAt, prefixBytes, prefixOf}
 use Rattle.format.specs.Rows.{blank, roomOf}
 use Rattle.format.specs.Contents.{Prefixed, Rec, string, end}
@@ -97,8 +97,8 @@ read-width S.Lenient s p w n q a = a
 abbrev pub Taken : Setting → Prefixed → Type 0
 Taken σ x = Width σ (x .width) (length (x .text))
 
--- what is good under some terms is so under a setting that takes its prefix
-stood-under : (τ : Terms) (σ : Setting) (s : List ℕ) (id : ℕ) (x : Prefixed) (it : Row) → Stood τ s (string id x) it → Taken σ x → Stood (terms σ) s (string id x) it
+-- what is good under some terms is so under a setting that takes its prefix, with the same book
+stood-under : (τ : Terms) (σ : Setting) (s : List ℕ) (id : ℕ) (x : Prefixed) (it : Row) → Stood τ s (string id x) it → Taken σ x → Stood (terms σ (τ .book)) s (string id x) it
 stood-under τ σ s id x it y a =
     record {
       place = y .place;
@@ -151,7 +151,7 @@ module _ (τ : Terms) (σ : Setting) {s : List ℕ} {rows : List Row} (w : Readi
         (sym (question-fault σ s lent i noText z _ refl), sym (view-fault σ s lent i noText z _ refl))
 
     taken-shown : Taken σ x → (rowQuestion σ s lent i ≡ Q.HasText) × (textView σ s lent i ≡ x .text)
-    taken-shown a = shown-there τ w t fit i (terms σ) id x (stood-under τ σ s id x its y a)
+    taken-shown a = shown-there τ w t fit i (terms σ (τ .book)) id x (stood-under τ σ s id x its y a)
 
     judged : (r : Text) → recordText σ s (its .offset) ≡ r → Own σ x (rowQuestion σ s lent i) (textView σ s lent i)
     judged (T.Part from to) q =
@@ -192,11 +192,11 @@ module _ (τ : Terms) (σ : Setting) {s : List ℕ} {rows : List Row} (w : Readi
           let b = none-there τ w t fit i (τ .setting) k in
           (a .0 ∙ sym (b .0), a .1 ∙ sym (b .1))
 
--- what is read in strict is answered and shown alike under either setting
-pub own-more : (σ : Setting) {s : List ℕ} {rows : List Row} → Reading strict s rows → (t : List ℕ) → length rows ≤ roomOf t → (i : ℕ)
+-- what is read in strict, with any book, is answered and shown alike under either setting
+pub own-more : (β : List ℕ) (σ : Setting) {s : List ℕ} {rows : List Row} → Reading (terms S.Strict β) s rows → (t : List ℕ) → length rows ≤ roomOf t → (i : ℕ)
     → (rowQuestion σ s (tabled (length t) rows) i ≡ rowQuestion S.Strict s (tabled (length t) rows) i)
     × (textView σ s (tabled (length t) rows) i ≡ textView S.Strict s (tabled (length t) rows) i)
-own-more σ w t fit i = own-wider strict σ w t fit i (lenient-width σ)
+own-more β σ w t fit i = own-wider (terms S.Strict β) σ w t fit i (lenient-width σ)
 
 -- ---- the two settings
 
@@ -249,15 +249,15 @@ own-string τ σ {rows = rows} w t fit i h = either (eqb (getD rows i blank .kin
     (z .id, z .text, z .record-is, view-own τ σ w t fit i (z .id) (z .text) (z .record-is) .exactly .0 h))
     (λ k. absurd (apart (sym (none-there τ w t fit i σ (eqb-false (getD rows i blank .kind) 6 k) .0) ∙ h)))
 
-module _ (τ : Terms) (s t : List ℕ) (byte : Bytes s) (n : ℕ) (u : List ℕ) (p : ReadPromise τ s t (A.Accepted n) u) (rows : List Row) (w : Reading τ s rows) where
+module _ (τ : Terms) (s t : List ℕ) (booked : Bytes (τ .book)) (byte : Bytes s) (n : ℕ) (u : List ℕ) (p : ReadPromise τ s t (A.Accepted n) u) (rows : List Row) (w : Reading τ s rows) where
   abbrev fits : length rows ≤ roomOf t
-  fits = table-promised τ s t byte n u p rows w .0
+  fits = table-promised τ s t booked byte n u p rows w .0
 
   asked : (σ : Setting) (i : ℕ) (a : RowAnswer) → QuestionPromise σ s u i a → a ≡ rowQuestion σ s (tabled (length t) rows) i
-  asked σ i a q = q .answer ∙ ap (λ (l : List ℕ). rowQuestion σ s l i) (table-promised τ s t byte n u p rows w .1)
+  asked σ i a q = q .answer ∙ ap (λ (l : List ℕ). rowQuestion σ s l i) (table-promised τ s t booked byte n u p rows w .1)
 
   viewed : (σ : Setting) (i : ℕ) (v : List ℕ) → ViewPromise σ s u i v → v ≡ textView σ s (tabled (length t) rows) i
-  viewed σ i v z = z ∙ ap (λ (l : List ℕ). textView σ s l i) (table-promised τ s t byte n u p rows w .1)
+  viewed σ i v z = z ∙ ap (λ (l : List ℕ). textView σ s l i) (table-promised τ s t booked byte n u p rows w .1)
 
   pub view-of-row : (σ : Setting) (i : ℕ) (a : RowAnswer) (v : List ℕ) → QuestionPromise σ s u i a → ViewPromise σ s u i v → OwnTold τ σ w i a v
   view-of-row σ i a v q z =
@@ -283,13 +283,14 @@ module _ (τ : Terms) (s t : List ℕ) (byte : Bytes s) (n : ℕ) (u : List ℕ)
       let r = lenient-shown τ w t fits i id x e in
       (asked S.Lenient i a q ∙ r .0, viewed S.Lenient i v z ∙ r .1)
 
--- of a list that was accepted in strict, a question and a view under either setting give what strict ones give
-pub alike-of-row : (s t : List ℕ) → Bytes s → (n : ℕ) (u : List ℕ) → ReadPromise strict s t (A.Accepted n) u → (σ : Setting) (i : ℕ) (a b : RowAnswer) (v z : List ℕ)
+-- of a list that was accepted in strict, with any book, a question and a view under either setting give what strict ones give
+pub alike-of-row : (β s t : List ℕ) → Bytes β → Bytes s → (n : ℕ) (u : List ℕ) → ReadPromise (terms S.Strict β) s t (A.Accepted n) u → (σ : Setting) (i : ℕ) (a b : RowAnswer) (v z : List ℕ)
     → QuestionPromise S.Strict s u i a → ViewPromise S.Strict s u i v → QuestionPromise σ s u i b → ViewPromise σ s u i z → (b ≡ a) × (z ≡ v)
-alike-of-row s t byte n u p σ i a b v z q x r y =
-    let h = read-accepts strict s t byte n u p in
+alike-of-row β s t booked byte n u p σ i a b v z q x r y =
+    let τ : Terms = terms S.Strict β in
+    let h = read-accepts τ s t booked byte n u p in
     let w = h .reads in
-    let m = own-more σ w t (fits strict s t byte n u p (h .rows) w) i in
-    let f = asked strict s t byte n u p (h .rows) w in
-    let g = viewed strict s t byte n u p (h .rows) w in
+    let m = own-more β σ w t (fits τ s t booked byte n u p (h .rows) w) i in
+    let f = asked τ s t booked byte n u p (h .rows) w in
+    let g = viewed τ s t booked byte n u p (h .rows) w in
     (f σ i b r ∙ (m .0 ∙ sym (f S.Strict i a q)), g σ i z y ∙ (m .1 ∙ sym (g S.Strict i v x)))

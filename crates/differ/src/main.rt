@@ -1,16 +1,19 @@
 // Whether two lists say the same: the two files that the arguments name, of at most 65,535 bytes each. The first word that it writes is `same`, `different`,
-// `refused` or `unusable`. Where the lists differ it names the row of the tidy copies in which they first do, and what that row says in each. An option
-// after the files lets length prefixes be padded: `--lenient` in both lists, `--lenient-first` and `--lenient-second` in one of them.
+// `refused` or `unusable`. Where the lists differ it names the row of the tidy copies in which they first do, and what that row says in each. Options
+// stand after the files. `--lenient` lets length prefixes be padded in both lists, `--lenient-first` and `--lenient-second` in one of them; so `--book`,
+// `--book-first` and `--book-second` go before the file of a class book, of at most 1,048,575 bytes.
+use files::Loaded;
 use format::ReadAnswer;
 use format::Refusal;
 use format::Sameness;
 use format::Setting;
-use options::ForTwo;
+use libc::STDOUT_FILENO;
+use options::Choice;
+use options::Chosen;
 use spelling::number;
 use spelling::say;
 ghost use mathlib.Core.Path.{_≡_};
 ghost use mathlib.Core.Bool.{not, _||_};
-ghost use Prim.Native.Nat.{_≤_};
 ghost use lib.ListN.{length};
 ghost use lib.Dec.{eqb};
 
@@ -19,33 +22,6 @@ fn file_name(i: usize) {
     let mut path = io::buffer();
     let n = os::arg(i, &mut path);
     spelling::text(&path[..n]);
-}
-
-// Whether a file could be opened, and how many bytes were read from it.
-pub struct Loaded {
-    pub opened: bool,
-    pub size: usize,
-}
-
-// Puts the bytes of the file that argument i names into `space`, as many as it has room for.
-fn load(i: usize, space: &mut [u8]) -> Loaded
-    ensures { λ r. ⌜ r .size ≤ length (now (space .exit)) ⌝ }
-{
-    let mut path = io::buffer();
-    let n = os::arg(i, &mut path);
-    let fd = os::open_read(&path[..n]);
-    if fd < 0 {
-        return Loaded {
-            opened: false,
-            size: 0,
-        };
-    }
-    let k = io::read_full(fd, space);
-    libc::close(fd);
-    Loaded {
-        opened: true,
-        size: k,
-    }
 }
 
 // A refusal, after the file that it is about.
@@ -74,9 +50,10 @@ fn unusable(i: usize, l: Loaded) -> bool
     false
 }
 
-// The row of a copy that holds the byte at a place, by its number and its kind, and what it says. A copy is read alike under both settings.
+// The row of a copy that holds the byte at a place, by its number and its kind, and what it says. A copy is read alike under both settings and
+// with every good book.
 fn told(copy: &[u8], table: &mut [u32], place: usize) {
-    let a = reader::read(copy, table, Setting::Strict);
+    let a = reader::read(copy, b"", table, Setting::Strict);
     match a {
         ReadAnswer::Accepted(n) => {
             let i = difference::row_of(table, n, place);
@@ -106,15 +83,17 @@ fn apart(a: &[u8], b: &[u8], table: &mut [u32]) {
 // Tidies both lists again for the lengths of their copies. A copy is never longer than its output, so the tests only say so to the proof.
 fn different(
     a: &[u8],
+    a_book: &[u8],
     b: &[u8],
+    b_book: &[u8],
     table: &mut [u32],
     first: &mut [u8],
     second: &mut [u8],
     a_setting: Setting,
     b_setting: Setting,
 ) {
-    let m = difference::length_of(tidy::tidy(a, table, first, a_setting));
-    let n = difference::length_of(tidy::tidy(b, table, second, b_setting));
+    let m = difference::length_of(tidy::tidy(a, a_book, table, first, a_setting));
+    let n = difference::length_of(tidy::tidy(b, b_book, table, second, b_setting));
     if m <= first.len() {
         if n <= second.len() {
             apart(&first[..m], &second[..n], table);
@@ -122,20 +101,42 @@ fn different(
     }
 }
 
-// The answer on two lists, each under its own setting.
+// The answer on two lists, each with its own book and under its own setting.
 fn compared(
     a: &[u8],
+    a_book: &[u8],
     b: &[u8],
+    b_book: &[u8],
     table: &mut [u32],
     first: &mut [u8],
     second: &mut [u8],
     a_setting: Setting,
     b_setting: Setting,
 ) {
-    let q = sameness::say_the_same(a, b, table, first, second, a_setting, b_setting);
+    let q = sameness::say_the_same(
+        a,
+        a_book,
+        b,
+        b_book,
+        table,
+        first,
+        second,
+        a_setting,
+        b_setting,
+    );
     match q {
         Sameness::Same => say(b"same\n"),
-        Sameness::Different => different(a, b, table, first, second, a_setting, b_setting),
+        Sameness::Different => different(
+            a,
+            a_book,
+            b,
+            b_book,
+            table,
+            first,
+            second,
+            a_setting,
+            b_setting,
+        ),
         Sameness::FirstRefused(r, place) => refused(1, r, place),
         Sameness::SecondRefused(r, place) => refused(2, r, place),
         Sameness::FirstFull(_) => refused(1, Refusal::OutFull, 0),
@@ -158,13 +159,15 @@ fn table_room() -> [u32; 524288]
 }
 
 // Both lists, with room for their copies.
-fn both(a: &[u8], b: &[u8], a_setting: Setting, b_setting: Setting) {
+fn both(a: &[u8], a_book: &[u8], b: &[u8], b_book: &[u8], a_setting: Setting, b_setting: Setting) {
     let mut table = table_room();
     let mut first = copy_room();
     let mut second = copy_room();
     compared(
         a,
+        a_book,
         b,
+        b_book,
         &mut table,
         &mut first,
         &mut second,
@@ -173,15 +176,15 @@ fn both(a: &[u8], b: &[u8], a_setting: Setting, b_setting: Setting) {
     );
 }
 
-// The lists in both files, each under its own setting.
-fn files(a_setting: Setting, b_setting: Setting) {
+// The lists in both files, each with its own book and under its own setting.
+fn lists(a_book: &[u8], b_book: &[u8], a_setting: Setting, b_setting: Setting) {
     let mut a = io::large_buffer();
     let mut b = io::large_buffer();
-    let p = load(1, &mut a);
+    let p = files::load(1, &mut a);
     if unusable(1, p) {
         return;
     }
-    let q = load(2, &mut b);
+    let q = files::load(2, &mut b);
     if unusable(2, q) {
         return;
     }
@@ -189,16 +192,50 @@ fn files(a_setting: Setting, b_setting: Setting) {
     let n = q.size;
     if m <= a.len() {
         if n <= b.len() {
-            both(&a[..m], &b[..n], a_setting, b_setting);
+            both(&a[..m], a_book, &b[..n], b_book, a_setting, b_setting);
         }
     }
 }
 
+// The lists as the words of the call choose, with room for their books, which are looked for first.
+fn chosen(a: &mut [u8], b: &mut [u8], c: Choice) {
+    let first = c.first;
+    let second = c.second;
+    let p = files::load_book(c.first_book, a);
+    if files::unusable_book(STDOUT_FILENO, c.first_book, p) {
+        return;
+    }
+    let q = files::load_book(c.second_book, b);
+    if files::unusable_book(STDOUT_FILENO, c.second_book, q) {
+        return;
+    }
+    let m = p.size;
+    let n = q.size;
+    if m <= a.len() {
+        if n <= b.len() {
+            lists(&a[..m], &b[..n], first, second);
+        }
+    }
+}
+
+// The call with rooms for its books.
+fn called(c: Choice) {
+    let mut a = files::book_room();
+    let mut b = files::book_room();
+    chosen(&mut a, &mut b, c);
+}
+
+// How the program is called.
+fn usage() {
+    say(
+        b"unusable: no such option; usage: differ FILE FILE [--lenient|--lenient-first|--lenient-second] ",
+    );
+    say(b"[--book FILE|--book-first FILE|--book-second FILE]\n");
+}
+
 fn main() {
     match options::two() {
-        ForTwo::Take(first, second) => files(first, second),
-        ForTwo::Wrong => say(
-            b"unusable: no such option; usage: differ FILE FILE [--lenient|--lenient-first|--lenient-second]\n",
-        ),
+        Chosen::Take(c) => called(c),
+        Chosen::Wrong => usage(),
     }
 }

@@ -60,13 +60,13 @@ module _ (s : List ℕ) where
 module _ (τ : Terms) (s : List ℕ) where
   -- ---- items, of a record that begins at p
 
-  pub with-items-ends : (code : PrimitiveCode) (id n p at : ℕ) → p < at → at ≤ length s → EndsIn p (length s) (withItems τ s code id n at)
+  pub with-items-ends : (code : PrimitiveCode) (id n p at : ℕ) → p < at → at ≤ length s → EndsIn p (length s) (withItems (τ .setting) s code id n at)
   with-items-ends code id n p at i h =
       ends-field p (length s) _ (itemsAt (τ .setting) s code n at) (λ e q.
       let a = items-kept (τ .setting) code n .moves s at e h q in
       (omega arith, a .1))
 
-  pub items-ends : (slot : SlotType) (id n infos p at : ℕ) → p < at → at ≤ length s → EndsIn p (length s) (itemsOf τ s id n infos at slot)
+  pub items-ends : (slot : SlotType) (id n infos p at : ℕ) → p < at → at ≤ length s → EndsIn p (length s) (itemsOf (τ .setting) s id n infos at slot)
   items-ends (S.Primitive c) id n infos p at i h = with-items-ends c id n p at i h
   items-ends S.Text id n infos p at i h = (i, h)
   items-ends S.Object id n infos p at i h = (i, h)
@@ -91,7 +91,7 @@ module _ (s : List ℕ) (rows : List Row) where
       (λ t. tt))
 
 module _ (τ : Terms) (s : List ℕ) (rows : List Row) where
-  pub primitive-array-ends : (at : ℕ) → EndsIn at (length s) (primitiveArrayAt τ s rows at)
+  pub primitive-array-ends : (at : ℕ) → EndsIn at (length s) (primitiveArrayAt (τ .setting) s rows at)
   unfolding primitiveArrayAt
   primitive-array-ends at =
       ends-number at (length s) _ (u32At s (at + 1)) (λ id p q.
@@ -107,16 +107,16 @@ module _ (τ : Terms) (s : List ℕ) (rows : List Row) where
 
   -- ---- kind 7, of a record that begins at p
 
-  pub item-type-ends : (id n p at : ℕ) → p < at → at ≤ length s → EndsIn p (length s) (itemTypeAt τ s rows id n at)
+  pub item-type-ends : (id n p at : ℕ) → p < at → at ≤ length s → EndsIn p (length s) (itemTypeAt (τ .setting) s rows id n at)
   unfolding itemTypeAt
   item-type-ends id n p at i h =
       ends-field p (length s) _ (typeByteAt s at) (λ infos q.
       let a = type-moves s at infos q in
-      ends-field p (length s) _ (infoKnown τ s rows (getD s at 0) infos) (λ e r.
-      let b = info-known-moves τ s rows (getD s at 0) infos e (a .1) r in
+      ends-field p (length s) _ (infoKnown (τ .setting) s rows (getD s at 0) infos) (λ e r.
+      let b = info-known-moves (τ .setting) s rows (getD s at 0) infos e (a .1) r in
       items-ends τ s (typedAt s at infos .slot) id n infos p e (omega arith) (b .1)))
 
-  pub rank-ends : (id type p at : ℕ) → p < at → EndsIn p (length s) (rankAt τ s rows id type at)
+  pub rank-ends : (id type p at : ℕ) → p < at → EndsIn p (length s) (rankAt (τ .setting) s rows id type at)
   unfolding rankAt
   rank-ends id type p at i =
       ends-number p (length s) _ (u32At s at) (λ rank x q.
@@ -127,7 +127,7 @@ module _ (τ : Terms) (s : List ℕ) (rows : List Row) where
       item-type-ends id n p types (omega arith) (b .1)))
       (λ t. tt))
 
-  pub array-type-ends : (id p at : ℕ) → p < at → EndsIn p (length s) (arrayTypeAt τ s rows id at)
+  pub array-type-ends : (id p at : ℕ) → p < at → EndsIn p (length s) (arrayTypeAt (τ .setting) s rows id at)
   array-type-ends id p at i =
       ends-pick p (length s) (ltb at (length s)) _ _ (λ t.
       ends-pick p (length s) (leb (getD s at 0) 2) _ _
@@ -135,7 +135,7 @@ module _ (τ : Terms) (s : List ℕ) (rows : List Row) where
       (λ u. ends-pick p (length s) (leb (getD s at 0) 5) _ _ (λ v. tt) (λ v. tt)))
       (λ t. tt)
 
-  pub binary-array-ends : (at : ℕ) → EndsIn at (length s) (binaryArrayAt τ s rows at)
+  pub binary-array-ends : (at : ℕ) → EndsIn at (length s) (binaryArrayAt (τ .setting) s rows at)
   unfolding binaryArrayAt
   binary-array-ends at =
       ends-number at (length s) _ (u32At s (at + 1)) (λ id p q.

@@ -38,7 +38,7 @@ module _ (τ : Terms) (s : List ℕ) where
       let m = number-moves s (at + 1) v p q in
       ends-pick at (length s) (test v) (good v p) (H.Bad refusal) (λ t. f v p (omega arith) (m .1)) (λ t. tt))
 
-  named-ends : (at id p : ℕ) → at < p → EndsIn at (length s) (namedAt τ s id p)
+  named-ends : (at id p : ℕ) → at < p → EndsIn at (length s) (namedAt (τ .setting) s id p)
   unfolding namedAt
   named-ends at id p h =
       ends-field at (length s) (λ end. plain id end 0) (nameAt (τ .setting) s p) (λ e q.
@@ -74,7 +74,7 @@ module _ (τ : Terms) (s : List ℕ) where
         (λ t. let h = ltb-true (at + 1) (length s) t in (omega arith, omega arith))
         (λ t. tt)
 
-    pub typed-ends : EndsIn at (length s) (typedPrimitiveAt τ s at)
+    pub typed-ends : EndsIn at (length s) (typedPrimitiveAt (τ .setting) s at)
     unfolding typedPrimitiveAt
     typed-ends =
         let code = coded (primitiveOf (getD s (at + 1) 0)) in
@@ -85,11 +85,11 @@ module _ (τ : Terms) (s : List ℕ) where
         (omega arith, b .1)))
 
     module _ (rows : List Row) where
-      pub string-ends : EndsIn at (length s) (stringRecordAt τ s rows at)
-      string-ends = rw (string-parts τ s at rows) (judged-ends (goodId rows) R.BadId (namedAt τ s) at (λ v p h i. named-ends at v p h))
+      pub string-ends : EndsIn at (length s) (stringRecordAt (τ .setting) s rows at)
+      string-ends = rw (string-parts (τ .setting) s at rows) (judged-ends (goodId rows) R.BadId (namedAt (τ .setting) s) at (λ v p h i. named-ends at v p h))
 
-      pub library-ends : EndsIn at (length s) (libraryAt τ s rows at)
-      library-ends = rw (library-parts τ s at rows) (judged-ends (freeLibrary rows) R.BadId (namedAt τ s) at (λ v p h i. named-ends at v p h))
+      pub library-ends : EndsIn at (length s) (libraryAt (τ .setting) s rows at)
+      library-ends = rw (library-parts (τ .setting) s at rows) (judged-ends (freeLibrary rows) R.BadId (namedAt (τ .setting) s) at (λ v p h i. named-ends at v p h))
 
 -- ---- all kinds
 
@@ -97,9 +97,9 @@ pub heading-ends : (τ : Terms) (s : List ℕ) (rows : List Row) (k at : ℕ) �
 unfolding headingAt
 heading-ends τ s rows k at h =
     or 0 _ _ (header-ends τ s at)
-    (or 1 _ _ (class-by-id-ends s rows at)
-    (or 4 _ _ (class-ends τ s rows false at)
-    (or 5 _ _ (class-ends τ s rows true at)
+    (or 1 _ _ (class-by-id-ends (τ .book) s rows at)
+    (or 4 _ _ (class-ends (τ .setting) s rows false at)
+    (or 5 _ _ (class-ends (τ .setting) s rows true at)
     (or 6 _ _ (string-ends τ s at rows)
     (or 7 _ _ (binary-array-ends τ s rows at)
     (or 8 _ _ (typed-ends τ s at)

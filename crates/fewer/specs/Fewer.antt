@@ -12,8 +12,8 @@ use Rattle.format.specs.Terms.{Terms}
 use Rattle.format.specs.declared.Row.{Row}
 use Rattle.format.specs.Bytes.{pick, sameBytes}
 use Rattle.format.specs.Rows.{blank}
-use Rattle.format.specs.Contents.{Rec, null}
-use Rattle.format.specs.Says.{Class, What, anObject, aString, anArray, aPrimitive, aReference, aNull, aPrimitiveArray, anObjectArray, aStringArray, aValue, Node, node, spread, isNulls, isSilent, textFrom, orderOf, whatFrom, nodesOf, nodesFrom, says}
+use Rattle.format.specs.Contents.{Rec, null, Class}
+use Rattle.format.specs.Says.{What, anObject, aString, anArray, aPrimitive, aReference, aNull, aPrimitiveArray, anObjectArray, aStringArray, aValue, Node, node, spread, isNulls, isSilent, textFrom, orderOf, whatFrom, nodesOf, nodesFrom, says}
 use Rattle.format.specs.Tidy.{sameClass, numberIn, Progress, nothing, Libraries, allEntered, libraryRecords, classNeeds, detailNeeds, objectBy, afterObject, recordsOf, afterWhat, runOf}
 use Rattle.fields.specs.Judged.{picked}
 use Rattle.laws.specs.Tests.{either}
@@ -127,29 +127,29 @@ speaking [] = 0
 speaking (r ∷ rs) = speaks r + speaking rs
 
 module _ (τ : Terms) (s : List ℕ) (rows : List Row) where
-  row-most : (r : Row) (p : Progress) (y : ℕ) (ns : List Node) → Most (length (afterRow s rows p r .libraries)) y (packed (afterRow s rows p r) ns)
-      → Most (length (p .libraries)) (pick (isSilent (r .kind)) y (suc y)) (packed p (nodesOf s rows r ++ ns))
+  row-most : (r : Row) (p : Progress) (y : ℕ) (ns : List Node) → Most (length (afterRow (τ .book) s rows p r .libraries)) y (packed (afterRow (τ .book) s rows p r) ns)
+      → Most (length (p .libraries)) (pick (isSilent (r .kind)) y (suc y)) (packed p (nodesOf (τ .book) s rows r ++ ns))
   row-most r p y ns most = go (isSilent (r .kind)) (isNulls (r .kind)) refl refl
     where
-      go : (a b : Bool) → isSilent (r .kind) ≡ a → isNulls (r .kind) ≡ b → Most (length (p .libraries)) (pick a y (suc y)) (packed p (nodesOf s rows r ++ ns))
+      go : (a b : Bool) → isSilent (r .kind) ≡ a → isNulls (r .kind) ≡ b → Most (length (p .libraries)) (pick a y (suc y)) (packed p (nodesOf (τ .book) s rows r ++ ns))
       go true b e f =
-          subst (λ (m : List Node). Most (length (p .libraries)) y (packed p (m ++ ns))) (sym (nodes-silent s rows r e))
-          (subst (λ (q : Progress). Most (length (q .libraries)) y (packed q ns)) (after-silent s rows p r e) most)
+          subst (λ (m : List Node). Most (length (p .libraries)) y (packed p (m ++ ns))) (sym (nodes-silent (τ .book) s rows r e))
+          (subst (λ (q : Progress). Most (length (q .libraries)) y (packed q ns)) (after-silent (τ .book) s rows p r e) most)
       go false true e f =
-          subst (λ (m : List Node). Most (length (p .libraries)) (suc y) (packed p (m ++ ns))) (sym (nodes-nulls s rows r e f))
-          (nulls-most p (length (p .libraries)) y ns (subst (λ (q : Progress). Most (length (q .libraries)) y (packed q ns)) (after-run s rows p r e f) most)
+          subst (λ (m : List Node). Most (length (p .libraries)) (suc y) (packed p (m ++ ns))) (sym (nodes-nulls (τ .book) s rows r e f))
+          (nulls-most p (length (p .libraries)) y ns (subst (λ (q : Progress). Most (length (q .libraries)) y (packed q ns)) (after-run (τ .book) s rows p r e f) most)
           (r .count) (orderOf rows (r .owner)) (r .slot))
       go false false e f =
-          subst (λ (m : List Node). Most (length (p .libraries)) (suc y) (packed p (m ++ ns))) (sym (nodes-one s rows r e f))
-          (said-most p (whatFrom s rows r) (orderOf rows (r .owner)) (r .slot) y ns
-          (subst (λ (q : Progress). Most (length (q .libraries)) y (packed q ns)) (after-said s rows p r e f) most))
+          subst (λ (m : List Node). Most (length (p .libraries)) (suc y) (packed p (m ++ ns))) (sym (nodes-one (τ .book) s rows r e f))
+          (said-most p (whatFrom (τ .book) s rows r) (orderOf rows (r .owner)) (r .slot) y ns
+          (subst (λ (q : Progress). Most (length (q .libraries)) y (packed q ns)) (after-said (τ .book) s rows p r e f) most))
 
-  rows-most : (rs : List Row) (p : Progress) → Most (length (p .libraries)) (speaking rs + length (afterRows s rows p rs .libraries)) (packed p (nodesFrom s rows rs))
+  rows-most : (rs : List Row) (p : Progress) → Most (length (p .libraries)) (speaking rs + length (afterRows (τ .book) s rows p rs .libraries)) (packed p (nodesFrom (τ .book) s rows rs))
   unfolding speaking afterRows nodesFrom packed squeezed
   rows-most [] p w = omega arith
   rows-most (r ∷ rs) p w =
-      let y = speaking rs + length (afterRows s rows (afterRow s rows p r) rs .libraries) in
-      let a = row-most r p y (nodesFrom s rows rs) (rows-most rs (afterRow s rows p r)) w in
+      let y = speaking rs + length (afterRows (τ .book) s rows (afterRow (τ .book) s rows p r) rs .libraries) in
+      let a = row-most r p y (nodesFrom (τ .book) s rows rs) (rows-most rs (afterRow (τ .book) s rows p r)) w in
       let b = one-more (isSilent (r .kind)) y in
       omega arith
     where
@@ -205,11 +205,11 @@ module _ (τ : Terms) (s : List ℕ) (rows : List Row) where
         omega arith
 
 -- the header and the end besides
-pub fewer : (τ : Terms) (s : List ℕ) (rows : List Row) → Stands τ s rows → 2 + length (squeezed noWait (packed nothing (says s rows .nodes))) ≤ length rows
+pub fewer : (τ : Terms) (s : List ℕ) (rows : List Row) → Stands τ s rows → 2 + length (squeezed noWait (packed nothing (says (τ .book) s rows .nodes))) ≤ length rows
 unfolding says runOf
 fewer τ s rows st =
-    let ls : Libraries = afterRows s rows nothing rows .libraries in
-    let a : length (squeezed noWait (packed nothing (nodesFrom s rows rows))) + 0 ≤ 0 + (speaking rows + length ls) = rows-most τ s rows rows nothing noWait in
+    let ls : Libraries = afterRows (τ .book) s rows nothing rows .libraries in
+    let a : length (squeezed noWait (packed nothing (nodesFrom (τ .book) s rows rows))) + 0 ≤ 0 + (speaking rows + length ls) = rows-most τ s rows rows nothing noWait in
     let b : length ls ≤ rowsEntered τ s ls rows = libraries-few τ s rows st in
     let c = rows-both τ s rows ls rows (st .some) (st .first) (st .last) in
     omega arith

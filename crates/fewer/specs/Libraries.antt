@@ -131,17 +131,17 @@ module _ (τ : Terms) (s : List ℕ) where
     -- ---- the rows of an accepted stream
 
     module _ (st : Stands τ s rows) where
-      row-listed : (i : ℕ) → i < length rows → AllListed (rowNeeds s rows i (getD rows i blank))
+      row-listed : (i : ℕ) → i < length rows → AllListed (rowNeeds (τ .book) s rows i (getD rows i blank))
       unfolding itemNeeds
       row-listed i h =
-          either (isNew s rows i r)
-          (λ e. subst AllListed (sym (class-row-needs s rows i r e)) (of-class (pick-of (isClass (r .kind)) (eqb (classFirst s rows (classFrom s rows r)) (i + 1)) e .0)))
-          (λ e. subst AllListed (sym (other-row-needs s rows i r e)) (items (eqb (r .kind) 7) refl))
+          either (isNew (τ .book) s rows i r)
+          (λ e. subst AllListed (sym (class-row-needs (τ .book) s rows i r e)) (of-class (pick-of (isClass (r .kind)) (eqb (classFirst (τ .book) s rows (classFrom (τ .book) s rows r)) (i + 1)) e .0)))
+          (λ e. subst AllListed (sym (other-row-needs (τ .book) s rows i r e)) (items (eqb (r .kind) 7) refl))
         where
           r : Row
           r = getD rows i blank
 
-          of-class : isClass (getD rows i blank .kind) ≡ true → AllListed (classNeeds (classFrom s rows (getD rows i blank)))
+          of-class : isClass (getD rows i blank .kind) ≡ true → AllListed (classNeeds (classFrom (τ .book) s rows (getD rows i blank)))
           of-class k =
               let c = class-at τ s rows st i h k in
               let q : Row = withSlot (getD rows i blank) (c .types) in
@@ -155,15 +155,15 @@ module _ (τ : Terms) (s : List ℕ) where
               (fields-listed (arrayFields s (getD rows i blank)) (array-names τ s rows (getD rows i blank) a (getD rows i blank) refl))
           items false e = no-name
 
-      once-to : (i : ℕ) → i ≤ length rows → Once (progressTo s rows i .libraries)
-      once-to zero h = subst (λ (w : Progress). Once (w .libraries)) (sym (progress-none s rows)) (record { counted = tt; few = omega arith })
+      once-to : (i : ℕ) → i ≤ length rows → Once (progressTo (τ .book) s rows i .libraries)
+      once-to zero h = subst (λ (w : Progress). Once (w .libraries)) (sym (progress-none (τ .book) s rows)) (record { counted = tt; few = omega arith })
       once-to (suc i) h =
           subst Once (sym (progress-libraries τ s rows class-refl class-eq st i h))
-          (once-all (rowNeeds s rows i (getD rows i blank)) (progressTo s rows i .libraries) (row-listed i h) (once-to i (omega arith)))
+          (once-all (rowNeeds (τ .book) s rows i (getD rows i blank)) (progressTo (τ .book) s rows i .libraries) (row-listed i h) (once-to i (omega arith)))
 
       -- no more names are entered than there are library rows whose name is entered
-      pub libraries-few : length (afterRows s rows nothing rows .libraries) ≤ rowsEntered (afterRows s rows nothing rows .libraries) rows
+      pub libraries-few : length (afterRows (τ .book) s rows nothing rows .libraries) ≤ rowsEntered (afterRows (τ .book) s rows nothing rows .libraries) rows
       unfolding progressTo
       libraries-few =
-          subst (λ (rs : List Row). length (afterRows s rows nothing rs .libraries) ≤ rowsEntered (afterRows s rows nothing rs .libraries) rows)
+          subst (λ (rs : List Row). length (afterRows (τ .book) s rows nothing rs .libraries) ≤ rowsEntered (afterRows (τ .book) s rows nothing rs .libraries) rows)
           (take-all (length rows) rows (omega arith)) (once-to (length rows) (omega arith) .few)

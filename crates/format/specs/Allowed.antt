@@ -20,7 +20,8 @@ use Rattle.format.specs.Rows.{withLink, rowsOf}
 use Rattle.format.specs.Unicode.{Scalar, encode, Encodes}
 use Rattle.format.specs.Contents.{Prefixed, shortest, text, Rec, classById, nulls, manyNulls, end, library, objectArray, enc, encs}
 use Rattle.format.specs.Contents.{object as anything}
-use Rattle.format.specs.Grammar.{Positive, Name, Entry, no-more, member, Cur, cur, Object, system-class, library-class, Body, hollow, filled, Slots, full, allTake, class-by-id, an-object, a-string, a-reference, a-run, a-long-run, a-library, Array, of-objects, Objects, the-end, one-object, one-string, one-array, one-library, Link, to-root, to-object, stays, no-links, one-link, among, Reading}
+use Rattle.format.specs.Book.{bookBytes}
+use Rattle.format.specs.Grammar.{Positive, Name, no-entry, Book, Entry, no-more, member, Cur, cur, Object, system-class, library-class, Body, hollow, filled, Slots, full, allTake, class-by-id, an-object, a-string, a-reference, a-run, a-long-run, a-library, Array, of-objects, Objects, the-end, one-object, one-string, one-array, one-library, Link, to-root, to-object, stays, no-links, one-link, among, Reading}
 use Rattle.format.specs.Examples.{hexOnto}
 use Rattle.format.specs.Lists.{jaw, named, inSlot, inSlotRows, forwards, forwardsRows}
 
@@ -83,11 +84,18 @@ to-text i e = rw (only i 2 e)
 other : {rs : List Rec} {it : Row} → eqb (it .kind) 0 ≡ false → eqb (it .kind) 9 ≡ false → Link rs it it
 other a b = stays (λ e. eqb-false _ 0 a e) (λ e. eqb-false _ 9 b e)
 
+-- no bytes are a book
+no-book : Book [] []
+unfolding bookBytes
+no-book = record { bytes-are = refl; good = no-entry; small = omega arith }
+
 -- a library stands in a slot, and a reference names what the list has
 pub allowed-in-slot : Reading strict (encs (inSlot 4294967295 4 6 2 9 text 2)) (rowsOf 7 inSlotRows)
 unfolding rowsOf encs enc leBytes groupsOf groupsIn prefixOf hexOnto
 allowed-in-slot =
     record {
+      classes = [];
+      book-is = no-book;
       root = 4;
       header-id = 4294967295;
       rs = rest;
@@ -124,6 +132,8 @@ pub allowed-forwards : Reading strict (encs forwards) (rowsOf 6 forwardsRows)
 unfolding rowsOf encs enc leBytes groupsOf groupsIn prefixOf hexOnto
 allowed-forwards =
     record {
+      classes = [];
+      book-is = no-book;
       root = 1;
       header-id = 1;
       rs = drop 1 forwards;

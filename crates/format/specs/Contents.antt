@@ -1,13 +1,14 @@
 -- Records as data, with everything that they hold, and their bytes (01, Records; 2.3 to 2.6).
 use Prim.Native.Nat.{ℕ}
 use mathlib.Core.List.{List, [], _∷_, _++_}
-use mathlib.Core.Bool.{Bool}
+use mathlib.Core.Bool.{Bool, true, false}
 use lib.ListN.{length}
 use lib.Dec.{eqb}
 use Rattle.format.specs.declared.PrimitiveCode.{PrimitiveCode}
 use Rattle.format.specs.declared.SlotType.{SlotType}
 use Rattle.format.specs.declared.SlotType.the-variants as S
 use Rattle.format.specs.Numbers.{leBytes}
+use Rattle.format.specs.Bytes.{sameBytes}
 use Rattle.format.specs.Prefix.{prefixBytes, prefixOf}
 use Rattle.format.specs.Types.{codeNumber}
 
@@ -54,6 +55,29 @@ pub data Detail (N L : Type 0) : Type 0 where
 pub record Member (N L : Type 0) : Type 0 where
   pub name : N
   pub type : Detail N L
+
+-- ---- classes by content
+
+-- where a class comes from: the system, or a library by its name
+pub data From : Type 0 where
+  theSystem : From
+  theLibrary : (name : List ℕ) → From
+
+pub record Class : Type 0 where
+  pub name : List ℕ
+  pub from : From
+  pub members : List (Member (List ℕ) (List ℕ))
+
+-- the names of members, in order
+abbrev pub memberNames : {L : Type 0} → List (Member (List ℕ) L) → List (List ℕ)
+memberNames [] = []
+memberNames (m ∷ ms) = m .name ∷ memberNames ms
+
+abbrev pub sameFrom : From → From → Bool
+sameFrom theSystem theSystem = true
+sameFrom theSystem (theLibrary n) = false
+sameFrom (theLibrary m) theSystem = false
+sameFrom (theLibrary m) (theLibrary n) = sameBytes m n
 
 -- ---- records
 

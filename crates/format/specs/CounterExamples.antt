@@ -8,12 +8,13 @@ use Rattle.format.specs.Prefix.{prefixIn, groupsOf, groupsIn, prefixOf}
 use Rattle.format.specs.Text.{needOf, loOf, hiOf, leadOf, stepOf, after, wellFormed, textAt, stringAt, spanAt}
 use Rattle.format.specs.Values.{bytesAt, booleanAt, scalarAt, charAt, wholeDigit, fractionDigit, digit, decimalByte, decimalAfter, decimal, decimalText, decimalAt, dateTimeAt, valueAt, valueSpan, times, itemsAt}
 use Rattle.format.specs.Types.{primitiveOf, codeAt, typeByteAt, nameAt, libraryIdAt, infoAt, slotOf, typedAt, afterInfo, moved, passed, passedOf}
+use Rattle.format.specs.Entries.{badEntry, badFrom}
 use Rattle.format.specs.Rows.{words, findFrom, objectRow, classRow, libraryRow, linkOf, linked}
-use Rattle.format.specs.Records.{allowed, kindOf, kindAt, ownLibraryAt, headerAt, stringRecordAt, typedPrimitiveAt, referenceAt, nullsAt, longNullsAt, libraryAt, infoKnown, infosAt, membersAt, classAt, classByIdAt, slotArrayAt, primitiveArrayAt, lengthsAt, itemTypeAt, rankAt, binaryArrayAt, headingAt}
-use Rattle.format.specs.Machine.{close, filled, opened, add, object, nullRun, ending, act, recordStep, valueStep, step, finish, run, rawOf, readOf, readAnswer, tableWords}
+use Rattle.format.specs.Records.{allowed, kindOf, kindAt, ownLibraryAt, headerAt, stringRecordAt, typedPrimitiveAt, referenceAt, nullsAt, longNullsAt, libraryAt, infoKnown, infosAt, membersAt, classAt, classByIdAt, firstType, slotArrayAt, primitiveArrayAt, lengthsAt, itemTypeAt, rankAt, binaryArrayAt, headingAt}
+use Rattle.format.specs.Machine.{close, filled, opened, add, object, nullRun, ending, act, recordStep, valueStep, step, finish, run, rawOf, streamOf, readOf, readAnswer, tableWords}
 use Rattle.format.specs.View.{recordText, rowText, rowQuestion, textView}
 use Rattle.format.specs.Contents.{enc, encs}
-use Rattle.format.specs.Says.{numbersFrom, afterTexts, libraryName, detailFrom, membersFrom, classFrom, itemsFrom, codeIn, valueCode, arrayFrom, objectsIn, orderOf, whatFrom, spread, nodesOf, nodesFrom, says}
+use Rattle.format.specs.Says.{numbersFrom, afterTexts, libraryName, detailFrom, membersFrom, classFrom, typedFrom, itemsFrom, codeIn, valueCode, arrayFrom, objectsIn, orderOf, whatFrom, spread, nodesOf, nodesFrom, says}
 use Rattle.format.specs.Tidy.{sameDetail, sameMembers, sameClass, numberIn, entered, allEntered, libraryRecords, recordsOf, afterWhat, pack, runOf, written, waiting, squeeze, tidyRecords, tidyOf, tidyAnswer, tidyOutput, tidyTable}
 use Rattle.format.specs.Examples.{Example, entry, leniently, hex, hexOnto, accepts, refuses, writes, as-read, textsFrom, holds, failing, None}
 
@@ -121,5 +122,5 @@ table =
     ∷ []
 
 pub counter-examples : None (failing 0 table)
-unfolding table holds failing tidyTable tidyOutput tidyAnswer tidyOf tidyRecords squeeze waiting written runOf pack afterWhat recordsOf libraryRecords allEntered entered numberIn sameClass sameMembers sameDetail says nodesFrom nodesOf spread whatFrom orderOf objectsIn arrayFrom valueCode codeIn itemsFrom classFrom membersFrom detailFrom libraryName afterTexts numbersFrom encs enc tableWords readAnswer readOf rawOf run finish step valueStep recordStep act ending nullRun object add opened filled close headingAt binaryArrayAt rankAt itemTypeAt lengthsAt primitiveArrayAt slotArrayAt classByIdAt classAt membersAt infosAt infoKnown libraryAt longNullsAt nullsAt referenceAt typedPrimitiveAt stringRecordAt headerAt ownLibraryAt kindAt kindOf allowed linked linkOf libraryRow classRow objectRow findFrom words passedOf passed moved afterInfo typedAt slotOf infoAt libraryIdAt nameAt typeByteAt codeAt primitiveOf itemsAt times valueSpan valueAt dateTimeAt decimalAt decimalText decimal decimalAfter decimalByte digit fractionDigit wholeDigit charAt scalarAt booleanAt bytesAt spanAt stringAt textAt wellFormed after stepOf leadOf hiOf loOf needOf groupsOf groupsIn prefixOf prefixIn leBytes u64At u32At le laid sameBytes hexOnto textsFrom rowQuestion textView rowText recordText
+unfolding table holds failing tidyTable tidyOutput tidyAnswer tidyOf tidyRecords squeeze waiting written runOf pack afterWhat recordsOf libraryRecords allEntered entered numberIn sameClass sameMembers sameDetail says nodesFrom nodesOf spread whatFrom orderOf objectsIn arrayFrom valueCode codeIn itemsFrom classFrom typedFrom membersFrom detailFrom libraryName afterTexts numbersFrom encs enc tableWords readAnswer readOf rawOf streamOf badEntry badFrom run finish step valueStep recordStep act ending nullRun object add opened filled close headingAt binaryArrayAt rankAt itemTypeAt lengthsAt primitiveArrayAt slotArrayAt classByIdAt firstType classAt membersAt infosAt infoKnown libraryAt longNullsAt nullsAt referenceAt typedPrimitiveAt stringRecordAt headerAt ownLibraryAt kindAt kindOf allowed linked linkOf libraryRow classRow objectRow findFrom words passedOf passed moved afterInfo typedAt slotOf infoAt libraryIdAt nameAt typeByteAt codeAt primitiveOf itemsAt times valueSpan valueAt dateTimeAt decimalAt decimalText decimal decimalAfter decimalByte digit fractionDigit wholeDigit charAt scalarAt booleanAt bytesAt spanAt stringAt textAt wellFormed after stepOf leadOf hiOf loOf needOf groupsOf groupsIn prefixOf prefixIn leBytes u64At u32At le laid sameBytes hexOnto textsFrom rowQuestion textView rowText recordText
 counter-examples = tt

@@ -111,8 +111,8 @@ tableOf e (needs n) = replicate (e .words) 0
 
 abbrev pub tidyAs : Example → Outcome → ToTidy → Bool
 tidyAs e o t =
-    sameReply (tidyReply (tidyAnswer (e .stream) (before e) o)) (tidyReplyOf e t)
-    && (sameBytes (tidyOutput (e .stream) (before e) o) (outputOf e t) && sameBytes (tidyTable (e .words) (e .stream) (before e) o) (tableOf e t))
+    sameReply (tidyReply (tidyAnswer (e .terms .book) (e .stream) (before e) o)) (tidyReplyOf e t)
+    && (sameBytes (tidyOutput (e .terms .book) (e .stream) (before e) o) (outputOf e t) && sameBytes (tidyTable (e .words) (e .terms .book) (e .stream) (before e) o) (tableOf e t))
 
 abbrev pub tidyHolds : Example → Outcome → ToTidy → Bool
 tidyHolds e o (writes c) = tidyAs e o (writes c)

@@ -19,7 +19,8 @@ use Rattle.format.specs.Numbers.{le}
 use Rattle.format.specs.Rows.{withLink}
 use Rattle.format.specs.Unicode.{Scalar, encode, Encodes}
 use Rattle.format.specs.Decimals.{Decimal}
-use Rattle.format.specs.Contents.{Prefixed, hasPrefix, Detail, primitive, text, object, system, class, objects, texts, primitives, Member, slotFor, Rec, header, classById, systemClass, libraryClass, string, array, typedPrimitive, reference, null, nulls, manyNulls, end, library, primitiveArray, objectArray, stringArray, value, enc, encs}
+use Rattle.format.specs.Contents.{Prefixed, hasPrefix, Detail, primitive, text, object, system, class, objects, texts, primitives, Member, slotFor, Rec, header, classById, systemClass, libraryClass, string, array, typedPrimitive, reference, null, nulls, manyNulls, end, library, primitiveArray, objectArray, stringArray, value, enc, encs, From, theSystem, theLibrary, Class}
+use Rattle.format.specs.Book.{bookBytes}
 
 -- ---- fields
 
@@ -91,6 +92,42 @@ pub record Value (τ : Terms) (c : PrimitiveCode) (v : Prefixed) : Type 0 where
 pub data Values (τ : Terms) : PrimitiveCode → ℕ → List Prefixed → Type 0 where
   none : {c : PrimitiveCode} → Values τ c zero []
   more : {c : PrimitiveCode} {n : ℕ} {v : Prefixed} {vs : List Prefixed} → Value τ c v → Values τ c n vs → Values τ c (suc n) (v ∷ vs)
+
+-- ---- the class book (02, (ii))
+
+-- a type that names no class: types 3 and 4 stand in no book
+pub data Coded : Detail (List ℕ) (List ℕ) → Type 0 where
+  a-primitive : {c : PrimitiveCode} → Coded (primitive c)
+  a-text : Coded text
+  any-object : Coded object
+  an-object-array : Coded objects
+  a-text-array : Coded texts
+  a-primitive-array : {c : PrimitiveCode} → Coded (primitives c)
+
+pub data Described : List (Member (List ℕ) (List ℕ)) → Type 0 where
+  all-described : Described []
+  described : {m : Member (List ℕ) (List ℕ)} {ms : List (Member (List ℕ) (List ℕ))} → Characters (m .name) → Coded (m .type) → Described ms → Described (m ∷ ms)
+
+abbrev pub Origin : From → Type 0
+Origin theSystem = Unit {0}
+Origin (theLibrary n) = Characters n
+
+-- an entry; its member count has one byte
+pub record BookEntry (c : Class) : Type 0 where
+  pub named : Characters (c .name)
+  pub origin : Origin (c .from)
+  pub counted : length (c .members) < 256
+  pub members : Described (c .members)
+
+pub data BookEntries : List Class → Type 0 where
+  no-entry : BookEntries []
+  entries : {c : Class} {cs : List Class} → BookEntry c → BookEntries cs → BookEntries (c ∷ cs)
+
+-- these bytes are a book of these entries; the places in it are numbers of 32 bits
+pub record Book (β : List ℕ) (cs : List Class) : Type 0 where
+  pub bytes-are : β ≡ bookBytes cs
+  pub good : BookEntries cs
+  pub small : length β < 4294967296
 
 -- ---- what is known from earlier records
 
@@ -406,8 +443,10 @@ pub data Links (rs : List Rec) : List Row → List Row → Type 0 where
   no-links : Links rs [] []
   one-link : {it row : Row} {is rows : List Row} → Link rs it row → Links rs is rows → Links rs (it ∷ is) (row ∷ rows)
 
--- a reading of a stream, with the rows that show it
+-- a reading of a stream, with the rows that show it; the book is a good one, whether it is needed or not
 pub record Reading (τ : Terms) (s : List ℕ) (rows : List Row) : Type 0 where
+  pub classes : List Class
+  pub book-is : Book (τ .book) classes
   pub root : ℕ
   pub header-id : ℕ
   pub rs : List Rec

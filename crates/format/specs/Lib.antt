@@ -8,11 +8,13 @@ pub mod Prefix
 pub mod Text
 pub mod Values
 pub mod Types
+pub mod Entries
 pub mod Rows
 pub mod Records
 pub mod Machine
 pub mod View
 pub mod Contents
+pub mod Book
 pub mod Unicode
 pub mod Decimals
 pub mod Grammar
@@ -28,3 +30,4 @@ pub mod Meanings
 pub mod Allowed
 pub mod Own
 pub mod Words
+pub mod BookExamples

@@ -15,13 +15,14 @@ use Rattle.format.specs.Prefix.{prefixIn, groupsOf, groupsIn, prefixOf}
 use Rattle.format.specs.Text.{needOf, loOf, hiOf, leadOf, stepOf, after, wellFormed, textAt, stringAt, spanAt}
 use Rattle.format.specs.Values.{times, bytesAt, booleanAt, valueAt, scalarAt, charAt, wholeDigit, fractionDigit, digit, decimalByte, decimalAfter, decimal, decimalText, decimalAt, dateTimeAt, valueSpan, itemsAt}
 use Rattle.format.specs.Types.{primitiveOf, codeAt, typeByteAt, nameAt, libraryIdAt, infoAt, slotOf, typedAt, afterInfo, moved, passed, passedOf, codeNumber}
+use Rattle.format.specs.Entries.{badEntry, badFrom}
 use Rattle.format.specs.Rows.{words, findFrom, objectRow, classRow, libraryRow, linkOf, linked}
-use Rattle.format.specs.Records.{allowed, kindOf, kindAt, ownLibraryAt, headerAt, stringRecordAt, referenceAt, nullsAt, longNullsAt, libraryAt, infoKnown, infosAt, membersAt, classAt, classByIdAt, slotArrayAt, headingAt, typedPrimitiveAt, primitiveArrayAt, lengthsAt, itemTypeAt, rankAt, binaryArrayAt}
-use Rattle.format.specs.Machine.{close, filled, opened, add, object, nullRun, ending, act, recordStep, valueStep, step, finish, run, Outcome, accepted, refused, rawOf, readOf, readAnswer, tableWords}
+use Rattle.format.specs.Records.{allowed, kindOf, kindAt, ownLibraryAt, headerAt, stringRecordAt, referenceAt, nullsAt, longNullsAt, libraryAt, infoKnown, infosAt, membersAt, classAt, classByIdAt, firstType, slotArrayAt, headingAt, typedPrimitiveAt, primitiveArrayAt, lengthsAt, itemTypeAt, rankAt, binaryArrayAt}
+use Rattle.format.specs.Machine.{close, filled, opened, add, object, nullRun, ending, act, recordStep, valueStep, step, finish, run, Outcome, accepted, refused, rawOf, streamOf, readOf, readAnswer, tableWords}
 use Rattle.format.specs.View.{recordText, rowText, rowQuestion, textView}
 use Rattle.format.specs.Contents.{Prefixed, bare, shortest, Detail, primitive, text, Member, typeByte, Rec, header, classById, systemClass, libraryClass, string, array, typedPrimitive, primitiveArray, reference, null, nulls, end, library, objectArray, value, enc, encs}
 use Rattle.format.specs.Contents.{object as anything}
-use Rattle.format.specs.Says.{numbersFrom, afterTexts, libraryName, detailFrom, membersFrom, classFrom, codeIn, valueCode, arrayFrom, objectsIn, orderOf, whatFrom, spread, nodesOf, nodesFrom, What, anObject, aString, anArray, aPrimitive, aReference, aNull, aPrimitiveArray, anObjectArray, aStringArray, aValue, Node, Model, says, itemsFrom}
+use Rattle.format.specs.Says.{numbersFrom, afterTexts, libraryName, detailFrom, membersFrom, classFrom, typedFrom, codeIn, valueCode, arrayFrom, objectsIn, orderOf, whatFrom, spread, nodesOf, nodesFrom, What, anObject, aString, anArray, aPrimitive, aReference, aNull, aPrimitiveArray, anObjectArray, aStringArray, aValue, Node, Model, says, itemsFrom}
 use Rattle.format.specs.Tidy.{sameDetail, sameMembers, sameClass, numberIn, entered, allEntered, libraryRecords, recordsOf, afterWhat, pack, runOf, written, waiting, squeeze, tidyRecords, tidyOf, tidyAnswer, tidyOutput, tidyTable}
 use Rattle.format.specs.Examples.{Example, entry, leniently, hexOnto, hex, accepts, refuses, writes, as-read, textsFrom, holds, failing, None}
 
@@ -137,13 +138,13 @@ lists =
     ∷ []
 
 pub list-examples : None (failing 0 lists)
-unfolding lists holds failing tidyTable tidyOutput tidyAnswer tidyOf tidyRecords squeeze waiting written runOf pack afterWhat recordsOf libraryRecords allEntered entered numberIn sameClass sameMembers sameDetail says nodesFrom nodesOf spread whatFrom orderOf objectsIn arrayFrom classFrom membersFrom detailFrom libraryName afterTexts numbersFrom encs enc tableWords readAnswer readOf rawOf run finish step recordStep act ending nullRun object add opened filled close headingAt slotArrayAt classByIdAt classAt membersAt infosAt infoKnown libraryAt longNullsAt nullsAt referenceAt stringRecordAt headerAt ownLibraryAt kindAt kindOf allowed linked linkOf libraryRow classRow objectRow findFrom words passedOf passed moved afterInfo typedAt slotOf infoAt libraryIdAt nameAt typeByteAt codeAt primitiveOf times spanAt stringAt textAt wellFormed after stepOf leadOf hiOf loOf needOf groupsOf groupsIn prefixOf prefixIn leBytes u64At u32At le laid sameBytes hexOnto textsFrom rowQuestion textView rowText recordText valueCode codeIn itemsFrom valueStep binaryArrayAt rankAt itemTypeAt lengthsAt primitiveArrayAt typedPrimitiveAt itemsAt valueSpan valueAt dateTimeAt decimalAt decimalText decimal decimalAfter decimalByte digit fractionDigit wholeDigit charAt scalarAt booleanAt bytesAt
+unfolding lists holds failing tidyTable tidyOutput tidyAnswer tidyOf tidyRecords squeeze waiting written runOf pack afterWhat recordsOf libraryRecords allEntered entered numberIn sameClass sameMembers sameDetail says nodesFrom nodesOf spread whatFrom orderOf objectsIn arrayFrom classFrom typedFrom membersFrom detailFrom libraryName afterTexts numbersFrom encs enc tableWords readAnswer readOf rawOf streamOf badEntry badFrom run finish step recordStep act ending nullRun object add opened filled close headingAt slotArrayAt classByIdAt firstType classAt membersAt infosAt infoKnown libraryAt longNullsAt nullsAt referenceAt stringRecordAt headerAt ownLibraryAt kindAt kindOf allowed linked linkOf libraryRow classRow objectRow findFrom words passedOf passed moved afterInfo typedAt slotOf infoAt libraryIdAt nameAt typeByteAt codeAt primitiveOf times spanAt stringAt textAt wellFormed after stepOf leadOf hiOf loOf needOf groupsOf groupsIn prefixOf prefixIn leBytes u64At u32At le laid sameBytes hexOnto textsFrom rowQuestion textView rowText recordText valueCode codeIn itemsFrom valueStep binaryArrayAt rankAt itemTypeAt lengthsAt primitiveArrayAt typedPrimitiveAt itemsAt valueSpan valueAt dateTimeAt decimalAt decimalText decimal decimalAfter decimalByte digit fractionDigit wholeDigit charAt scalarAt booleanAt bytesAt
 list-examples = tt
 
 -- ---- saying the same
 
 abbrev pub saidBy : List ℕ → Outcome → Model
-saidBy s (accepted rows) = says s rows
+saidBy s (accepted rows) = says [] s rows
 saidBy s (refused r place) = record { root = 0; nodes = [] }
 
 -- what a list of these records says; at most 16 rows
@@ -157,7 +158,7 @@ threeNulls rs = header 1 1 ∷ objectArray 1 3 ∷ (rs ++ (end ∷ []))
 -- neither ids nor the header's other id nor the packing of nulls is said
 pub same-lists : (said (inSlot 4294967295 4 6 2 9 text 2) ≡ said (inSlot 0 8 3 7 1 text 7))
     × ((said (threeNulls (nulls 3 ∷ [])) ≡ said (threeNulls (null ∷ nulls 0 ∷ nulls 2 ∷ []))))
-unfolding said says nodesFrom nodesOf spread whatFrom orderOf objectsIn classFrom membersFrom detailFrom libraryName afterTexts encs enc readOf rawOf run finish step recordStep act ending nullRun object add opened filled close headingAt slotArrayAt classAt membersAt infosAt infoKnown libraryAt nullsAt referenceAt stringRecordAt headerAt ownLibraryAt kindAt kindOf allowed linked linkOf libraryRow classRow objectRow findFrom passedOf passed moved afterInfo typedAt slotOf infoAt libraryIdAt nameAt typeByteAt times spanAt stringAt textAt wellFormed after stepOf leadOf hiOf loOf needOf groupsOf groupsIn prefixOf prefixIn leBytes u32At le hexOnto
+unfolding said says nodesFrom nodesOf spread whatFrom orderOf objectsIn classFrom typedFrom membersFrom detailFrom libraryName afterTexts encs enc readOf rawOf streamOf badEntry badFrom run finish step recordStep act ending nullRun object add opened filled close headingAt slotArrayAt classAt membersAt infosAt infoKnown libraryAt nullsAt referenceAt stringRecordAt headerAt ownLibraryAt kindAt kindOf allowed linked linkOf libraryRow classRow objectRow findFrom passedOf passed moved afterInfo typedAt slotOf infoAt libraryIdAt nameAt typeByteAt times spanAt stringAt textAt wellFormed after stepOf leadOf hiOf loOf needOf groupsOf groupsIn prefixOf prefixIn leBytes u32At le hexOnto
 same-lists = (refl, refl)
 
 -- the types of a class's members, and the target of a reference
@@ -183,7 +184,7 @@ toldBy (n ∷ ns) = told (n .what) ++ toldBy ns
 
 -- a member's type is said, and so is the target of a reference, by its order
 pub other-lists : (said (inSlot 1 4 6 2 9 text 2) ≡ said (inSlot 1 4 6 2 9 anything 2) → ⊥) × (said (inSlot 1 4 6 2 9 text 2) ≡ said (inSlot 1 4 6 2 9 text 6) → ⊥)
-unfolding toldBy said says nodesFrom nodesOf spread whatFrom orderOf objectsIn classFrom membersFrom detailFrom libraryName afterTexts encs enc readOf rawOf run finish step recordStep act ending nullRun object add opened filled close headingAt slotArrayAt classAt membersAt infosAt infoKnown libraryAt nullsAt referenceAt stringRecordAt headerAt ownLibraryAt kindAt kindOf allowed linked linkOf libraryRow classRow objectRow findFrom passedOf passed moved afterInfo typedAt slotOf infoAt libraryIdAt nameAt typeByteAt times spanAt stringAt textAt wellFormed after stepOf leadOf hiOf loOf needOf groupsOf groupsIn prefixOf prefixIn leBytes u32At le hexOnto
+unfolding toldBy said says nodesFrom nodesOf spread whatFrom orderOf objectsIn classFrom typedFrom membersFrom detailFrom libraryName afterTexts encs enc readOf rawOf streamOf badEntry badFrom run finish step recordStep act ending nullRun object add opened filled close headingAt slotArrayAt classAt membersAt infosAt infoKnown libraryAt nullsAt referenceAt stringRecordAt headerAt ownLibraryAt kindAt kindOf allowed linked linkOf libraryRow classRow objectRow findFrom passedOf passed moved afterInfo typedAt slotOf infoAt libraryIdAt nameAt typeByteAt times spanAt stringAt textAt wellFormed after stepOf leadOf hiOf loOf needOf groupsOf groupsIn prefixOf prefixIn leBytes u32At le hexOnto
 other-lists = (
   λ e. let types : _≡_ {A = ℕ} 1 2 = ap (λ (m : Model). getD (toldBy (m .nodes)) 0 0) e in omega arith,
   λ e. let targets : _≡_ {A = ℕ} 3 2 = ap (λ (m : Model). getD (toldBy (m .nodes)) 1 0) e in omega arith,
@@ -206,7 +207,7 @@ readCodes (r ∷ rs) = pick (eqb (r .kind) 32) (r .link ∷ readCodes rs) (readC
 -- and the code that the rows say
 unfoldable pub saidCodes : List ℕ → List Row → List Row → List ℕ
 saidCodes s rows [] = []
-saidCodes s rows (r ∷ rs) = pick (eqb (r .kind) 32) (codeNumber (valueCode s rows r) ∷ saidCodes s rows rs) (saidCodes s rows rs)
+saidCodes s rows (r ∷ rs) = pick (eqb (r .kind) 32) (codeNumber (valueCode [] s rows r) ∷ saidCodes s rows rs) (saidCodes s rows rs)
 
 abbrev pub codesBy : (List Row → List ℕ) → Outcome → List ℕ
 codesBy f (accepted rows) = f rows
@@ -214,5 +215,5 @@ codesBy f (refused r place) = []
 
 pub value-codes : (codesBy readCodes (rawOf strict (encs valued) 16) ≡ 7 ∷ 1 ∷ 7 ∷ 1 ∷ [])
     × (codesBy (λ (rows : List Row). saidCodes (encs valued) rows rows) (readOf strict (encs valued) 16) ≡ 7 ∷ 1 ∷ 7 ∷ 1 ∷ [])
-unfolding readCodes saidCodes valueCode codeIn classByIdAt valueStep valueAt booleanAt bytesAt codeAt primitiveOf says nodesFrom nodesOf spread whatFrom orderOf objectsIn classFrom membersFrom detailFrom libraryName encs enc readOf rawOf run finish step recordStep act ending nullRun object add opened filled close headingAt slotArrayAt classAt membersAt infosAt infoKnown libraryAt nullsAt referenceAt stringRecordAt headerAt ownLibraryAt kindAt kindOf allowed linked linkOf libraryRow classRow objectRow findFrom passedOf passed moved typedAt slotOf infoAt libraryIdAt nameAt typeByteAt times stringAt textAt wellFormed after stepOf leadOf hiOf loOf needOf groupsOf groupsIn prefixOf prefixIn leBytes u32At le hexOnto afterTexts afterInfo spanAt
+unfolding readCodes saidCodes valueCode codeIn classByIdAt firstType valueStep valueAt booleanAt bytesAt codeAt primitiveOf says nodesFrom nodesOf spread whatFrom orderOf objectsIn classFrom typedFrom membersFrom detailFrom libraryName encs enc readOf rawOf streamOf badEntry badFrom run finish step recordStep act ending nullRun object add opened filled close headingAt slotArrayAt classAt membersAt infosAt infoKnown libraryAt nullsAt referenceAt stringRecordAt headerAt ownLibraryAt kindAt kindOf allowed linked linkOf libraryRow classRow objectRow findFrom passedOf passed moved typedAt slotOf infoAt libraryIdAt nameAt typeByteAt times stringAt textAt wellFormed after stepOf leadOf hiOf loOf needOf groupsOf groupsIn prefixOf prefixIn leBytes u32At le hexOnto afterTexts afterInfo spanAt
 value-codes = (refl, refl)

@@ -29,6 +29,7 @@ use Rattle.format.specs.declared.Passed.the-variants as O
 use Rattle.format.specs.Bytes.{pick}
 use Rattle.format.specs.Values.{valueAt}
 use Rattle.format.specs.Types.{alike, codeNumber, moved, passedOf}
+use Rattle.format.specs.Entries.{badEntry}
 use Rattle.format.specs.Rows.{blank, isObject, objectRow, findFrom, isLost, linked, words}
 use Rattle.format.specs.Records.{kindAt, headingAt}
 
@@ -120,28 +121,28 @@ abbrev pub runOver : ℕ → State → ℕ → Head → Passed → Next
 runOver room st kind h (O.Over t) = add room st (rowIn st kind h) (filled (st .stack) (h .count) t)
 runOver room st kind h O.Crossed = refuse R.BadCount (st .at)
 
-unfoldable pub nullRun : List ℕ → ℕ → State → ℕ → Head → Next
-nullRun s room st kind h =
+unfoldable pub nullRun : (β s : List ℕ) → ℕ → State → ℕ → Head → Next
+nullRun β s room st kind h =
     pick (ltb (st .stack .cur .left) (h .count)) (refuse R.BadCount (st .at))
-    (runOver room st kind h (passedOf s (st .stack .cur .typed) (h .count)))
+    (runOver room st kind h (passedOf β s (st .stack .cur .typed) (h .count)))
 
 -- the end record
 unfoldable pub ending : ℕ → State → Head → Next
 ending room st h = pick (ltb (length (st .rows)) room) (ended (st .rows ++ (rowIn st 11 h ∷ [])) (h .end)) (refuse R.NoRoom (st .at))
 
-unfoldable pub act : List ℕ → ℕ → State → ℕ → Heading → Next
-act s room st kind (H.Bad f) = refuse f (st .at)
-act s room st kind (H.Fields h) =
-    pick (isObject kind) (object room st kind h (moved s (st .stack .cur .typed)))
-    (pick (eqb kind 13 || eqb kind 14) (nullRun s room st kind h)
+unfoldable pub act : (β s : List ℕ) → ℕ → State → ℕ → Heading → Next
+act β s room st kind (H.Bad f) = refuse f (st .at)
+act β s room st kind (H.Fields h) =
+    pick (isObject kind) (object room st kind h (moved β s (st .stack .cur .typed)))
+    (pick (eqb kind 13 || eqb kind 14) (nullRun β s room st kind h)
     (pick (eqb kind 12) (add room st (rowApart st kind h) (st .stack))
     (pick (eqb kind 11) (ending room st h)
-    (add room st (rowIn st kind h) (filled (st .stack) 1 (moved s (st .stack .cur .typed)))))))
+    (add room st (rowIn st kind h) (filled (st .stack) 1 (moved β s (st .stack .cur .typed)))))))
 
 -- ---- a step: a member value at once, else a kind byte and its record
 
 abbrev pub onKind : Terms → List ℕ → ℕ → State → Kind → Next
-onKind τ s room st (K.Taken k) = act s room st k (headingAt τ s (st .rows) k (st .at))
+onKind τ s room st (K.Taken k) = act (τ .book) s room st k (headingAt τ s (st .rows) k (st .at))
 onKind τ s room st (K.Wrong f) = refuse f (st .at)
 
 unfoldable pub recordStep : Terms → List ℕ → ℕ → State → Where → Next
@@ -151,13 +152,13 @@ recordStep τ s room st w = onKind τ s room st (kindAt s w (st .at))
 abbrev pub valueHead : PrimitiveCode → ℕ → Head
 valueHead c end = record { id = 0; end = end; count = 0; slots = 0; first = alike S.Object 0; link = codeNumber c }
 
-abbrev pub onValue : List ℕ → ℕ → State → PrimitiveCode → Field → Next
-onValue s room st c (F.End end) =
-    add room st (rowIn st 32 (valueHead c end)) (filled (st .stack) 1 (moved s (st .stack .cur .typed)))
-onValue s room st c (F.Fault f) = refuse f (st .at)
+abbrev pub onValue : (β s : List ℕ) → ℕ → State → PrimitiveCode → Field → Next
+onValue β s room st c (F.End end) =
+    add room st (rowIn st 32 (valueHead c end)) (filled (st .stack) 1 (moved β s (st .stack .cur .typed)))
+onValue β s room st c (F.Fault f) = refuse f (st .at)
 
 unfoldable pub valueStep : Terms → List ℕ → ℕ → State → PrimitiveCode → Next
-valueStep τ s room st c = onValue s room st c (valueAt (τ .setting) s c (st .at))
+valueStep τ s room st c = onValue (τ .book) s room st c (valueAt (τ .setting) s c (st .at))
 
 -- the top level has no object around it
 abbrev pub whereIn : List Frame → Where → Where
@@ -212,9 +213,15 @@ begin τ s room (go st) = run τ (length s) s room st
 begin τ s room (ended rows at) = finish s rows at
 begin τ s room (refuse r place) = refused r place
 
--- the outcome of a stream with room for so many rows, the rows as they are read: their link words are not final
+-- a stream within the limit, with a good book
+unfoldable pub streamOf : Terms → List ℕ → ℕ → Outcome
+streamOf τ s room = begin τ s room (recordStep τ s room start W.Start)
+
+-- the outcome of a stream with room for so many rows: the limit, the book, the stream. The rows are as they are read, their link words not final
 unfoldable pub rawOf : Terms → List ℕ → ℕ → Outcome
-rawOf τ s room = pick (ltb 16777216 (length s)) (refused R.TooLarge 0) (begin τ s room (recordStep τ s room start W.Start))
+rawOf τ s room =
+    pick (ltb 16777216 (length s)) (refused R.TooLarge 0)
+    (pick (eqb (badEntry (τ .book)) 0) (streamOf τ s room) (refused R.BadBook (badEntry (τ .book) - 1)))
 
 -- links are put in at the end
 abbrev pub withLinks : Outcome → Outcome

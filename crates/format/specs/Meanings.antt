@@ -5,8 +5,8 @@ use mathlib.Core.List.{List, [], _∷_}
 use native.Mathlib.Omega.{arith}
 use lib.ListN.{length}
 use Rattle.format.specs.declared.PrimitiveCode.the-variants as C
-use Rattle.format.specs.Contents.{Prefixed, bare, shortest, Detail, primitive, text, object, class, Member, Rec, classById, systemClass, libraryClass, string, array, typedPrimitive, reference, null, nulls, manyNulls, end, library, primitiveArray, objectArray, stringArray, value}
-use Rattle.format.specs.Says.{theLibrary, Class, What, anObject, aString, anArray, aPrimitive, aReference, aNull, aPrimitiveArray, anObjectArray, aStringArray, aValue, Node, node, Model, spread}
+use Rattle.format.specs.Contents.{Prefixed, bare, shortest, Detail, primitive, text, object, class, Member, Rec, classById, systemClass, libraryClass, string, array, typedPrimitive, reference, null, nulls, manyNulls, end, library, primitiveArray, objectArray, stringArray, value, theLibrary, Class}
+use Rattle.format.specs.Says.{What, anObject, aString, anArray, aPrimitive, aReference, aNull, aPrimitiveArray, anObjectArray, aStringArray, aValue, Node, node, Model, spread}
 use Rattle.format.specs.Meant.{found, librariesOf, classesOf, noClass, orderAfter, nameBy, classBy, orderBy, walk, meant}
 
 abbrev model : ℕ → List Node → Model

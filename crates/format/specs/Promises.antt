@@ -37,10 +37,10 @@ ViewPromise σ s t row v = v ≡ textView σ s t row
 
 -- tidying s with a table that held t and an output that held d answers q, leaves u in the table and e in the output
 pub record TidyPromise (τ : Terms) (s t d : List ℕ) (q : TidyAnswer) (u e : List ℕ) : Type 0 where
-  pub answer : q ≡ tidyAnswer s d (readOf τ s (roomOf t))
-  pub numbers : tidyReply q ≡ ofTidying s d (readOf τ s (roomOf t))
-  pub table : u ≡ tidyTable (length t) s d (readOf τ s (roomOf t))
-  pub output : e ≡ tidyOutput s d (readOf τ s (roomOf t))
+  pub answer : q ≡ tidyAnswer (τ .book) s d (readOf τ s (roomOf t))
+  pub numbers : tidyReply q ≡ ofTidying (τ .book) s d (readOf τ s (roomOf t))
+  pub table : u ≡ tidyTable (length t) (τ .book) s d (readOf τ s (roomOf t))
+  pub output : e ≡ tidyOutput (τ .book) s d (readOf τ s (roomOf t))
 
 -- ---- an answer that is right has the right numbers
 
@@ -61,8 +61,8 @@ question-promised σ s t row a e = record { answer = e; numbers = ap rowReply e 
     numbered (T.Part from to) = refl
     numbered (T.Fault f) = refl
 
-pub tidy-promised : (τ : Terms) (s t d : List ℕ) (q : TidyAnswer) (u e : List ℕ) → q ≡ tidyAnswer s d (readOf τ s (roomOf t))
-    → u ≡ tidyTable (length t) s d (readOf τ s (roomOf t)) → e ≡ tidyOutput s d (readOf τ s (roomOf t)) → TidyPromise τ s t d q u e
+pub tidy-promised : (τ : Terms) (s t d : List ℕ) (q : TidyAnswer) (u e : List ℕ) → q ≡ tidyAnswer (τ .book) s d (readOf τ s (roomOf t))
+    → u ≡ tidyTable (length t) (τ .book) s d (readOf τ s (roomOf t)) → e ≡ tidyOutput (τ .book) s d (readOf τ s (roomOf t)) → TidyPromise τ s t d q u e
 unfolding tidyAnswer
 tidy-promised τ s t d q u e a w o =
     record { answer = a; numbers = ap tidyReply a ∙ numbered (readOf τ s (roomOf t)); table = w; output = o }
@@ -71,6 +71,6 @@ tidy-promised τ s t d q u e a w o =
     by true n = refl
     by false n = refl
 
-    numbered : (o : Outcome) → tidyReply (tidyAnswer s d o) ≡ ofTidying s d o
-    numbered (accepted rows) = by (fits (tidyOf (says s rows)) d) (length (tidyOf (says s rows)))
+    numbered : (o : Outcome) → tidyReply (tidyAnswer (τ .book) s d o) ≡ ofTidying (τ .book) s d o
+    numbered (accepted rows) = by (fits (tidyOf (says (τ .book) s rows)) d) (length (tidyOf (says (τ .book) s rows)))
     numbered (refused r place) = refl

@@ -5,6 +5,7 @@ use mathlib.Core.List.{List, _∷_}
 use lib.ListN.{length, getD}
 use lib.Dec.{ltb, leb, eqb}
 use Rattle.format.specs.Terms.{Terms}
+use Rattle.format.specs.declared.Setting.{Setting}
 use Rattle.format.specs.declared.Refusal.the-variants as R
 use Rattle.format.specs.declared.PrimitiveCode.{PrimitiveCode}
 use Rattle.format.specs.declared.SlotType.{SlotType}
@@ -28,8 +29,8 @@ use Rattle.format.specs.declared.Row.{Row}
 use Rattle.format.specs.Bytes.{pick, part}
 use Rattle.format.specs.Numbers.{le, u32At, negative}
 use Rattle.format.specs.Values.{onEnd, times, valueAt, itemsAt}
-use Rattle.format.specs.Types.{codeAt, coded, primitiveOf, typeByteAt, nameAt, positive, libraryIdAt, infoAt, typedAt, alike}
-use Rattle.format.specs.Rows.{blank, objectRow, classRow, libraryRow}
+use Rattle.format.specs.Types.{codeAt, coded, primitiveOf, typeByteAt, nameAt, positive, libraryIdAt, infoAt, typedAt, bookTyped, alike}
+use Rattle.format.specs.Rows.{blank, isUntyped, objectRow, classRow, libraryRow}
 
 -- ---- what may stand where
 
@@ -116,14 +117,14 @@ headerAt s at =
     (u32At s (at + 1))
 
 -- 6 string: ObjectId, text
-unfoldable pub stringRecordAt : Terms → List ℕ → List Row → ℕ → Heading
-stringRecordAt τ s rows at =
-    onNumber (λ id p. pick (goodId rows id) (onField (λ end. plain id end 0) (nameAt (τ .setting) s p)) (H.Bad R.BadId)) (u32At s (at + 1))
+unfoldable pub stringRecordAt : Setting → List ℕ → List Row → ℕ → Heading
+stringRecordAt σ s rows at =
+    onNumber (λ id p. pick (goodId rows id) (onField (λ end. plain id end 0) (nameAt σ s p)) (H.Bad R.BadId)) (u32At s (at + 1))
 
 -- 8 typed primitive: code, value
-unfoldable pub typedPrimitiveAt : Terms → List ℕ → ℕ → Heading
-typedPrimitiveAt τ s at =
-    onField (λ p. onField (λ end. plain 0 end 0) (valueAt (τ .setting) s (coded (primitiveOf (getD s (at + 1) 0))) p)) (codeAt s (at + 1))
+unfoldable pub typedPrimitiveAt : Setting → List ℕ → ℕ → Heading
+typedPrimitiveAt σ s at =
+    onField (λ p. onField (λ end. plain 0 end 0) (valueAt σ s (coded (primitiveOf (getD s (at + 1) 0))) p)) (codeAt s (at + 1))
 
 -- 9 reference: IdRef
 unfoldable pub referenceAt : List ℕ → ℕ → Heading
@@ -138,20 +139,20 @@ unfoldable pub longNullsAt : List ℕ → ℕ → Heading
 longNullsAt s at = onNumber (λ n end. pick (positive n) (plain 0 end n) (H.Bad R.BadCount)) (u32At s (at + 1))
 
 -- 12 library: LibraryId, name
-unfoldable pub libraryAt : Terms → List ℕ → List Row → ℕ → Heading
-libraryAt τ s rows at =
-    onNumber (λ id p. pick (positive id && eqb (libraryRow id rows) 0) (onField (λ end. plain id end 0) (nameAt (τ .setting) s p)) (H.Bad R.BadId)) (u32At s (at + 1))
+unfoldable pub libraryAt : Setting → List ℕ → List Row → ℕ → Heading
+libraryAt σ s rows at =
+    onNumber (λ id p. pick (positive id && eqb (libraryRow id rows) 0) (onField (λ end. plain id end 0) (nameAt σ s p)) (H.Bad R.BadId)) (u32At s (at + 1))
 
 -- ---- classes
 
 -- a detail, and for type 4 its library known
-unfoldable pub infoKnown : Terms → List ℕ → List Row → ℕ → ℕ → Field
-infoKnown τ s rows type at = onEnd (λ end. pick (eqb type 4) (knownLibrary s rows end) (F.End end)) (infoAt (τ .setting) s type at)
+unfoldable pub infoKnown : Setting → List ℕ → List Row → ℕ → ℕ → Field
+infoKnown σ s rows type at = onEnd (λ end. pick (eqb type 4) (knownLibrary s rows end) (F.End end)) (infoAt σ s type at)
 
 -- the details of n members, their type bytes from a place on
-unfoldable pub infosAt : Terms → List ℕ → List Row → ℕ → ℕ → ℕ → Field
-infosAt τ s rows zero types at = F.End at
-infosAt τ s rows (suc n) types at = onEnd (infosAt τ s rows n (types + 1)) (infoKnown τ s rows (getD s types 0) at)
+unfoldable pub infosAt : Setting → List ℕ → List Row → ℕ → ℕ → ℕ → Field
+infosAt σ s rows zero types at = F.End at
+infosAt σ s rows (suc n) types at = onEnd (infosAt σ s rows n (types + 1)) (infoKnown σ s rows (getD s types 0) at)
 
 -- what follows the details: nothing, or the class's own LibraryId
 abbrev pub afterInfos : Bool → List ℕ → List Row → ℕ → Field
@@ -159,23 +160,23 @@ afterInfos false s rows at = F.End at
 afterInfos true s rows at = ownLibraryAt s rows at
 
 -- n members: all names, then all type bytes, then the details
-unfoldable pub membersAt : Terms → List ℕ → List Row → Bool → ℕ → ℕ → ℕ → Heading
-membersAt τ s rows own id n at =
+unfoldable pub membersAt : Setting → List ℕ → List Row → Bool → ℕ → ℕ → ℕ → Heading
+membersAt σ s rows own id n at =
     onField (λ types.
     onField (λ infos.
     onField (λ p.
     onField (λ end. H.Fields (record { id = id; end = end; count = n; slots = n; first = typedAt s types infos; link = types }))
     (afterInfos own s rows p))
-    (infosAt τ s rows n types infos))
+    (infosAt σ s rows n types infos))
     (times (typeByteAt s) n types))
-    (times (nameAt (τ .setting) s) n at)
+    (times (nameAt σ s) n at)
 
 -- 4 system class: ObjectId, name, member count, members; 5 class: as 4, then LibraryId
-unfoldable pub classAt : Terms → List ℕ → List Row → Bool → ℕ → Heading
-classAt τ s rows own at =
+unfoldable pub classAt : Setting → List ℕ → List Row → Bool → ℕ → Heading
+classAt σ s rows own at =
     onNumber (λ id p.
     pick (goodClassId rows id)
-    (onField (λ q. onNumber (λ n r. pick (negative n) (H.Bad R.BadCount) (membersAt τ s rows own id n r)) (u32At s q)) (nameAt (τ .setting) s p))
+    (onField (λ q. onNumber (λ n r. pick (negative n) (H.Bad R.BadCount) (membersAt σ s rows own id n r)) (u32At s q)) (nameAt σ s p))
     (H.Bad R.BadId))
     (u32At s (at + 1))
 
@@ -183,19 +184,23 @@ classAt τ s rows own at =
 abbrev pub within : ℕ → ℕ → ℕ
 within n p = pick (ltb n p) n p
 
--- an object of the class in this row
-abbrev pub ofClass : List ℕ → ℕ → ℕ → ℕ → Row → Heading
-ofClass s id end row c =
-    H.Fields (record { id = id; end = end; count = c .count; slots = c .count; first = typedAt s (c .link) (within (length s) (c .link + c .count)); link = row })
+-- the type of the first member of the class in this row, whose link is the place of its type byte: in its record or, for kinds 2 and 3, in the book
+unfoldable pub firstType : (β s : List ℕ) → Row → Typed
+firstType β s c = pick (isUntyped (c .kind)) (bookTyped β (c .link)) (typedAt s (c .link) (within (length s) (c .link + c .count)))
 
-abbrev pub byRow : List ℕ → List Row → ℕ → ℕ → ℕ → Heading
-byRow s rows id end row = pick (eqb row 0) (H.Bad R.NoClass) (ofClass s id end row (getD rows (row - 1) blank))
+-- an object of the class in this row
+abbrev pub ofClass : (β s : List ℕ) → ℕ → ℕ → ℕ → Row → Heading
+ofClass β s id end row c =
+    H.Fields (record { id = id; end = end; count = c .count; slots = c .count; first = firstType β s c; link = row })
+
+abbrev pub byRow : (β s : List ℕ) → List Row → ℕ → ℕ → ℕ → Heading
+byRow β s rows id end row = pick (eqb row 0) (H.Bad R.NoClass) (ofClass β s id end row (getD rows (row - 1) blank))
 
 -- 1 class by id: ObjectId, MetadataId
-unfoldable pub classByIdAt : List ℕ → List Row → ℕ → Heading
-classByIdAt s rows at =
+unfoldable pub classByIdAt : (β s : List ℕ) → List Row → ℕ → Heading
+classByIdAt β s rows at =
     onNumber (λ id p.
-    pick (goodClassId rows id) (onNumber (λ class end. byRow s rows id end (classRow class rows)) (u32At s p)) (H.Bad R.BadId))
+    pick (goodClassId rows id) (onNumber (λ class end. byRow β s rows id end (classRow class rows)) (u32At s p)) (H.Bad R.BadId))
     (u32At s (at + 1))
 
 -- ---- arrays
@@ -212,15 +217,15 @@ slotArrayAt s rows slot at =
     (u32At s (at + 1))
 
 -- the items of a primitive array lie in its own record
-abbrev pub withItems : Terms → List ℕ → PrimitiveCode → ℕ → ℕ → ℕ → Heading
-withItems τ s code id n at = onField (λ end. plain id end n) (itemsAt (τ .setting) s code n at)
+abbrev pub withItems : Setting → List ℕ → PrimitiveCode → ℕ → ℕ → ℕ → Heading
+withItems σ s code id n at = onField (λ end. plain id end n) (itemsAt σ s code n at)
 
 -- 15 primitive array: ObjectId, length, code, items
-unfoldable pub primitiveArrayAt : Terms → List ℕ → List Row → ℕ → Heading
-primitiveArrayAt τ s rows at =
+unfoldable pub primitiveArrayAt : Setting → List ℕ → List Row → ℕ → Heading
+primitiveArrayAt σ s rows at =
     onNumber (λ id p.
     pick (goodId rows id)
-    (onNumber (λ n q. pick (negative n) (H.Bad R.BadCount) (onField (withItems τ s (coded (primitiveOf (getD s q 0))) id n) (codeAt s q))) (u32At s p))
+    (onNumber (λ n q. pick (negative n) (H.Bad R.BadCount) (onField (withItems σ s (coded (primitiveOf (getD s q 0))) id n) (codeAt s q))) (u32At s p))
     (H.Bad R.BadId))
     (u32At s (at + 1))
 
@@ -238,55 +243,55 @@ lengthsAt s zero product at = pick (leb product 2147483647) (L.Product product a
 lengthsAt s (suc k) product at = onLength (λ n next. lengthsAt s k (product * n) next) (u32At s at)
 
 -- items of a type: primitive ones follow at once, the others fill slots
-abbrev pub itemsOf : Terms → List ℕ → ℕ → ℕ → ℕ → ℕ → SlotType → Heading
-itemsOf τ s id n infos at (S.Primitive c) = withItems τ s c id n at
-itemsOf τ s id n infos at S.Text = slotted id at n (alike S.Text infos)
-itemsOf τ s id n infos at S.Object = slotted id at n (alike S.Object infos)
-itemsOf τ s id n infos at S.SystemClass = slotted id at n (alike S.SystemClass infos)
-itemsOf τ s id n infos at S.Class = slotted id at n (alike S.Class infos)
-itemsOf τ s id n infos at S.ObjectArray = slotted id at n (alike S.ObjectArray infos)
-itemsOf τ s id n infos at S.StringArray = slotted id at n (alike S.StringArray infos)
-itemsOf τ s id n infos at (S.PrimitiveArray c) = slotted id at n (alike (S.PrimitiveArray c) infos)
+abbrev pub itemsOf : Setting → List ℕ → ℕ → ℕ → ℕ → ℕ → SlotType → Heading
+itemsOf σ s id n infos at (S.Primitive c) = withItems σ s c id n at
+itemsOf σ s id n infos at S.Text = slotted id at n (alike S.Text infos)
+itemsOf σ s id n infos at S.Object = slotted id at n (alike S.Object infos)
+itemsOf σ s id n infos at S.SystemClass = slotted id at n (alike S.SystemClass infos)
+itemsOf σ s id n infos at S.Class = slotted id at n (alike S.Class infos)
+itemsOf σ s id n infos at S.ObjectArray = slotted id at n (alike S.ObjectArray infos)
+itemsOf σ s id n infos at S.StringArray = slotted id at n (alike S.StringArray infos)
+itemsOf σ s id n infos at (S.PrimitiveArray c) = slotted id at n (alike (S.PrimitiveArray c) infos)
 
 -- the type byte and detail of the items
-unfoldable pub itemTypeAt : Terms → List ℕ → List Row → ℕ → ℕ → ℕ → Heading
-itemTypeAt τ s rows id n types =
-    onField (λ infos. onField (λ end. itemsOf τ s id n infos end (typedAt s types infos .slot)) (infoKnown τ s rows (getD s types 0) infos))
+unfoldable pub itemTypeAt : Setting → List ℕ → List Row → ℕ → ℕ → ℕ → Heading
+itemTypeAt σ s rows id n types =
+    onField (λ infos. onField (λ end. itemsOf σ s id n infos end (typedAt s types infos .slot)) (infoKnown σ s rows (getD s types 0) infos))
     (typeByteAt s types)
 
 -- rank and lengths
-unfoldable pub rankAt : Terms → List ℕ → List Row → ℕ → ℕ → ℕ → Heading
-rankAt τ s rows id type at =
-    onNumber (λ rank p. pick (goodRank type rank) (onSlots (itemTypeAt τ s rows id) (lengthsAt s rank 1 p)) (H.Bad R.BadCount)) (u32At s at)
+unfoldable pub rankAt : Setting → List ℕ → List Row → ℕ → ℕ → ℕ → Heading
+rankAt σ s rows id type at =
+    onNumber (λ rank p. pick (goodRank type rank) (onSlots (itemTypeAt σ s rows id) (lengthsAt s rank 1 p)) (H.Bad R.BadCount)) (u32At s at)
 
 -- an array type: 0 to 2 are taken, 3 to 5 refused by name
-abbrev pub arrayTypeAt : Terms → List ℕ → List Row → ℕ → ℕ → Heading
-arrayTypeAt τ s rows id at =
+abbrev pub arrayTypeAt : Setting → List ℕ → List Row → ℕ → ℕ → Heading
+arrayTypeAt σ s rows id at =
     pick (ltb at (length s))
-    (pick (leb (getD s at 0) 2) (rankAt τ s rows id (getD s at 0) (at + 1)) (pick (leb (getD s at 0) 5) (H.Bad R.NotTaken) (H.Bad R.BadType)))
+    (pick (leb (getD s at 0) 2) (rankAt σ s rows id (getD s at 0) (at + 1)) (pick (leb (getD s at 0) 5) (H.Bad R.NotTaken) (H.Bad R.BadType)))
     (H.Bad R.CutShort)
 
 -- 7 BinaryArray: ObjectId, array type, rank, lengths, type byte, type info
-unfoldable pub binaryArrayAt : Terms → List ℕ → List Row → ℕ → Heading
-binaryArrayAt τ s rows at = onNumber (λ id p. pick (goodId rows id) (arrayTypeAt τ s rows id p) (H.Bad R.BadId)) (u32At s (at + 1))
+unfoldable pub binaryArrayAt : Setting → List ℕ → List Row → ℕ → Heading
+binaryArrayAt σ s rows at = onNumber (λ id p. pick (goodId rows id) (arrayTypeAt σ s rows id p) (H.Bad R.BadId)) (u32At s (at + 1))
 
 -- ---- the fields of a record of a kind that is taken; 10 and 11 have none
 
 unfoldable pub headingAt : Terms → List ℕ → List Row → ℕ → ℕ → Heading
 headingAt τ s rows k at =
     pick (eqb k 0) (headerAt s at)
-    (pick (eqb k 1) (classByIdAt s rows at)
-    (pick (eqb k 4) (classAt τ s rows false at)
-    (pick (eqb k 5) (classAt τ s rows true at)
-    (pick (eqb k 6) (stringRecordAt τ s rows at)
-    (pick (eqb k 7) (binaryArrayAt τ s rows at)
-    (pick (eqb k 8) (typedPrimitiveAt τ s at)
+    (pick (eqb k 1) (classByIdAt (τ .book) s rows at)
+    (pick (eqb k 4) (classAt (τ .setting) s rows false at)
+    (pick (eqb k 5) (classAt (τ .setting) s rows true at)
+    (pick (eqb k 6) (stringRecordAt (τ .setting) s rows at)
+    (pick (eqb k 7) (binaryArrayAt (τ .setting) s rows at)
+    (pick (eqb k 8) (typedPrimitiveAt (τ .setting) s at)
     (pick (eqb k 9) (referenceAt s at)
     (pick (eqb k 10) (plain 0 (at + 1) 1)
     (pick (eqb k 11) (plain 0 (at + 1) 0)
-    (pick (eqb k 12) (libraryAt τ s rows at)
+    (pick (eqb k 12) (libraryAt (τ .setting) s rows at)
     (pick (eqb k 13) (nullsAt s at)
     (pick (eqb k 14) (longNullsAt s at)
-    (pick (eqb k 15) (primitiveArrayAt τ s rows at)
+    (pick (eqb k 15) (primitiveArrayAt (τ .setting) s rows at)
     (pick (eqb k 16) (slotArrayAt s rows S.Object at)
     (slotArrayAt s rows S.Text at)))))))))))))))

@@ -43,6 +43,7 @@ numberOf R.NoRoot = 18
 numberOf R.NoObject = 19
 numberOf R.OutFull = 20
 numberOf R.NoSuchRow = 21
+numberOf R.BadBook = 22
 
 -- what an answer says: 0 or the refusal's number, its place, and the value: how many rows, how long the copy is or would be
 pub record Reply : Type 0 where
@@ -109,10 +110,10 @@ ofQuestion (Text.Part from to) = reply 0 0 0
 ofQuestion (Text.Fault f) = reply 21 0 0
 
 -- a tidying of s into an output that held d: how long the copy is or would be, or the refusal of the reading and its place
-abbrev pub ofTidying : List ℕ → List ℕ → Outcome → Reply
-ofTidying s d (accepted rows) =
-    pick (fits (tidyOf (says s rows)) d) (reply 0 0 (length (tidyOf (says s rows)))) (reply 20 0 (length (tidyOf (says s rows))))
-ofTidying s d (refused r place) = reply (numberOf r) place 0
+abbrev pub ofTidying : (β s d : List ℕ) → Outcome → Reply
+ofTidying β s d (accepted rows) =
+    pick (fits (tidyOf (says β s rows)) d) (reply 0 0 (length (tidyOf (says β s rows)))) (reply 20 0 (length (tidyOf (says β s rows))))
+ofTidying β s d (refused r place) = reply (numberOf r) place 0
 
 -- a comparing, by the replies of both tidyings: the first that is not 0, else 0 without a value
 abbrev pub ofComparing : Reply → Reply → Reply

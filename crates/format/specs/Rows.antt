@@ -47,6 +47,10 @@ isObject kind =
 abbrev pub isClass : ℕ → Bool
 isClass kind = eqb kind 4 || eqb kind 5
 
+-- kinds 2 and 3, whose types stand in the class book
+abbrev pub isUntyped : ℕ → Bool
+isUntyped kind = eqb kind 2 || eqb kind 3
+
 -- ---- lookups: the number of the first row that passes, plus 1; 0 if there is none
 
 unfoldable pub findFrom : (Row → Bool) → ℕ → List Row → ℕ

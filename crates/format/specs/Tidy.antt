@@ -10,8 +10,8 @@ use Rattle.format.specs.declared.TidyAnswer.the-variants as A
 use Rattle.format.specs.Bytes.{pick, sameBytes, laid}
 use Rattle.format.specs.Types.{codeNumber}
 use Rattle.format.specs.Machine.{Outcome, accepted, refused, tableWords}
-use Rattle.format.specs.Contents.{Prefixed, bare, shortest, hasPrefix, Detail, primitive, text, object, system, class, objects, texts, primitives, Member, typeByte, Rec, header, classById, systemClass, libraryClass, string, array, typedPrimitive, reference, null, nulls, manyNulls, end, library, primitiveArray, objectArray, stringArray, value, encs}
-use Rattle.format.specs.Says.{From, theSystem, theLibrary, Class, What, anObject, aString, anArray, aPrimitive, aReference, aNull, aPrimitiveArray, anObjectArray, aStringArray, aValue, Node, Model, codeOf, says}
+use Rattle.format.specs.Contents.{Prefixed, bare, shortest, hasPrefix, Detail, primitive, text, object, system, class, objects, texts, primitives, Member, typeByte, Rec, header, classById, systemClass, libraryClass, string, array, typedPrimitive, reference, null, nulls, manyNulls, end, library, primitiveArray, objectArray, stringArray, value, encs, From, theSystem, theLibrary, Class, sameFrom}
+use Rattle.format.specs.Says.{What, anObject, aString, anArray, aPrimitive, aReference, aNull, aPrimitiveArray, anObjectArray, aStringArray, aValue, Node, Model, codeOf, says}
 
 -- ---- distinct classes: name, system or library name, member names and types in order
 
@@ -43,12 +43,6 @@ sameMembers [] [] = true
 sameMembers [] (m ∷ ms) = false
 sameMembers (m ∷ ms) [] = false
 sameMembers (m ∷ ms) (n ∷ ns) = (sameBytes (m .name) (n .name) && sameDetail (m .type) (n .type)) && sameMembers ms ns
-
-abbrev pub sameFrom : From → From → Bool
-sameFrom theSystem theSystem = true
-sameFrom theSystem (theLibrary n) = false
-sameFrom (theLibrary m) theSystem = false
-sameFrom (theLibrary m) (theLibrary n) = sameBytes m n
 
 unfoldable pub sameClass : Class → Class → Bool
 sameClass c d = sameBytes (c .name) (d .name) && (sameFrom (c .from) (d .from) && sameMembers (c .members) (d .members))
@@ -260,17 +254,17 @@ fits copy out = leb (length copy) (length out) && leb (length copy) 16777216
 abbrev pub answerBy : List ℕ → List ℕ → TidyAnswer
 answerBy copy out = pick (fits copy out) (A.Written (length copy)) (A.OutFull (length copy))
 
-unfoldable pub tidyAnswer : List ℕ → List ℕ → Outcome → TidyAnswer
-tidyAnswer s out (accepted rows) = answerBy (tidyOf (says s rows)) out
-tidyAnswer s out (refused r place) = A.Refused r place
+unfoldable pub tidyAnswer : (β s out : List ℕ) → Outcome → TidyAnswer
+tidyAnswer β s out (accepted rows) = answerBy (tidyOf (says β s rows)) out
+tidyAnswer β s out (refused r place) = A.Refused r place
 
 abbrev pub outBy : List ℕ → List ℕ → List ℕ
 outBy copy out = pick (fits copy out) (laid copy out) out
 
-unfoldable pub tidyOutput : List ℕ → List ℕ → Outcome → List ℕ
-tidyOutput s out (accepted rows) = outBy (tidyOf (says s rows)) out
-tidyOutput s out (refused r place) = out
+unfoldable pub tidyOutput : (β s out : List ℕ) → Outcome → List ℕ
+tidyOutput β s out (accepted rows) = outBy (tidyOf (says β s rows)) out
+tidyOutput β s out (refused r place) = out
 
-unfoldable pub tidyTable : ℕ → List ℕ → List ℕ → Outcome → List ℕ
-tidyTable n s out (accepted rows) = pick (fits (tidyOf (says s rows)) out) (tableWords n (accepted rows)) (replicate n 0)
-tidyTable n s out (refused r place) = replicate n 0
+unfoldable pub tidyTable : ℕ → (β s out : List ℕ) → Outcome → List ℕ
+tidyTable n β s out (accepted rows) = pick (fits (tidyOf (says β s rows)) out) (tableWords n (accepted rows)) (replicate n 0)
+tidyTable n β s out (refused r place) = replicate n 0

@@ -152,11 +152,35 @@ afterInfo s type at =
     (pick (eqb type 4) (afterNumber s (afterText s at))
     at))
 
--- the type of the slot after this one
-unfoldable pub moved : List ℕ → Typed → Typed
-moved s t =
+-- In the class book the detail of a type stands right after its type byte, then the next member's name, then its type byte. The place of a detail in the
+-- book need not be kept, and so 0 as this place says that the type stands in the book.
+abbrev pub bookTyped : List ℕ → ℕ → Typed
+bookTyped β types = record { slot = slotOf (getD β types 0) (getD β (types + 1) 0); types = types; infos = 0 }
+
+-- the place of the type byte after this one in the book
+abbrev pub nextBooked : List ℕ → ℕ → ℕ
+nextBooked β types = afterText β (afterInfo β (getD β types 0) (past (length β) types))
+
+-- places in a book that was judged before: after a member, after n members, of an entry's member count, and after an entry
+abbrev pub afterMember : List ℕ → ℕ → ℕ
+afterMember β at = afterInfo β (getD β (afterText β at) 0) (past (length β) (afterText β at))
+
+unfoldable pub afterMembers : List ℕ → ℕ → ℕ → ℕ
+afterMembers β zero at = at
+afterMembers β (suc n) at = afterMembers β n (afterMember β at)
+
+abbrev pub countPlace : List ℕ → ℕ → ℕ
+countPlace β at = pick (eqb (getD β at 0) 1) (afterText β (afterText β (at + 1))) (afterText β (at + 1))
+
+abbrev pub afterEntry : List ℕ → ℕ → ℕ
+afterEntry β at = afterMembers β (getD β (countPlace β at) 0) (countPlace β at + 1)
+
+-- the type of the slot after this one, in the book or in the stream
+unfoldable pub moved : (β s : List ℕ) → Typed → Typed
+moved β s t =
     pick (eqb (t .types) 0) t
-    (typedAt s (past (length s) (t .types)) (afterInfo s (getD s (t .types) 0) (t .infos)))
+    (pick (eqb (t .infos) 0) (bookTyped β (nextBooked β (t .types)))
+    (typedAt s (past (length s) (t .types)) (afterInfo s (getD s (t .types) 0) (t .infos))))
 
 abbrev pub isPrimitive : SlotType → Bool
 isPrimitive (S.Primitive c) = true
@@ -169,14 +193,14 @@ isPrimitive S.StringArray = false
 isPrimitive (S.PrimitiveArray c) = false
 
 -- n slots on, none of them primitive
-unfoldable pub passed : List ℕ → Typed → ℕ → Passed
-passed s t zero = O.Over t
-passed s t (suc n) = pick (isPrimitive (t .slot)) O.Crossed (passed s (moved s t) n)
+unfoldable pub passed : (β s : List ℕ) → Typed → ℕ → Passed
+passed β s t zero = O.Over t
+passed β s t (suc n) = pick (isPrimitive (t .slot)) O.Crossed (passed β s (moved β s t) n)
 
-abbrev pub passedBy : Bool → List ℕ → Typed → ℕ → Passed
-passedBy true s t n = O.Over t
-passedBy false s t n = passed s t n
+abbrev pub passedBy : Bool → (β s : List ℕ) → Typed → ℕ → Passed
+passedBy true β s t n = O.Over t
+passedBy false β s t n = passed β s t n
 
 -- a null run of n: the slots of an array are alike, and none of them is walked
-unfoldable pub passedOf : List ℕ → Typed → ℕ → Passed
-passedOf s t n = passedBy (eqb (t .types) 0) s t n
+unfoldable pub passedOf : (β s : List ℕ) → Typed → ℕ → Passed
+passedOf β s t n = passedBy (eqb (t .types) 0) β s t n

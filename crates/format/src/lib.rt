@@ -1,6 +1,6 @@
 // What the promises speak of: the refusals by name, the answers of the four public jobs, primitive codes and slot types, the two
 // counts, rows, frames, and what the readers of fields answer. The definitions that use them stand in specs/, in the order of the
-// format: replies, numbers, prefix, text, values, types, rows, records, machine, view, contents, grammar, says, tidy. After them stand the
+// format: replies, numbers, prefix, text, values, types, entries, rows, records, machine, view, contents, book, grammar, says, tidy. After them stand the
 // promises of the jobs, and worked examples that hold the definitions.
 ghost use mathlib.Core.Path.{_≡_};
 ghost use lib.ListN.{replicate};
@@ -32,6 +32,7 @@ pub enum Refusal {
     NoObject,
     OutFull,
     NoSuchRow,
+    BadBook,
 }
 
 // The number of a refusal.
@@ -60,6 +61,7 @@ pub fn number_of(r: Refusal) -> u32
         Refusal::NoObject => 19,
         Refusal::OutFull => 20,
         Refusal::NoSuchRow => 21,
+        Refusal::BadBook => 22,
     }
 }
 

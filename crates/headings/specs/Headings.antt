@@ -6,6 +6,7 @@ use mathlib.Core.List.{List}
 use lib.ListN.{getD}
 use borrow.Author.Tests.{ne-eqb}
 use Rattle.format.specs.Terms.{Terms}
+use Rattle.format.specs.declared.Setting.{Setting}
 use Rattle.format.specs.declared.Refusal.{Refusal}
 use Rattle.format.specs.declared.Refusal.the-variants as R
 use Rattle.format.specs.declared.SlotType.the-variants as S
@@ -34,27 +35,27 @@ module _ (τ : Terms) (s : List ℕ) (rows : List Row) (k at : ℕ) where
   unfolding headingAt
   header-heading h = rw h
 
-  pub by-id-heading : k ≡ 1 → headingAt τ s rows k at ≡ classByIdAt s rows at
+  pub by-id-heading : k ≡ 1 → headingAt τ s rows k at ≡ classByIdAt (τ .book) s rows at
   unfolding headingAt
   by-id-heading h = rw h
 
-  pub system-heading : k ≡ 4 → headingAt τ s rows k at ≡ classAt τ s rows false at
+  pub system-heading : k ≡ 4 → headingAt τ s rows k at ≡ classAt (τ .setting) s rows false at
   unfolding headingAt
   system-heading h = rw h
 
-  pub class-heading : k ≡ 5 → headingAt τ s rows k at ≡ classAt τ s rows true at
+  pub class-heading : k ≡ 5 → headingAt τ s rows k at ≡ classAt (τ .setting) s rows true at
   unfolding headingAt
   class-heading h = rw h
 
-  pub string-heading : k ≡ 6 → headingAt τ s rows k at ≡ stringRecordAt τ s rows at
+  pub string-heading : k ≡ 6 → headingAt τ s rows k at ≡ stringRecordAt (τ .setting) s rows at
   unfolding headingAt
   string-heading h = rw h
 
-  pub array-heading : k ≡ 7 → headingAt τ s rows k at ≡ binaryArrayAt τ s rows at
+  pub array-heading : k ≡ 7 → headingAt τ s rows k at ≡ binaryArrayAt (τ .setting) s rows at
   unfolding headingAt
   array-heading h = rw h
 
-  pub typed-heading : k ≡ 8 → headingAt τ s rows k at ≡ typedPrimitiveAt τ s at
+  pub typed-heading : k ≡ 8 → headingAt τ s rows k at ≡ typedPrimitiveAt (τ .setting) s at
   unfolding headingAt
   typed-heading h = rw h
 
@@ -70,7 +71,7 @@ module _ (τ : Terms) (s : List ℕ) (rows : List Row) (k at : ℕ) where
   unfolding headingAt
   end-heading h = rw h
 
-  pub library-heading : k ≡ 12 → headingAt τ s rows k at ≡ libraryAt τ s rows at
+  pub library-heading : k ≡ 12 → headingAt τ s rows k at ≡ libraryAt (τ .setting) s rows at
   unfolding headingAt
   library-heading h = rw h
 
@@ -82,7 +83,7 @@ module _ (τ : Terms) (s : List ℕ) (rows : List Row) (k at : ℕ) where
   unfolding headingAt
   long-nulls-heading h = rw h
 
-  pub primitives-heading : k ≡ 15 → headingAt τ s rows k at ≡ primitiveArrayAt τ s rows at
+  pub primitives-heading : k ≡ 15 → headingAt τ s rows k at ≡ primitiveArrayAt (τ .setting) s rows at
   unfolding headingAt
   primitives-heading h = rw h
 
@@ -129,20 +130,20 @@ unfolding onJudged
 hollow-judged test refusal good (N32.Value v p) h = hollow-pick (test v) (good v p) (H.Bad refusal) (h v p) tt
 hollow-judged test refusal good N32.Short h = tt
 
-module _ (τ : Terms) (s : List ℕ) (at : ℕ) where
-  named-hollow : (id p : ℕ) → Hollow (namedAt τ s id p)
+module _ (σ : Setting) (s : List ℕ) (at : ℕ) where
+  named-hollow : (id p : ℕ) → Hollow (namedAt σ s id p)
   unfolding namedAt
-  named-hollow id p = hollow-field (λ end. plain id end 0) (nameAt (τ .setting) s p) (λ e. refl)
+  named-hollow id p = hollow-field (λ end. plain id end 0) (nameAt σ s p) (λ e. refl)
 
-  pub string-hollow : (rows : List Row) → Hollow (stringRecordAt τ s rows at)
-  string-hollow rows = rw (string-parts τ s at rows) (hollow-judged (goodId rows) R.BadId (namedAt τ s) (u32At s (at + 1)) named-hollow)
+  pub string-hollow : (rows : List Row) → Hollow (stringRecordAt σ s rows at)
+  string-hollow rows = rw (string-parts σ s at rows) (hollow-judged (goodId rows) R.BadId (namedAt σ s) (u32At s (at + 1)) named-hollow)
 
-  pub typed-hollow : Hollow (typedPrimitiveAt τ s at)
+  pub typed-hollow : Hollow (typedPrimitiveAt σ s at)
   unfolding typedPrimitiveAt
   typed-hollow =
       let code = coded (primitiveOf (getD s (at + 1) 0)) in
-      hollow-field (λ p. onField (λ end. plain 0 end 0) (valueAt (τ .setting) s code p)) (codeAt s (at + 1)) (λ p.
-      hollow-field (λ end. plain 0 end 0) (valueAt (τ .setting) s code p) (λ e. refl))
+      hollow-field (λ p. onField (λ end. plain 0 end 0) (valueAt σ s code p)) (codeAt s (at + 1)) (λ p.
+      hollow-field (λ end. plain 0 end 0) (valueAt σ s code p) (λ e. refl))
 
 module _ (s : List ℕ) (at : ℕ) where
   pub reference-hollow : Hollow (referenceAt s at)

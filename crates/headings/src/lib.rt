@@ -15,13 +15,21 @@ ghost use Rattle.format.specs.Terms.{terms};
 
 // The fields of a record of a kind that is taken and not brief; each function has the name and section of its record in MS-NRBF. 11, MessageEnd
 // (2.6.3), has none.
-pub fn heading_at(s: &[u8], table: &[u32], n: usize, k: u8, at: usize, setting: Setting) -> Heading
+pub fn heading_at(
+    s: &[u8],
+    book: &[u8],
+    table: &[u32],
+    n: usize,
+    k: u8,
+    at: usize,
+    setting: Setting,
+) -> Heading
     requires { ⌜ (n ≤ roomOf (now table)) × (length (now s) ≤ 16777216) × (n ≤ 16777216) × (at < length (now s)) × (isBrief k ≡ false) ⌝ }
-    ensures { λ r. ⌜ r ≡ headingAt (terms setting) (now (s .entry)) (rowsOf n (now (table .entry))) k at ⌝ }
+    ensures { λ r. ⌜ r ≡ headingAt (terms setting (now (book .entry))) (now (s .entry)) (rowsOf n (now (table .entry))) k at ⌝ }
 {
     match k {
         0 => records::header_at(s, at),
-        1 => class_by_id::class_by_id_at(s, table, n, at),
+        1 => class_by_id::class_by_id_at(s, book, table, n, at),
         4 => {
             let h = classes::class_at(s, table, n, false, at, setting);
             h
@@ -44,9 +52,17 @@ pub fn heading_at(s: &[u8], table: &[u32], n: usize, k: u8, at: usize, setting: 
 // ---- brief kinds
 
 // The fields of a record of a brief kind. It has no slots of its own.
-pub fn brief_at(s: &[u8], table: &[u32], n: usize, k: u8, at: usize, setting: Setting) -> Heading
+pub fn brief_at(
+    s: &[u8],
+    book: &[u8],
+    table: &[u32],
+    n: usize,
+    k: u8,
+    at: usize,
+    setting: Setting,
+) -> Heading
     requires { ⌜ (isBrief k ≡ true) × (n ≤ roomOf (now table)) × (at < length (now s)) ⌝ }
-    ensures { λ r. ⌜ (r ≡ headingAt (terms setting) (now (s .entry)) (rowsOf n (now (table .entry))) k at) × Hollow r ⌝ }
+    ensures { λ r. ⌜ (r ≡ headingAt (terms setting (now (book .entry))) (now (s .entry)) (rowsOf n (now (table .entry))) k at) × Hollow r ⌝ }
 {
     match k {
         6 => records::string_record_at(s, table, n, at, setting),

@@ -9,3 +9,4 @@ pub mod Runs
 pub mod Ids
 pub mod Links
 pub mod Answers
+pub mod Classes

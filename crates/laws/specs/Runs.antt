@@ -7,8 +7,8 @@ use native.Mathlib.Omega.{arith}
 use lib.ListN.{length, length-append}
 use lib.Dec.{eqb}
 use Rattle.format.specs.Bytes.{pick, sameBytes}
-use Rattle.format.specs.Contents.{shortest, Rec, library, enc, encs}
-use Rattle.format.specs.Says.{Class, From, theSystem, theLibrary, What, anObject, aString, anArray, aPrimitive, aReference, aNull, aPrimitiveArray, anObjectArray, aStringArray, aValue}
+use Rattle.format.specs.Contents.{shortest, Rec, library, enc, encs, Class, From, theSystem, theLibrary}
+use Rattle.format.specs.Says.{What, anObject, aString, anArray, aPrimitive, aReference, aNull, aPrimitiveArray, anObjectArray, aStringArray, aValue}
 use Rattle.format.specs.Tidy.{sameClass, numberIn, Progress, Libraries, libraryRecords, allEntered, entered, classNeeds, detailNeeds, classBy, objectBy, recordsOf, Standing, ownedBy, runOf, isNull, Run, noRun, written, waiting, squeeze}
 
 pub encs-append : (a b : List Rec) → encs (a ++ b) ≡ encs a ++ encs b

@@ -10,9 +10,8 @@ use borrow.Author.Tests.{eq-eqb, eqb-true}
 use Rattle.format.specs.declared.PrimitiveCode.{PrimitiveCode}
 use Rattle.format.specs.Bytes.{pick, sameBytes}
 use Rattle.format.specs.Types.{codeNumber, coded, primitiveOf}
-use Rattle.format.specs.Contents.{Detail, primitive, text, object, system, class, objects, texts, primitives, Member, typeByte}
-use Rattle.format.specs.Says.{From, theSystem, theLibrary, Class}
-use Rattle.format.specs.Tidy.{detailName, detailLibrary, sameDetail, sameMembers, sameFrom, sameClass}
+use Rattle.format.specs.Contents.{Detail, primitive, text, object, system, class, objects, texts, primitives, Member, typeByte, From, theSystem, theLibrary, Class, sameFrom}
+use Rattle.format.specs.Tidy.{detailName, detailLibrary, sameDetail, sameMembers, sameClass}
 pub use Rattle.fields.specs.Tests.{bool-ext, both-of}
 use Rattle.codes.specs.Codes.{primitive-number}
 use Rattle.same.specs.Laws.{same-eq, same-refl}

@@ -4,7 +4,7 @@ use format::ObjectNo;
 ghost use mathlib.Core.Path.{_≡_};
 ghost use Prim.Native.Nat.{_≤_, _<_};
 ghost use lib.ListN.{getD};
-ghost use Rattle.format.specs.Rows.{blank, roomOf, rowsOf, isObject, isClass, findFrom, objectRow, classRow, libraryRow};
+ghost use Rattle.format.specs.Rows.{blank, roomOf, rowsOf, isObject, isClass, isUntyped, findFrom, objectRow, classRow, libraryRow};
 ghost use Rattle.lookups.specs.Find.{idOf, isOf, named};
 
 // What is looked up, by its number. Object numbers and library numbers are two separate counts; a class is a record of kind 4 or 5 and has the
@@ -41,6 +41,17 @@ pub fn is_class(kind: u32) -> bool
     match kind {
         4 => true,
         5 => true,
+        _ => false,
+    }
+}
+
+// Whether the types of a class of this kind stand in the class book.
+pub fn is_untyped(kind: u32) -> bool
+    ensures { λ r. ⌜ r ≡ isUntyped kind ⌝ }
+{
+    match kind {
+        2 => true,
+        3 => true,
         _ => false,
     }
 }

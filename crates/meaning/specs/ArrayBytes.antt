@@ -84,7 +84,7 @@ lengths-is s byte o rank p d h n =
 
 module _ (τ : Terms) (s : List ℕ) (byte : Bytes s) (rows rs : List Row) (ls : Libraries) where
   array-bytes : (o id rank p e : ℕ) (vs : List Prefixed) (items : List ℕ) → p ≡ o + 10 + 4 * rank → numberFrom s (o + 6) ≡ rank → typeByteAt s p ≡ F.End (p + 1)
-      → infoKnown τ s rows (getD s p 0) (p + 1) ≡ F.End e → (getD s p 0 ≡ 4 → Numbered s rows rs ls (e - 4)) → items ≡ itemsBytes vs
+      → infoKnown (τ .setting) s rows (getD s p 0) (p + 1) ≡ F.End e → (getD s p 0 ≡ 4 → Numbered s rows rs ls (e - 4)) → items ≡ itemsBytes vs
       → headOut 7 id ++ (between s (o + 5) (p + 1) ++ (infoOut s rs (getD s p 0) (p + 1) e ++ items))
       ≡ enc (array id (getD s (o + 5) 0) (numbersFrom s rank (o + 10)) (detailBy ls (detailFrom s rows (getD s p 0) (p + 1))) vs)
   unfolding enc
@@ -104,7 +104,7 @@ module _ (τ : Terms) (s : List ℕ) (byte : Bytes s) (rows rs : List Row) (ls :
 -- what stands at the item type
 record ItemStands (τ : Terms) (s : List ℕ) (rows : List Row) (r : Row) : Type 0 where
   typed : typeByteAt s (itemType s r) ≡ F.End (itemType s r + 1)
-  known : infoKnown τ s rows (getD s (itemType s r) 0) (itemType s r + 1) ≡ F.End (itemsPlace s r)
+  known : infoKnown (τ .setting) s rows (getD s (itemType s r) 0) (itemType s r + 1) ≡ F.End (itemsPlace s r)
   items : getD s (itemType s r) 0 ≡ 0 → itemsAt (τ .setting) s (codeFrom s (itemType s r + 1)) (r .count) (itemsPlace s r) ≡ F.End (r .end)
   no-items : (getD s (itemType s r) 0 ≡ 0 → ⊥) → r .end ≡ itemsPlace s r
   inside : itemsPlace s r ≤ length s
@@ -113,7 +113,7 @@ item-stands : (τ : Terms) (s : List ℕ) (rows : List Row) (r : Row) → ArrayS
 unfolding itemType
 item-stands τ s rows r c =
     let n : c .rank ≡ numberFrom s (r .offset + 6) = u32-says s (r .offset + 6) (c .rank) (r .offset + 10) (c .ranked) .value in
-    let known = subst (λ (k : ℕ). infoKnown τ s rows (getD s (r .offset + 10 + 4 * k) 0) (r .offset + 10 + 4 * k + 1) ≡ F.End (c .info-end)) n (c .info) in
+    let known = subst (λ (k : ℕ). infoKnown (τ .setting) s rows (getD s (r .offset + 10 + 4 * k) 0) (r .offset + 10 + 4 * k + 1) ≡ F.End (c .info-end)) n (c .info) in
     let place = info-place τ s rows (getD s (itemType s r) 0) (itemType s r + 1) (c .info-end) known in
     record {
       typed = subst (λ (k : ℕ). typeByteAt s (r .offset + 10 + 4 * k) ≡ F.End (r .offset + 10 + 4 * k + 1)) n (c .typed);
@@ -159,7 +159,7 @@ module _ (τ : Terms) (s : List ℕ) (rows : List Row) (r : Row) (c : ArrayStand
           ≡ itemsBytes (valuesBy (codeOf (arrayItem s rows r)) (arrayItems s r))
       go (yes z) =
           let plain : codeAt s at ≡ F.End (itemsPlace s r) =
-          subst (λ (t : ℕ). infoAt (τ .setting) s t at ≡ F.End (itemsPlace s r)) z (info-plain τ s rows type at (itemsPlace s r) (i .known)) in
+          subst (λ (t : ℕ). infoAt (τ .setting) s t at ≡ F.End (itemsPlace s r)) z (info-plain (τ .setting) s rows type at (itemsPlace s r) (i .known)) in
           let code : getD s at 0 ≡ codeNumber (codeFrom s at) = code-is s at (itemsPlace s r) plain in
           ap₂ (λ (t k : ℕ). valuesOut s (eqb t 0 && eqb k (anewIn (τ .setting))) (r .count) (itemsPlace s r) (r .end)) z code
           ∙ (items-are τ s byte (codeFrom s at) (r .count) (itemsPlace s r) (r .end) (i .inside) (i .items z)

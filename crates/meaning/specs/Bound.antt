@@ -15,8 +15,10 @@ use Rattle.format.specs.Bytes.{pick}
 use Rattle.format.specs.Rows.{blank, isObject, withLink, linkOf, linked, boundLink, bound}
 use Rattle.format.specs.Machine.{accepted, rawOf}
 use Rattle.format.specs.Types.{afterText, afterInfo}
-use Rattle.format.specs.Says.{numberFrom, libraryName, detailFrom, membersFrom, classFrom, arrayFrom, objectsIn, orderOf, Node, whatFrom, nodesOf, nodesFrom, says, classRowOf, codeIn, valueCode, Class}
+use Rattle.format.specs.Contents.{Class}
+use Rattle.format.specs.Says.{numberFrom, libraryName, detailFrom, membersFrom, typedFrom, untypedFrom, classFrom, arrayFrom, objectsIn, orderOf, Node, whatFrom, nodesOf, nodesFrom, says, classRowOf, codeIn, valueCode}
 use Rattle.format.specs.Tidy.{tidyOf}
+use Rattle.laws.specs.Classes.{class-blind}
 use Rattle.standing.specs.Standing.{Standing}
 use Rattle.standing.specs.Accepted.{raw-stands}
 use Rattle.standing.specs.Linked.{relinked, linked-is, bound-is, length-all, row-at, same-at, same-offset, library-linked, link-at, Links, by-link, by-bound}
@@ -55,79 +57,78 @@ module _ (s : List ℕ) (f : Row → ℕ) (raw : List Row) where
   members-all (suc n) names types infos =
       rw (detail-all (getD s types 0) infos, members-all n (afterText s names) (types + 1) (afterInfo s (getD s types 0) infos)) refl
 
-  class-all : (r : Row) → classFrom s all r ≡ classFrom s raw r
-  unfolding classFrom
-  class-all r = rw (name-all (numberFrom s (r .end - 4)), members-all (r .count)) refl
-
   array-all : (r : Row) → arrayFrom s all r ≡ arrayFrom s raw r
   unfolding arrayFrom
   array-all r = rw detail-all refl
 
-  -- a class does not see a link
-  class-at : (i : ℕ) → classFrom s raw (getD all i blank) ≡ classFrom s raw (getD raw i blank)
-  unfolding classFrom
-  class-at i = same-at f raw (classFrom s raw) (λ r l. refl) i
+  module _ (β : List ℕ) where
+    class-all : (r : Row) → classFrom β s all r ≡ classFrom β s raw r
+    unfolding classFrom typedFrom untypedFrom
+    class-all r = rw (name-all (numberFrom s (r .end - 4)), members-all (r .count)) refl
 
-  -- nor does the class of an object, which is found by links of kind 1 alone
-  module _ (F : Links raw f) where
-    class-of : (i : ℕ) → classFrom s all (classRowOf all (getD all i blank)) ≡ classFrom s raw (classRowOf raw (getD raw i blank))
-    unfolding classFrom
-    class-of i = class-all (classRowOf all (getD all i blank)) ∙ go (decLt i (length raw))
-      where
-        o : Row
-        o = getD raw i blank
+    -- a class does not see a link
+    class-at : (i : ℕ) → classFrom β s raw (getD all i blank) ≡ classFrom β s raw (getD raw i blank)
+    class-at i = same-at f raw (classFrom β s raw) (class-blind β s raw) i
 
-        by-kind : (t : Bool) → eqb (getD raw i blank .kind) 1 ≡ t
-            → classFrom s raw (pick t (getD all (f (getD raw i blank) - 1) blank) (withLink (getD raw i blank) (f (getD raw i blank))))
-            ≡ classFrom s raw (pick t (getD raw (getD raw i blank .link - 1) blank) (getD raw i blank))
-        by-kind true t =
-            ap (λ (l : ℕ). classFrom s raw (getD all (l - 1) blank)) (F .own o (eqb-true (o .kind) 1 t)) ∙ class-at (o .link - 1)
-        by-kind false t = refl
+    -- nor does the class of an object, which is found by links of kind 1 alone
+    module _ (F : Links raw f) where
+      class-of : (i : ℕ) → classFrom β s all (classRowOf all (getD all i blank)) ≡ classFrom β s raw (classRowOf raw (getD raw i blank))
+      class-of i = class-all (classRowOf all (getD all i blank)) ∙ go (decLt i (length raw))
+        where
+          o : Row
+          o = getD raw i blank
 
-        go : Dec (i < length raw) → classFrom s raw (classRowOf all (getD all i blank)) ≡ classFrom s raw (classRowOf raw (getD raw i blank))
-        go (yes h) = ap (λ (x : Row). classFrom s raw (classRowOf all x)) (row-at f raw i h) ∙ by-kind (eqb (o .kind) 1) refl
-        go (no h) =
-            let l = length-all f raw in
-            ap (λ (x : Row). classFrom s raw (classRowOf all x)) (List·getD-eq-default all blank {n = i} (omega arith))
-            ∙ ap (λ (x : Row). classFrom s raw (classRowOf raw x)) (sym (List·getD-eq-default raw blank {n = i} (omega arith)))
+          by-kind : (t : Bool) → eqb (getD raw i blank .kind) 1 ≡ t
+              → classFrom β s raw (pick t (getD all (f (getD raw i blank) - 1) blank) (withLink (getD raw i blank) (f (getD raw i blank))))
+              ≡ classFrom β s raw (pick t (getD raw (getD raw i blank .link - 1) blank) (getD raw i blank))
+          by-kind true t =
+              ap (λ (l : ℕ). classFrom β s raw (getD all (l - 1) blank)) (F .own o (eqb-true (o .kind) 1 t)) ∙ class-at (o .link - 1)
+          by-kind false t = class-blind β s raw o (f o)
 
-    value-all : (r : Row) → valueCode s all r ≡ valueCode s raw r
-    unfolding valueCode
-    value-all r = ap (λ (c : Class). codeIn (c .members) (r .slot)) (class-of (r .owner - 1))
+          go : Dec (i < length raw) → classFrom β s raw (classRowOf all (getD all i blank)) ≡ classFrom β s raw (classRowOf raw (getD raw i blank))
+          go (yes h) = ap (λ (x : Row). classFrom β s raw (classRowOf all x)) (row-at f raw i h) ∙ by-kind (eqb (o .kind) 1) refl
+          go (no h) =
+              let l = length-all f raw in
+              ap (λ (x : Row). classFrom β s raw (classRowOf all x)) (List·getD-eq-default all blank {n = i} (omega arith))
+              ∙ ap (λ (x : Row). classFrom β s raw (classRowOf raw x)) (sym (List·getD-eq-default raw blank {n = i} (omega arith)))
 
-    what-all : (r : Row) → whatFrom s all r ≡ whatFrom s raw r
-    unfolding whatFrom
-    what-all r =
-        rw (class-all r, class-all (getD all (r .link - 1) blank), class-at (r .link - 1), array-all r, order-all (r .link), value-all r) refl
+      value-all : (r : Row) → valueCode β s all r ≡ valueCode β s raw r
+      unfolding valueCode
+      value-all r = ap (λ (c : Class). codeIn (c .members) (r .slot)) (class-of (r .owner - 1))
 
-    nodes-all : (r : Row) → nodesOf s all r ≡ nodesOf s raw r
-    unfolding nodesOf
-    nodes-all r = rw (what-all r, order-all (r .owner)) refl
+      what-all : (r : Row) → whatFrom β s all r ≡ whatFrom β s raw r
+      unfolding whatFrom
+      what-all r =
+          rw (class-all r, class-all (getD all (r .link - 1) blank), class-at (r .link - 1), array-all r, order-all (r .link), value-all r) refl
+
+      nodes-all : (r : Row) → nodesOf β s all r ≡ nodesOf β s raw r
+      unfolding nodesOf
+      nodes-all r = rw (what-all r, order-all (r .owner)) refl
 
 -- ---- by rows with other links
 
 module _ (τ : Terms) (s : List ℕ) (raw : List Row) (f g : Row → ℕ) (F : Links raw f) (G : Links raw g) where
   -- where a row says what its link names, the links are one
-  nodes-one : (r : Row) → nodesOf s raw (withLink r (f r)) ≡ nodesOf s raw (withLink r (g r))
-  unfolding nodesOf whatFrom classFrom arrayFrom valueCode
+  nodes-one : (r : Row) → nodesOf (τ .book) s raw (withLink r (f r)) ≡ nodesOf (τ .book) s raw (withLink r (g r))
+  unfolding nodesOf whatFrom classFrom typedFrom untypedFrom arrayFrom valueCode
   nodes-one r = go (eqb (r .kind) 1) refl (eqb (r .kind) 9) refl
     where
-      go : (a : Bool) → eqb (r .kind) 1 ≡ a → (b : Bool) → eqb (r .kind) 9 ≡ b → nodesOf s raw (withLink r (f r)) ≡ nodesOf s raw (withLink r (g r))
+      go : (a : Bool) → eqb (r .kind) 1 ≡ a → (b : Bool) → eqb (r .kind) 9 ≡ b → nodesOf (τ .book) s raw (withLink r (f r)) ≡ nodesOf (τ .book) s raw (withLink r (g r))
       go true x b y =
           let k = eqb-true (r .kind) 1 x in
-          ap (λ (l : ℕ). nodesOf s raw (withLink r l)) (F .own r k ∙ sym (G .own r k))
+          ap (λ (l : ℕ). nodesOf (τ .book) s raw (withLink r l)) (F .own r k ∙ sym (G .own r k))
       go false x true y =
           let k = eqb-true (r .kind) 9 y in
-          ap (λ (l : ℕ). nodesOf s raw (withLink r l)) (F .reference r k ∙ sym (G .reference r k))
+          ap (λ (l : ℕ). nodesOf (τ .book) s raw (withLink r l)) (F .reference r k ∙ sym (G .reference r k))
       go false x false y = rw (x, y) refl
 
-  nodes-same : (rows : List Row) → nodesFrom s (relinked f raw) (relinked f rows) ≡ nodesFrom s (relinked g raw) (relinked g rows)
+  nodes-same : (rows : List Row) → nodesFrom (τ .book) s (relinked f raw) (relinked f rows) ≡ nodesFrom (τ .book) s (relinked g raw) (relinked g rows)
   unfolding nodesFrom
   nodes-same [] = refl
   nodes-same (r ∷ rows) =
-      ap₂ (λ (x y : List Node). x ++ y) (nodes-all s f raw F (withLink r (f r)) ∙ (nodes-one r ∙ sym (nodes-all s g raw G (withLink r (g r))))) (nodes-same rows)
+      ap₂ (λ (x y : List Node). x ++ y) (nodes-all s f raw (τ .book) F (withLink r (f r)) ∙ (nodes-one r ∙ sym (nodes-all s g raw (τ .book) G (withLink r (g r))))) (nodes-same rows)
 
-  says-same : Standing τ s raw → says s (relinked f raw) ≡ says s (relinked g raw)
+  says-same : Standing τ s raw → says (τ .book) s (relinked f raw) ≡ says (τ .book) s (relinked g raw)
   unfolding says
   says-same w =
       let r = getD raw 0 blank in
@@ -137,13 +138,13 @@ module _ (τ : Terms) (s : List ℕ) (raw : List Row) (f g : Row → ℕ) (F : L
       ap₂ (λ (o : ℕ) (ns : List Node). record { root = o; nodes = ns }) b (nodes-same raw)
 
 -- bound rows say what the rows of the reading say
-pub says-bound : (τ : Terms) (s : List ℕ) (raw : List Row) → Standing τ s raw → says s (bound raw) ≡ says s (linked raw)
+pub says-bound : (τ : Terms) (s : List ℕ) (raw : List Row) → Standing τ s raw → says (τ .book) s (bound raw) ≡ says (τ .book) s (linked raw)
 says-bound τ s raw w =
-    ap (says s) (bound-is raw) ∙ (says-same τ s raw (boundLink raw) (linkOf raw) (by-bound raw) (by-link raw) w ∙ ap (says s) (sym (linked-is raw)))
+    ap (says (τ .book) s) (bound-is raw) ∙ (says-same τ s raw (boundLink raw) (linkOf raw) (by-bound raw) (by-link raw) w ∙ ap (says (τ .book) s) (sym (linked-is raw)))
 
 -- the copy from marked bound rows is the tidy copy of what the list says
 pub copy-is-tidy : (τ : Terms) (s : List ℕ) → ((i : ℕ) → getD s i 0 < 256) → (room : ℕ) (raw : List Row) → rawOf τ s room ≡ accepted raw
-    → copyOf (anewIn (τ .setting)) s (marked s (bound raw)) ≡ tidyOf (says s (linked raw))
+    → copyOf (anewIn (τ .setting)) s (marked s (bound raw)) ≡ tidyOf (says (τ .book) s (linked raw))
 copy-is-tidy τ s bytes room raw e =
     copy-of-rows τ s (bound raw) (bound-stand τ s room raw e bytes) (bound-types τ s room raw e) (bound-values τ s room raw e) (library-slots τ s room raw e)
     ∙ ap tidyOf (says-bound τ s raw (raw-stands τ s room raw e .stands))

@@ -113,7 +113,7 @@ pub record ClassInfo (τ : Terms) (s : List ℕ) (p e : ℕ) : Type 0 where
   pub numbered : u32At s (e - 4) ≡ N32.Value number e
   pub moves : (p < e - 4) × (e ≡ e - 4 + 4)
 
-pub class-info : (τ : Terms) (s : List ℕ) (rows : List Row) (p e : ℕ) → infoKnown τ s rows 4 p ≡ F.End e → ClassInfo τ s p e
+pub class-info : (τ : Terms) (s : List ℕ) (rows : List Row) (p e : ℕ) → infoKnown (τ .setting) s rows 4 p ≡ F.End e → ClassInfo τ s p e
 unfolding infoKnown infoAt
 class-info τ s rows p e q =
     let x = through (knownLibrary s rows) (onEnd (libraryIdAt s) (nameAt (τ .setting) s p)) e q in
@@ -130,8 +130,8 @@ class-info τ s rows p e q =
         at m (v .0) (omega arith) (omega arith) (name-moves (τ .setting) s p m n .0) n (v .1 ∙ ap (N32.Value (v .0)) (sym k))
 
 module _ (τ : Terms) (s : List ℕ) (rows : List Row) where
-  pub info-place : (type p e : ℕ) → infoKnown τ s rows type p ≡ F.End e → afterInfo s type p ≡ e
-  info-place type p e q = info-after (τ .setting) s type p e (info-plain τ s rows type p e q)
+  pub info-place : (type p e : ℕ) → infoKnown (τ .setting) s rows type p ≡ F.End e → afterInfo s type p ≡ e
+  info-place type p e q = info-after (τ .setting) s type p e (info-plain (τ .setting) s rows type p e q)
 
 module _ (s : List ℕ) (rows : List Row) where
   pub type-is : (type p : ℕ) → type ≤ 7 → typeByte (detailFrom s rows type p) ≡ type
@@ -144,7 +144,7 @@ module _ (τ : Terms) (s : List ℕ) (rows : List Row) where
   class-detail p e c = rw (name-after (τ .setting) s p (e - 4) (c .named))
 
   -- the libraries that a detail needs
-  pub needs-is : (type p e : ℕ) → type ≤ 7 → infoKnown τ s rows type p ≡ F.End e
+  pub needs-is : (type p e : ℕ) → type ≤ 7 → infoKnown (τ .setting) s rows type p ≡ F.End e
       → namesOf s rows (pick (eqb type 4) ((e - 4) ∷ []) []) ≡ detailNeeds (detailFrom s rows type p)
   unfolding detailFrom namesOf
   needs-is zero p e h q = refl
@@ -173,20 +173,20 @@ abbrev pub Numbered : List ℕ → List Row → List Row → Libraries → ℕ �
 Numbered s rows rs ls p = libraryNumber s rs p ≡ numberIn (sameBytes (nameAtField s rows p)) ls
 
 module _ (τ : Terms) (s : List ℕ) (rows rs : List Row) (ls : Libraries) where
-  pub info-is : (type p e : ℕ) → type ≤ 7 → infoKnown τ s rows type p ≡ F.End e → (type ≡ 4 → Numbered s rows rs ls (e - 4))
+  pub info-is : (type p e : ℕ) → type ≤ 7 → infoKnown (τ .setting) s rows type p ≡ F.End e → (type ≡ 4 → Numbered s rows rs ls (e - 4))
       → infoOut s rs type p e ≡ infoBytes (detailBy ls (detailFrom s rows type p))
   unfolding infoOut infoAt detailFrom
-  info-is zero p e h q f = code-kept s p e (info-plain τ s rows 0 p e q)
-  info-is (suc zero) p e h q f = let z = info-plain τ s rows 1 p e q in between-none s p e (cc)
-  info-is (suc (suc zero)) p e h q f = let z = info-plain τ s rows 2 p e q in between-none s p e (cc)
+  info-is zero p e h q f = code-kept s p e (info-plain (τ .setting) s rows 0 p e q)
+  info-is (suc zero) p e h q f = let z = info-plain (τ .setting) s rows 1 p e q in between-none s p e (cc)
+  info-is (suc (suc zero)) p e h q f = let z = info-plain (τ .setting) s rows 2 p e q in between-none s p e (cc)
   info-is (suc (suc (suc zero))) p e h q f = text-is s p
   info-is (suc (suc (suc (suc zero)))) p e h q f =
       let c = class-info τ s rows p e q in
       ap₂ (λ (a b : List ℕ). a ++ b) (text-is s p) (ap (leBytes 4) (f refl))
       ∙ ap (λ (d : Detail (List ℕ) (List ℕ)). infoBytes (detailBy ls d)) (sym (class-detail τ s rows p e c))
-  info-is (suc (suc (suc (suc (suc zero))))) p e h q f = let z = info-plain τ s rows 5 p e q in between-none s p e (cc)
-  info-is (suc (suc (suc (suc (suc (suc zero)))))) p e h q f = let z = info-plain τ s rows 6 p e q in between-none s p e (cc)
-  info-is (suc (suc (suc (suc (suc (suc (suc zero))))))) p e h q f = code-kept s p e (info-plain τ s rows 7 p e q)
+  info-is (suc (suc (suc (suc (suc zero))))) p e h q f = let z = info-plain (τ .setting) s rows 5 p e q in between-none s p e (cc)
+  info-is (suc (suc (suc (suc (suc (suc zero)))))) p e h q f = let z = info-plain (τ .setting) s rows 6 p e q in between-none s p e (cc)
+  info-is (suc (suc (suc (suc (suc (suc (suc zero))))))) p e h q f = code-kept s p e (info-plain (τ .setting) s rows 7 p e q)
   info-is (suc (suc (suc (suc (suc (suc (suc (suc type)))))))) p e h q f = absurd (omega arith)
 
 -- ---- the details of members
@@ -194,22 +194,22 @@ module _ (τ : Terms) (s : List ℕ) (rows rs : List Row) (ls : Libraries) where
 -- one detail, whose type byte stands at types, and those after it
 pub record First (τ : Terms) (s : List ℕ) (rows : List Row) (n types p e t : ℕ) : Type 0 where
   pub low : getD s types 0 ≤ 7
-  pub known : infoKnown τ s rows (getD s types 0) p ≡ F.End (afterInfo s (getD s types 0) p)
-  pub infos : infosAt τ s rows n (types + 1) (afterInfo s (getD s types 0) p) ≡ F.End e
+  pub known : infoKnown (τ .setting) s rows (getD s types 0) p ≡ F.End (afterInfo s (getD s types 0) p)
+  pub infos : infosAt (τ .setting) s rows n (types + 1) (afterInfo s (getD s types 0) p) ≡ F.End e
   pub type-bytes : times (typeByteAt s) n (types + 1) ≡ F.End t
 
-pub first-is : (τ : Terms) (s : List ℕ) (rows : List Row) (n types p e t : ℕ) → infosAt τ s rows (suc n) types p ≡ F.End e → times (typeByteAt s) (suc n) types ≡ F.End t
+pub first-is : (τ : Terms) (s : List ℕ) (rows : List Row) (n types p e t : ℕ) → infosAt (τ .setting) s rows (suc n) types p ≡ F.End e → times (typeByteAt s) (suc n) types ≡ F.End t
     → First τ s rows n types p e t
 unfolding infosAt times
 first-is τ s rows n types p e t q r =
-    let x = through (infosAt τ s rows n (types + 1)) (infoKnown τ s rows (getD s types 0) p) e q in
+    let x = through (infosAt (τ .setting) s rows n (types + 1)) (infoKnown (τ .setting) s rows (getD s types 0) p) e q in
     let y = through (times (typeByteAt s) n) (typeByteAt s types) t r in
     let w = type-told s types (y .0) (y .1) in
     let d = sym (info-place τ s rows (getD s types 0) p (x .0) (x .1)) in
     record {
       low = w .0;
       known = x .1 ∙ ap F.End d;
-      infos = ap (infosAt τ s rows n (types + 1)) (sym d) ∙ x .2;
+      infos = ap (infosAt (τ .setting) s rows n (types + 1)) (sym d) ∙ x .2;
       type-bytes = ap (times (typeByteAt s) n) (sym (w .2)) ∙ y .2;
     }
 
@@ -229,7 +229,7 @@ pub field-of : (P : ℕ → Type 0) (type p : ℕ) → All P (pick (eqb type 4) 
 field-of P type p a e = all-first P p [] (rw e at a)
 
 -- wherever the members' names stand
-pub infos-need : (τ : Terms) (s : List ℕ) (rows : List Row) (n types names p e t : ℕ) → infosAt τ s rows n types p ≡ F.End e → times (typeByteAt s) n types ≡ F.End t
+pub infos-need : (τ : Terms) (s : List ℕ) (rows : List Row) (n types names p e t : ℕ) → infosAt (τ .setting) s rows n types p ≡ F.End e → times (typeByteAt s) n types ≡ F.End t
     → namesOf s rows (infoFields s n types p) ≡ membersNeed (membersFrom s rows n names types p)
 unfolding infoFields membersFrom namesOf
 infos-need τ s rows zero types names p e t q r = refl
@@ -242,7 +242,7 @@ infos-need τ s rows (suc n) types names p e t q r =
     (infos-need τ s rows n (types + 1) (afterText s names) next e t (f .infos) (f .type-bytes))
 
 module _ (τ : Terms) (s : List ℕ) (rows rs : List Row) (ls : Libraries) where
-  pub infos-is : (n types names p e t : ℕ) → infosAt τ s rows n types p ≡ F.End e → times (typeByteAt s) n types ≡ F.End t
+  pub infos-is : (n types names p e t : ℕ) → infosAt (τ .setting) s rows n types p ≡ F.End e → times (typeByteAt s) n types ≡ F.End t
       → All (Numbered s rows rs ls) (infoFields s n types p) → infosOut s rs n types p ≡ infosBytes (membersBy ls (membersFrom s rows n names types p))
   unfolding infoFields infosOut membersFrom
   infos-is zero types names p e t q r a = refl

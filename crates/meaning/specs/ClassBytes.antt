@@ -12,16 +12,18 @@ use Rattle.format.specs.Bytes.{pick, sameBytes}
 use Rattle.format.specs.Numbers.{leBytes}
 use Rattle.format.specs.Values.{times}
 use Rattle.format.specs.Types.{typeByteAt, afterText, afterInfo}
-use Rattle.format.specs.Contents.{Prefixed, bytesIn, shortest, Member, namesBytes, typesBytes, infosBytes, classBytes, enc}
-use Rattle.format.specs.Says.{From, theSystem, theLibrary, Class, textFrom, numberFrom, libraryName, detailFrom, membersFrom, classFrom}
+use Rattle.format.specs.Rows.{isUntyped}
+use Rattle.format.specs.Contents.{Prefixed, bytesIn, shortest, Member, namesBytes, typesBytes, infosBytes, classBytes, enc, From, theSystem, theLibrary, Class}
+use Rattle.format.specs.Says.{textFrom, detailFrom, membersFrom, typedFrom, classFrom}
 use Rattle.format.specs.Tidy.{numberIn, Libraries, membersNeed, fromNeeds, classNeeds, membersBy, classBy}
 use Rattle.fields.specs.Parts.{part-to}
 use Rattle.fields.specs.Sequence.{through}
 use Rattle.types.specs.Keeps.{type-told, types-end}
+use Rattle.laws.specs.Classes.{class-typed, origin-system, origin-library}
 use Rattle.spans.specs.Judged.{name-after, names-after}
 use Rattle.put.specs.Out.{between, textOut, textsOut, headOut}
 use Rattle.pieces.specs.Copy.{libraryNumber, infosOut, membersOut, classOut, detailsOut}
-use Rattle.meaning.specs.Stands.{OwnStands, of-system, of-library, ClassStands}
+use Rattle.meaning.specs.Stands.{OwnStands, of-system, of-library, ClassStands, class-stands}
 use Rattle.meaning.specs.Marked.{All, infoFields, classFields, nameAtField, namesOf}
 use Rattle.meaning.specs.Bytes.{text-is, between-none, type-is, same-type, Numbered, all-left, all-right, all-first, infos-need, infos-is}
 use Rattle.meaning.specs.Entered.{names-append}
@@ -63,18 +65,20 @@ module _ (τ : Terms) (s : List ℕ) (rows : List Row) (r : Row) (c : ClassStand
   names-place : afterText s (r .offset + 5) + 4 ≡ c .name-end + 4
   names-place = ap (λ (n : ℕ). n + 4) (name-after (τ .setting) s (r .offset + 5) (c .name-end) (c .named))
 
-  pub members-from : classFrom s rows r .members ≡ membersFrom s rows (r .count) (c .name-end + 4) (c .types) (c .types + r .count)
-  unfolding classFrom
-  members-from = rw (name-after (τ .setting) s (r .offset + 5) (c .name-end) (c .named), names-after (τ .setting) s (r .count) (c .name-end + 4) (c .types) (c .names))
+  pub members-from : classFrom (τ .book) s rows r .members ≡ membersFrom s rows (r .count) (c .name-end + 4) (c .types) (c .types + r .count)
+  unfolding typedFrom
+  members-from =
+      ap (λ (k : Class). k .members) (class-stands τ s rows r c (τ .book))
+      ∙ rw (name-after (τ .setting) s (r .offset + 5) (c .name-end) (c .named), names-after (τ .setting) s (r .count) (c .name-end + 4) (c .types) (c .names))
 
-  pub class-name : classFrom s rows r .name ≡ textFrom s (r .offset + 5)
-  unfolding classFrom
-  class-name = refl
+  pub class-name : classFrom (τ .book) s rows r .name ≡ textFrom s (r .offset + 5)
+  unfolding typedFrom
+  class-name = ap (λ (k : Class). k .name) (class-stands τ s rows r c (τ .book))
 
   module _ (ls : Libraries) where
     -- the members as they are written
     abbrev members : List (Member Prefixed ℕ)
-    members = membersBy ls (classFrom s rows r .members)
+    members = membersBy ls (classFrom (τ .book) s rows r .members)
 
     members-so : members ≡ membersBy ls (membersFrom s rows (r .count) (c .name-end + 4) (c .types) (c .types + r .count))
     members-so = ap (membersBy ls) members-from
@@ -131,18 +135,18 @@ module _ (ls : Libraries) (id : ℕ) (c : Class) (name count names types infos :
       (parts-then (leBytes 4 number) ∙ ap₂ (λ (x y : List ℕ). x ++ y) all-parts (ap (leBytes 4) z))
       ∙ ap (λ (z : From). enc (classBy ls id c z)) (sym o)
 
-module _ (s : List ℕ) (rows : List Row) (r : Row) where
-  pub from-system : r .kind ≡ 4 → classFrom s rows r .from ≡ theSystem
-  unfolding classFrom
-  from-system k = ap (λ (z : ℕ). pick (eqb z 5) (theLibrary (libraryName s rows (numberFrom s (r .end - 4)))) theSystem) k
+module _ (β s : List ℕ) (rows : List Row) (r : Row) where
+  pub from-system : r .kind ≡ 4 → classFrom β s rows r .from ≡ theSystem
+  unfolding typedFrom
+  from-system k = ap (λ (c : Class). c .from) (class-typed β s rows r (ap isUntyped k)) ∙ origin-system s rows r k
 
-  pub from-library : r .kind ≡ 5 → classFrom s rows r .from ≡ theLibrary (nameAtField s rows (r .end - 4))
-  unfolding classFrom nameAtField
-  from-library k = ap (λ (z : ℕ). pick (eqb z 5) (theLibrary (libraryName s rows (numberFrom s (r .end - 4)))) theSystem) k
+  pub from-library : r .kind ≡ 5 → classFrom β s rows r .from ≡ theLibrary (nameAtField s rows (r .end - 4))
+  unfolding typedFrom nameAtField
+  from-library k = ap (λ (c : Class). c .from) (class-typed β s rows r (ap isUntyped k)) ∙ origin-library s rows r k
 
 -- a row q that is as r is, but for its number, with the types' place in its slot word
 module _ (τ : Terms) (s : List ℕ) (rows : List Row) (r : Row) (c : ClassStands τ s rows r) (q : Row) (k : q .kind ≡ r .kind) (o : q .offset ≡ r .offset) (e : q .end ≡ r .end) (n : q .count ≡ r .count) (t : q .slot ≡ c .types) where
-  pub class-need : namesOf s rows (classFields s q) ≡ classNeeds (classFrom s rows r)
+  pub class-need : namesOf s rows (classFields s q) ≡ classNeeds (classFrom (τ .book) s rows r)
   unfolding namesOf
   class-need =
       let infos = infoFields s (r .count) (c .types) (c .types + r .count) in
@@ -155,23 +159,23 @@ module _ (τ : Terms) (s : List ℕ) (rows : List Row) (r : Row) (c : ClassStand
       members-need =
           infos-need τ s rows (r .count) (c .types) (c .name-end + 4) (c .types + r .count) (c .infos-end) (c .types + r .count) (c .infos) (c .type-bytes)
 
-      own-need : OwnStands s rows r (c .infos-end) → namesOf s rows (pick (eqb (r .kind) 5) ((r .end - 4) ∷ []) []) ≡ fromNeeds (classFrom s rows r .from)
+      own-need : OwnStands s rows r (c .infos-end) → namesOf s rows (pick (eqb (r .kind) 5) ((r .end - 4) ∷ []) []) ≡ fromNeeds (classFrom (τ .book) s rows r .from)
       own-need (of-system h z) =
-          ap (λ (x : ℕ). namesOf s rows (pick (eqb x 5) ((r .end - 4) ∷ []) [])) h ∙ ap fromNeeds (sym (from-system s rows r h))
+          ap (λ (x : ℕ). namesOf s rows (pick (eqb x 5) ((r .end - 4) ∷ []) [])) h ∙ ap fromNeeds (sym (from-system (τ .book) s rows r h))
       own-need (of-library h z) =
-          ap (λ (x : ℕ). namesOf s rows (pick (eqb x 5) ((r .end - 4) ∷ []) [])) h ∙ ap fromNeeds (sym (from-library s rows r h))
+          ap (λ (x : ℕ). namesOf s rows (pick (eqb x 5) ((r .end - 4) ∷ []) [])) h ∙ ap fromNeeds (sym (from-library (τ .book) s rows r h))
 
   pub class-is : (rs : List Row) (ls : Libraries) → All (Numbered s rows rs ls) (classFields s q)
-      → classOut s rs q ≡ enc (classBy ls (q .id) (classFrom s rows r) (classFrom s rows r .from))
+      → classOut s rs q ≡ enc (classBy ls (q .id) (classFrom (τ .book) s rows r) (classFrom (τ .book) s rows r .from))
   class-is rs ls a = go (c .own)
     where
       infos : List ℕ
       infos = infosOut s rs (r .count) (c .types) (c .types + r .count)
 
       of : Class
-      of = classFrom s rows r
+      of = classFrom (τ .book) s rows r
 
-      name-so : textOut s (r .offset + 5) ≡ bytesIn (shortest (classFrom s rows r .name))
+      name-so : textOut s (r .offset + 5) ≡ bytesIn (shortest (classFrom (τ .book) s rows r .name))
       name-so = text-is s (r .offset + 5) ∙ ap (λ (t : List ℕ). bytesIn (shortest t)) (sym (class-name τ s rows r c))
 
       fields : List ℕ
@@ -183,21 +187,21 @@ module _ (τ : Terms) (s : List ℕ) (rows : List Row) (r : Row) (c : ClassStand
       there : (kind : ℕ) → q .kind ≡ kind → All P (fields ++ pick (eqb kind 5) ((r .end - 4) ∷ []) [])
       there kind h = subst (All P) (class-fields s q kind (r .offset) (r .end) (c .types) (r .count) h o e t n) a
 
-      infos-so : All P fields → infos ≡ infosBytes (membersBy ls (classFrom s rows r .members))
+      infos-so : All P fields → infos ≡ infosBytes (membersBy ls (classFrom (τ .book) s rows r .members))
       infos-so b =
           infos-is τ s rows rs ls (r .count) (c .types) (c .name-end + 4) (c .types + r .count) (c .infos-end) (c .types + r .count) (c .infos) (c .type-bytes) b
           ∙ ap (λ (m : List (Member (List ℕ) (List ℕ))). infosBytes (membersBy ls m)) (sym (members-from τ s rows r c))
 
-      go : OwnStands s rows r (c .infos-end) → classOut s rs q ≡ enc (classBy ls (q .id) (classFrom s rows r) (classFrom s rows r .from))
+      go : OwnStands s rows r (c .infos-end) → classOut s rs q ≡ enc (classBy ls (q .id) (classFrom (τ .book) s rows r) (classFrom (τ .book) s rows r .from))
       go (of-system h z) =
           let b = there 4 (k ∙ h) in
           class-out s q 4 (r .offset) (r .end) (c .types) (r .count) (k ∙ h) o e t n rs
           ∙ system-bytes ls (q .id) of _ _ _ _ infos name-so (count-is τ s rows r c ls) (names-is τ s rows r c ls) (type-bytes-are τ s rows r c ls)
-          (infos-so (all-left P fields [] b)) (from-system s rows r h)
+          (infos-so (all-left P fields [] b)) (from-system (τ .book) s rows r h)
       go (of-library h z) =
           let b = there 5 (k ∙ h) in
           class-out s q 5 (r .offset) (r .end) (c .types) (r .count) (k ∙ h) o e t n rs
           ∙ library-bytes ls (q .id) of _ _ _ _ infos name-so (count-is τ s rows r c ls) (names-is τ s rows r c ls) (type-bytes-are τ s rows r c ls)
           (infos-so (all-left P fields ((r .end - 4) ∷ []) b))
-          (nameAtField s rows (r .end - 4)) (libraryNumber s rs (r .end - 4)) (from-library s rows r h)
+          (nameAtField s rows (r .end - 4)) (libraryNumber s rs (r .end - 4)) (from-library (τ .book) s rows r h)
           (all-first P (r .end - 4) [] (all-right P fields ((r .end - 4) ∷ []) b))

@@ -16,15 +16,17 @@ use Rattle.format.specs.Types.{nameAt}
 use Rattle.format.specs.Values.{times}
 use Rattle.format.specs.Rows.{blank, isClass, findFrom}
 use Rattle.format.specs.Records.{ownLibraryAt}
-use Rattle.format.specs.Says.{From, theSystem, theLibrary, Class, textFrom, numberFrom, libraryName, membersFrom, classFrom, orderOf}
+use Rattle.format.specs.Contents.{theSystem, theLibrary, Class}
+use Rattle.format.specs.Says.{textFrom, originFrom, membersFrom, typedFrom, classFrom, orderOf}
 use Rattle.format.specs.Tidy.{sameClass}
 use Rattle.same.specs.Laws.{same-eq}
 use Rattle.lookups.specs.Find.{find-hit}
 use Rattle.laws.specs.Tests.{bool-ext, both-of, both-true, apart, pick-of, pick-true, true-same, class-of, class-eq, true-class, class-refl}
+use Rattle.laws.specs.Classes.{origin-system, origin-library}
 use Rattle.laws.specs.Firsts.{find-alike, find-some}
 use Rattle.spans.specs.Judged.{name-after, names-after}
 use Rattle.marks.specs.Marks.{withId, withSlot, libraryAt, namesPlace, sameText, sameMembersAt, sameOwn, sameDetails, sameClassRow, firstClass}
-use Rattle.meaning.specs.Stands.{OwnStands, of-system, of-library, ClassStands, Stands}
+use Rattle.meaning.specs.Stands.{OwnStands, of-system, of-library, ClassStands, class-stands, Stands}
 use Rattle.meaning.specs.Marked.{Placed, nameAtField, classFirst}
 use Rattle.meaning.specs.Alike.{same-texts}
 use Rattle.meaning.specs.Bytes.{name-stands}
@@ -33,19 +35,13 @@ use Rattle.meaning.specs.Members.{members-count, Infos, members-of, memb
 
 -- ---- where a class comes from
 
-abbrev pub ownFrom : List ℕ → List Row → Row → From
-ownFrom s rows r = pick (eqb (r .kind) 5) (theLibrary (libraryName s rows (numberFrom s (r .end - 4)))) theSystem
-
 abbrev ownTest : List ℕ → List Row → Row → Row → Bool
 ownTest s ps a b = pick (eqb (a .kind) 5) (eqb (libraryAt s ps (a .end - 4)) (libraryAt s ps (b .end - 4))) true
 
 module _ (τ : Terms) (s : List ℕ) (rows ps : List Row) (st : Stands τ s rows) (pl : Placed τ s rows ps) where
-  from-system : (r : Row) → r .kind ≡ 4 → ownFrom s rows r ≡ theSystem
-  from-system r k = ap (λ (x : ℕ). pick (eqb x 5) (theLibrary (libraryName s rows (numberFrom s (r .end - 4)))) theSystem) k
-
-  from-library : (r : Row) → r .kind ≡ 5 → ownFrom s rows r ≡ theLibrary (nameAtField s rows (r .end - 4))
+  from-library : (r : Row) → r .kind ≡ 5 → originFrom s rows r ≡ theLibrary (nameAtField s rows (r .end - 4))
   unfolding nameAtField
-  from-library r k = ap (λ (x : ℕ). pick (eqb x 5) (theLibrary (libraryName s rows (numberFrom s (r .end - 4)))) theSystem) k
+  from-library r k = origin-library s rows r k
 
   test-system : (a b : Row) → a .kind ≡ 4 → ownTest s ps a b ≡ true
   test-system a b k = ap (λ (x : ℕ). pick (eqb x 5) (eqb (libraryAt s ps (a .end - 4)) (libraryAt s ps (b .end - 4))) true) k
@@ -57,8 +53,8 @@ module _ (τ : Terms) (s : List ℕ) (rows ps : List Row) (st : Stands τ s rows
       ∙ same-library τ s rows ps st pl (a .end - 4) (b .end - 4) (own-names τ s rows p (a .end) v .0) (own-names τ s rows q (b .end) w .0)
 
   own-of : (a b : Row) (p q : ℕ) → OwnStands s rows a p → OwnStands s rows b q → b .kind ≡ a .kind → ownTest s ps a b ≡ true
-      → ownFrom s rows a ≡ ownFrom s rows b
-  own-of a b p q (of-system k e) (of-system l f) c t = from-system a k ∙ sym (from-system b l)
+      → originFrom s rows a ≡ originFrom s rows b
+  own-of a b p q (of-system k e) (of-system l f) c t = origin-system s rows a k ∙ sym (origin-system s rows b l)
   own-of a b p q (of-system k e) (of-library l f) c t = absurd (omega arith)
   own-of a b p q (of-library k e) (of-system l f) c t = absurd (omega arith)
   own-of a b p q (of-library k e) (of-library l f) c t =
@@ -66,14 +62,14 @@ module _ (τ : Terms) (s : List ℕ) (rows ps : List Row) (st : Stands τ s rows
       ∙ (ap theLibrary (same-eq (nameAtField s rows (a .end - 4)) (nameAtField s rows (b .end - 4)) (sym (test-library a b p q k e f) ∙ t))
       ∙ sym (from-library b l))
 
-  own-same : (a b : Row) (p q : ℕ) → OwnStands s rows a p → OwnStands s rows b q → ownFrom s rows a ≡ ownFrom s rows b
+  own-same : (a b : Row) (p q : ℕ) → OwnStands s rows a p → OwnStands s rows b q → originFrom s rows a ≡ originFrom s rows b
       → (b .kind ≡ a .kind) × (ownTest s ps a b ≡ true)
   own-same a b p q (of-system k e) (of-system l f) t = (l ∙ sym k, test-system a b k)
   own-same a b p q (of-system k e) (of-library l f) t =
-      let x : theSystem ≡ theLibrary (nameAtField s rows (b .end - 4)) = sym (from-system a k) ∙ (t ∙ from-library b l) in
+      let x : theSystem ≡ theLibrary (nameAtField s rows (b .end - 4)) = sym (origin-system s rows a k) ∙ (t ∙ from-library b l) in
       absurd (let z : _≡_ {A = ℕ} 0 1 = cc in omega arith)
   own-same a b p q (of-library k e) (of-system l f) t =
-      let x : theLibrary (nameAtField s rows (a .end - 4)) ≡ theSystem = sym (from-library a k) ∙ (t ∙ from-system b l) in
+      let x : theLibrary (nameAtField s rows (a .end - 4)) ≡ theSystem = sym (from-library a k) ∙ (t ∙ origin-system s rows b l) in
       absurd (let z : _≡_ {A = ℕ} 0 1 = cc in omega arith)
   own-same a b p q (of-library k e) (of-library l f) t =
       let m = nameAtField s rows (a .end - 4) in
@@ -88,23 +84,24 @@ abbrev pub said : (τ : Terms) (s : List ℕ) (rows : List Row) (r : Row) → Cl
 said τ s rows r c =
     record {
       name = textFrom s (r .offset + 5);
-      from = ownFrom s rows r;
+      from = originFrom s rows r;
       members = membersFrom s rows (r .count) (c .name-end + 4) (c .types) (c .types + r .count);
     }
 
-pub class-from : (τ : Terms) (s : List ℕ) (rows : List Row) (r : Row) (c : ClassStands τ s rows r) → classFrom s rows r ≡ said τ s rows r c
-unfolding classFrom
+pub class-from : (τ : Terms) (s : List ℕ) (rows : List Row) (r : Row) (c : ClassStands τ s rows r) → classFrom (τ .book) s rows r ≡ said τ s rows r c
+unfolding typedFrom
 class-from τ s rows r c =
-    rw (name-after (τ .setting) s (r .offset + 5) (c .name-end) (c .named), names-after (τ .setting) s (r .count) (c .name-end + 4) (c .types) (c .names))
+    class-stands τ s rows r c (τ .book)
+    ∙ rw (name-after (τ .setting) s (r .offset + 5) (c .name-end) (c .named), names-after (τ .setting) s (r .count) (c .name-end + 4) (c .types) (c .names))
 
 -- the row that class row i leads to: the first row of its class
-pub record ClassFirst (s : List ℕ) (rows ps : List Row) (i : ℕ) : Type 0 where
+pub record ClassFirst (β s : List ℕ) (rows ps : List Row) (i : ℕ) : Type 0 where
   pub row : ℕ
-  pub same : firstClass s ps (getD ps i blank) ≡ classFirst s rows (classFrom s rows (getD rows i blank))
-  pub first : classFirst s rows (classFrom s rows (getD rows i blank)) ≡ suc row
+  pub same : firstClass s ps (getD ps i blank) ≡ classFirst β s rows (classFrom β s rows (getD rows i blank))
+  pub first : classFirst β s rows (classFrom β s rows (getD rows i blank)) ≡ suc row
   pub before : row ≤ i
   pub kind : isClass (getD rows row blank .kind) ≡ true
-  pub class : classFrom s rows (getD rows row blank) ≡ classFrom s rows (getD rows i blank)
+  pub class : classFrom β s rows (getD rows row blank) ≡ classFrom β s rows (getD rows i blank)
 
 module _ (τ : Terms) (s : List ℕ) (rows ps : List Row) (st : Stands τ s rows) (pl : Placed τ s rows ps) where
   module _ (r q : Row) (a : ClassStands τ s rows r) (b : ClassStands τ s rows q) where
@@ -168,7 +165,7 @@ module _ (τ : Terms) (s : List ℕ) (rows ps : List Row) (st : Stands τ s rows
     said-same : said τ s rows r a ≡ said τ s rows q b → rowTest ≡ true
     said-same e =
         let name : textFrom s (r .offset + 5) ≡ textFrom s (q .offset + 5) = ap (λ (c : Class). c .name) e in
-        let from : ownFrom s rows r ≡ ownFrom s rows q = ap (λ (c : Class). c .from) e in
+        let from : originFrom s rows r ≡ originFrom s rows q = ap (λ (c : Class). c .from) e in
         let members : membersFrom s rows (r .count) (a .name-end + 4) (a .types) (a .types + r .count)
         ≡ membersFrom s rows (q .count) (b .name-end + 4) (b .types) (b .types + q .count) = ap (λ (c : Class). c .members) e in
         let count : r .count ≡ q .count
@@ -194,7 +191,7 @@ module _ (τ : Terms) (s : List ℕ) (rows ps : List Row) (st : Stands τ s rows
         (λ t. said-same (class-eq (said τ s rows r a) (said τ s rows q b) t))
 
   pub same-class : (i j : ℕ) → i < length rows → j < length rows → isClass (getD rows i blank .kind) ≡ true → isClass (getD rows j blank .kind) ≡ true
-      → sameClassRow s ps (getD ps i blank) (getD ps j blank) ≡ sameClass (classFrom s rows (getD rows i blank)) (classFrom s rows (getD rows j blank))
+      → sameClassRow s ps (getD ps i blank) (getD ps j blank) ≡ sameClass (classFrom (τ .book) s rows (getD rows i blank)) (classFrom (τ .book) s rows (getD rows j blank))
   same-class i j h g k l =
       let r = getD rows i blank in
       let q = getD rows j blank in
@@ -213,38 +210,38 @@ module _ (τ : Terms) (s : List ℕ) (rows ps : List Row) (st : Stands τ s rows
 
   -- scans over the rows by a class's bytes and by what it says
   class-scan : (i : ℕ) → i < length rows → isClass (getD rows i blank .kind) ≡ true
-      → firstClass s ps (getD ps i blank) ≡ classFirst s rows (classFrom s rows (getD rows i blank))
+      → firstClass s ps (getD ps i blank) ≡ classFirst (τ .book) s rows (classFrom (τ .book) s rows (getD rows i blank))
   unfolding firstClass classFirst
   class-scan i h k =
-      find-alike (sameClassRow s ps (getD ps i blank)) (λ (r : Row). isClass (r .kind) && sameClass c (classFrom s rows r)) 0 ps rows (pl .size)
+      find-alike (sameClassRow s ps (getD ps i blank)) (λ (r : Row). isClass (r .kind) && sameClass c (classFrom (τ .book) s rows r)) 0 ps rows (pl .size)
       (λ j g. go j (omega (arith, pl .size)) (isClass (getD rows j blank .kind)) refl)
     where
       c : Class
-      c = classFrom s rows (getD rows i blank)
+      c = classFrom (τ .book) s rows (getD rows i blank)
 
       go : (j : ℕ) → j < length rows → (b : Bool) → isClass (getD rows j blank .kind) ≡ b
-          → sameClassRow s ps (getD ps i blank) (getD ps j blank) ≡ isClass (getD rows j blank .kind) && sameClass c (classFrom s rows (getD rows j blank))
-      go j g true e = same-class i j h g k e ∙ sym (ap (λ (b : Bool). b && sameClass c (classFrom s rows (getD rows j blank))) e)
+          → sameClassRow s ps (getD ps i blank) (getD ps j blank) ≡ isClass (getD rows j blank .kind) && sameClass c (classFrom (τ .book) s rows (getD rows j blank))
+      go j g true e = same-class i j h g k e ∙ sym (ap (λ (b : Bool). b && sameClass c (classFrom (τ .book) s rows (getD rows j blank))) e)
       go j g false e =
           other-class (getD ps i blank) (getD ps j blank)
           (ap isClass (placed-kind τ s rows ps st pl i h) ∙ k)
           (ap isClass (placed-kind τ s rows ps st pl j g) ∙ e)
-          ∙ sym (ap (λ (b : Bool). b && sameClass c (classFrom s rows (getD rows j blank))) e)
+          ∙ sym (ap (λ (b : Bool). b && sameClass c (classFrom (τ .book) s rows (getD rows j blank))) e)
 
-  pub class-first : (i : ℕ) → i < length rows → isClass (getD rows i blank .kind) ≡ true → ClassFirst s rows ps i
+  pub class-first : (i : ℕ) → i < length rows → isClass (getD rows i blank .kind) ≡ true → ClassFirst (τ .book) s rows ps i
   unfolding classFirst
   class-first i h k =
-      let c = classFrom s rows (getD rows i blank) in
-      let test : Row → Bool = λ (r : Row). isClass (r .kind) && sameClass c (classFrom s rows r) in
+      let c = classFrom (τ .book) s rows (getD rows i blank) in
+      let test : Row → Bool = λ (r : Row). isClass (r .kind) && sameClass c (classFrom (τ .book) s rows r) in
       let x = find-some test 0 rows i h (both-true (isClass (getD rows i blank .kind)) (sameClass c c) k (class-refl c)) in
       let e : findFrom test 0 rows ≡ suc (x .0) = x .1 ∙ omega arith in
       let y = find-hit test rows (x .0) e in
-      let z = both-of (isClass (getD rows (x .0) blank .kind)) (sameClass c (classFrom s rows (getD rows (x .0) blank))) (y .1) in
+      let z = both-of (isClass (getD rows (x .0) blank .kind)) (sameClass c (classFrom (τ .book) s rows (getD rows (x .0) blank))) (y .1) in
       record {
         row = x .0;
         same = class-scan i h k;
         first = e;
         before = x .2;
         kind = z .0;
-        class = sym (class-eq c (classFrom s rows (getD rows (x .0) blank)) (z .1));
+        class = sym (class-eq c (classFrom (τ .book) s rows (getD rows (x .0) blank)) (z .1));
       }

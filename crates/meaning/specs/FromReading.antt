@@ -70,8 +70,8 @@ module _ (τ : Terms) {s : List ℕ} {before rows : List Row} {r : Row} (later :
         infos-end = c .after;
         infos =
             infos-later τ s later (r .count) (h .link) (h .link + r .count) (c .after)
-            (subst (λ (p : ℕ). infosAt τ s before (r .count) (h .link) p ≡ F.End (c .after)) f
-            (subst (λ (k : ℕ). infosAt τ s before k (h .link) (c .infos) ≡ F.End (c .after)) n (c .infos-at)));
+            (subst (λ (p : ℕ). infosAt (τ .setting) s before (r .count) (h .link) p ≡ F.End (c .after)) f
+            (subst (λ (k : ℕ). infosAt (τ .setting) s before k (h .link) (c .infos) ≡ F.End (c .after)) n (c .infos-at)));
         own = after (c .after) (c .after-at ∙ ap F.End (sym (w .same-end)));
         inside = inside;
       }

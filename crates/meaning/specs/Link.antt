@@ -12,8 +12,8 @@ use Rattle.format.specs.declared.PrimitiveCode.{PrimitiveCode}
 use Rattle.format.specs.declared.Row.{Row}
 use Rattle.format.specs.Bytes.{pick}
 use Rattle.format.specs.Rows.{blank, isObject, isClass}
-use Rattle.format.specs.Contents.{shortest, Detail, Rec, header, classById, string, array, typedPrimitive, reference, end, primitiveArray, objectArray, stringArray, value, enc, encs}
-use Rattle.format.specs.Says.{Class, textFrom, codeFrom, contentFrom, itemsFrom, codeOf, valueCode, classFrom, orderOf, whatFrom, isNulls, isSilent, says}
+use Rattle.format.specs.Contents.{shortest, Detail, Rec, header, classById, string, array, typedPrimitive, reference, end, primitiveArray, objectArray, stringArray, value, enc, encs, Class}
+use Rattle.format.specs.Says.{textFrom, codeFrom, contentFrom, itemsFrom, codeOf, valueCode, classFrom, orderOf, whatFrom, isNulls, isSilent, says}
 use Rattle.format.specs.Tidy.{Progress, Libraries, numberIn, sameClass, allEntered, libraryRecords, classNeeds, detailNeeds, detailBy, valueBy, valuesBy, classBy, objectBy, recordsOf, tidyOf}
 use Rattle.laws.specs.Tests.{pick-of, class-eq, class-refl, differ, either}
 use Rattle.laws.specs.Kinds.{class-kind, class-is-object}
@@ -71,8 +71,8 @@ module _ (τ : Terms) (s : List ℕ) (rows ps fs : List Row) (st : Stands τ s r
     -- ---- objects
 
     -- rows of objects get their numbers in the order of the rows
-    next-number : isObject (getD rows i blank .kind) ≡ true → orderOf rows (suc i) ≡ suc (progressTo s rows i .count)
-    next-number o = order-object rows i h o ∙ ap suc (sym (progress-count s rows i (omega arith)))
+    next-number : isObject (getD rows i blank .kind) ≡ true → orderOf rows (suc i) ≡ suc (progressTo (τ .book) s rows i .count)
+    next-number o = order-object rows i h o ∙ ap suc (sym (progress-count (τ .book) s rows i (omega arith)))
 
     -- an object's row writes the record that it has before libraries are numbered
     from-first : isObject (getD rows i blank .kind) ≡ true → recordOut δ s ms i (getD ms i blank) ≡ recordOut δ s ms i (getD fs i blank)
@@ -81,28 +81,28 @@ module _ (τ : Terms) (s : List ℕ) (rows ps fs : List Row) (st : Stands τ s r
     module _ (k : isClass (getD rows i blank .kind) ≡ true) where
       -- the class, and its number so far
       abbrev class : Class
-      class = classFrom s rows (getD rows i blank)
+      class = classFrom (τ .book) s rows (getD rows i blank)
 
       abbrev number : ℕ
-      number = numberIn (sameClass class) (progressTo s rows i .classes)
+      number = numberIn (sameClass class) (progressTo (τ .book) s rows i .classes)
 
       object : isObject (getD rows i blank .kind) ≡ true
       object = class-is-object (getD rows i blank .kind) k
 
-      class-number : getD fs i blank .id ≡ suc (progressTo s rows i .count)
+      class-number : getD fs i blank .id ≡ suc (progressTo (τ .book) s rows i .count)
       class-number = ap (λ (r : Row). r .id) (class-words τ s rows ps fs st pl fi i h k) ∙ next-number object
 
       -- the first object of a class, in full
-      new-object : isNew s rows i (getD rows i blank) ≡ true → objectOut s ms i (getD fs i blank) ≡ encs (objectBy number (progressTo s rows i) class)
+      new-object : isNew (τ .book) s rows i (getD rows i blank) ≡ true → objectOut s ms i (getD fs i blank) ≡ encs (objectBy number (progressTo (τ .book) s rows i) class)
       unfolding objectOut
       new-object e =
           let r : Row = getD rows i blank in
           let q : Row = getD fs i blank in
-          let w : Progress = progressTo s rows i in
+          let w : Progress = progressTo (τ .book) s rows i in
           let ls : Libraries = allEntered (classNeeds class) (w .libraries) in
           let first : isFirst i q ≡ true = first-new τ s rows ps fs st pl fi i h ∙ e in
           let fields : rowFields s i q ≡ classFields s q = class-row-fields s i q first in
-          let needs : rowNeeds s rows i r ≡ classNeeds class = class-row-needs s rows i r e in
+          let needs : rowNeeds (τ .book) s rows i r ≡ classNeeds class = class-row-needs (τ .book) s rows i r e in
           let a : needClassOut s ms q ≡ encs (libraryRecords (classNeeds class) (w .libraries)) =
           class-out s ms q ∙ row-out τ s rows ps fs st pl fi F i h (classFields s q) (classNeeds class) fields needs spelled in
           let numbers : All (Numbered s rows ms ls) (classFields s q) = row-numbers τ s rows ps fs st pl fi F i h (classFields s q) (classNeeds class) fields needs in
@@ -111,21 +111,21 @@ module _ (τ : Terms) (s : List ℕ) (rows ps fs : List Row) (st : Stands τ s r
           class-is τ s rows r (class-at τ s rows st i h k) q (ap (λ (z : Row). z .kind) c) (ap (λ (z : Row). z .offset) c) (ap (λ (z : Row). z .end) c)
           (ap (λ (z : Row). z .count) c) (ap (λ (z : Row). z .slot) c) ms ls numbers
           ∙ ap (λ (n : ℕ). enc (classBy ls n class (class .from))) class-number in
-          let f : classFirst s rows class ≡ i + 1 =
-          eqb-true (classFirst s rows class) (i + 1) (pick-of (isClass (r .kind)) (eqb (classFirst s rows class) (i + 1)) e .1) in
+          let f : classFirst (τ .book) s rows class ≡ i + 1 =
+          eqb-true (classFirst (τ .book) s rows class) (i + 1) (pick-of (isClass (r .kind)) (eqb (classFirst (τ .book) s rows class) (i + 1)) e .1) in
           let z : number ≡ 0 = class-later τ s rows class-refl class-eq st i (omega arith) class (omega arith) in
           ap (λ (t : Bool). pick t (needClassOut s ms q ++ classOut s ms q) (byIdOut (q .id) (rowAt ms (q .link) .id))) first
           ∙ last-record (needClassOut s ms q) (classOut s ms q) (libraryRecords (classNeeds class) (w .libraries)) (classBy ls (suc (w .count)) class (class .from))
           (objectBy number w class) a b (ap (λ (n : ℕ). objectBy n w class) z)
 
       -- and later ones by it
-      known-object : isNew s rows i (getD rows i blank) ≡ false → objectOut s ms i (getD fs i blank) ≡ encs (objectBy number (progressTo s rows i) class)
+      known-object : isNew (τ .book) s rows i (getD rows i blank) ≡ false → objectOut s ms i (getD fs i blank) ≡ encs (objectBy number (progressTo (τ .book) s rows i) class)
       unfolding objectOut
       known-object e =
           let r : Row = getD rows i blank in
           let q : Row = getD fs i blank in
-          let w : Progress = progressTo s rows i in
-          let f : ℕ = classFirst s rows class in
+          let w : Progress = progressTo (τ .book) s rows i in
+          let f : ℕ = classFirst (τ .book) s rows class in
           let g : eqb f (i + 1) ≡ false = ap (λ (t : Bool). pick t (eqb f (i + 1)) false) (sym k) ∙ e in
           let n = eqb-false f (i + 1) g in
           let b = first-before τ s rows class-refl class-eq i h k in
@@ -142,25 +142,25 @@ module _ (τ : Terms) (s : List ℕ) (rows ps fs : List Row) (st : Stands τ s r
           ∙ one-record (byIdOut (suc (w .count)) number) (classById (suc (w .count)) number) (objectBy number w class) (by-id-is (suc (w .count)) number)
           (known-by number w class (omega arith)))
 
-      class-writes : recordOut δ s ms i (getD ms i blank) ≡ encs (recordsOf (progressTo s rows i) (whatFrom s rows (getD rows i blank)))
+      class-writes : recordOut δ s ms i (getD ms i blank) ≡ encs (recordsOf (progressTo (τ .book) s rows i) (whatFrom (τ .book) s rows (getD rows i blank)))
       class-writes =
           let r : Row = getD rows i blank in
           let q : Row = getD fs i blank in
-          let w : Progress = progressTo s rows i in
+          let w : Progress = progressTo (τ .book) s rows i in
           let kind = first-kind τ s rows ps fs st pl fi i h in
           let out : recordOut δ s ms i q ≡ objectOut s ms i q =
           class-kind (r .kind) k (λ (n : ℕ). r .kind ≡ n → recordOut δ s ms i q ≡ objectOut s ms i q)
           (λ e. record-as δ s ms i q 4 (kind ∙ e)) (λ e. record-as δ s ms i q 5 (kind ∙ e)) refl in
-          let says : recordsOf w (whatFrom s rows r) ≡ objectBy number w class =
-          class-kind (r .kind) k (λ (n : ℕ). r .kind ≡ n → recordsOf w (whatFrom s rows r) ≡ objectBy number w class) (records-system s rows r w) (records-class s rows r w) refl in
-          from-first object ∙ (out ∙ (either (isNew s rows i r) new-object known-object ∙ ap encs (sym says)))
+          let says : recordsOf w (whatFrom (τ .book) s rows r) ≡ objectBy number w class =
+          class-kind (r .kind) k (λ (n : ℕ). r .kind ≡ n → recordsOf w (whatFrom (τ .book) s rows r) ≡ objectBy number w class) (records-system (τ .book) s rows r w) (records-class (τ .book) s rows r w) refl in
+          from-first object ∙ (out ∙ (either (isNew (τ .book) s rows i r) new-object known-object ∙ ap encs (sym says)))
 
     -- an object by its class's row
-    by-id-writes : getD rows i blank .kind ≡ 1 → recordOut δ s ms i (getD ms i blank) ≡ encs (recordsOf (progressTo s rows i) (whatFrom s rows (getD rows i blank)))
+    by-id-writes : getD rows i blank .kind ≡ 1 → recordOut δ s ms i (getD ms i blank) ≡ encs (recordsOf (progressTo (τ .book) s rows i) (whatFrom (τ .book) s rows (getD rows i blank)))
     by-id-writes k =
         let r : Row = getD rows i blank in
-        let w : Progress = progressTo s rows i in
-        let c : Class = classFrom s rows (getD rows (r .link - 1) blank) in
+        let w : Progress = progressTo (τ .book) s rows i in
+        let c : Class = classFrom (τ .book) s rows (getD rows (r .link - 1) blank) in
         let n : ℕ = numberIn (sameClass c) (w .classes) in
         let y = class-of-id τ s rows i r (st .each i h) k in
         let j : ℕ = y .0 in
@@ -168,12 +168,12 @@ module _ (τ : Terms) (s : List ℕ) (rows ps fs : List Row) (st : Stands τ s r
         let l : j < i = y .2 in
         let z : r .link - 1 ≡ j = omega arith in
         let q : getD fs i blank ≡ withId r (orderOf rows (suc i)) = object-words τ s rows ps fs st pl fi i h (ap isObject k) (ap isClass k) in
-        let d : Class = classFrom s rows (getD rows j blank) in
-        let same : c ≡ d = ap (λ (m : ℕ). classFrom s rows (getD rows m blank)) z in
+        let d : Class = classFrom (τ .book) s rows (getD rows j blank) in
+        let same : c ≡ d = ap (λ (m : ℕ). classFrom (τ .book) s rows (getD rows m blank)) z in
         let b = first-before τ s rows class-refl class-eq j (omega arith) (y .3) in
-        let b0 : 0 < classFirst s rows d = b .0 in
-        let b1 : classFirst s rows d ≤ suc j = b .1 in
-        let known : n ≡ orderOf rows (classFirst s rows d) =
+        let b0 : 0 < classFirst (τ .book) s rows d = b .0 in
+        let b1 : classFirst (τ .book) s rows d ≤ suc j = b .1 in
+        let known : n ≡ orderOf rows (classFirst (τ .book) s rows d) =
         ap (λ (x : Class). numberIn (sameClass x) (w .classes)) same ∙ class-known τ s rows class-refl class-eq st i (omega arith) d (omega arith) in
         let o = first-order τ s rows d b0 in
         let id : rowAt ms (rowAt ms (r .link) .link) .id ≡ n =
@@ -182,24 +182,24 @@ module _ (τ : Terms) (s : List ℕ) (rows ps fs : List Row) (st : Stands τ s r
         ∙ (ap (recordOut δ s ms i) q
         ∙ (record-as δ s ms i (withId r (orderOf rows (suc i))) 1 k
         ∙ (ap₂ byIdOut (next-number (ap isObject k)) id
-        ∙ one-record (byIdOut (suc (w .count)) n) (classById (suc (w .count)) n) (recordsOf w (whatFrom s rows r)) (by-id-is (suc (w .count)) n)
-        (records-by-id s rows r w k ∙ known-by n w c (omega arith)))))
+        ∙ one-record (byIdOut (suc (w .count)) n) (classById (suc (w .count)) n) (recordsOf w (whatFrom (τ .book) s rows r)) (by-id-is (suc (w .count)) n)
+        (records-by-id (τ .book) s rows r w k ∙ known-by n w c (omega arith)))))
 
-    array-writes : getD rows i blank .kind ≡ 7 → recordOut δ s ms i (getD ms i blank) ≡ encs (recordsOf (progressTo s rows i) (whatFrom s rows (getD rows i blank)))
+    array-writes : getD rows i blank .kind ≡ 7 → recordOut δ s ms i (getD ms i blank) ≡ encs (recordsOf (progressTo (τ .book) s rows i) (whatFrom (τ .book) s rows (getD rows i blank)))
     unfolding arrayOut itemNeeds
     array-writes k =
         let r : Row = getD rows i blank in
         let q : Row = getD fs i blank in
-        let w : Progress = progressTo s rows i in
+        let w : Progress = progressTo (τ .book) s rows i in
         let e : q ≡ withId r (orderOf rows (suc i)) = object-words τ s rows ps fs st pl fi i h (ap isObject k) (ap isClass k) in
         let item : Detail (List ℕ) (List ℕ) = arrayItem s rows r in
         let ls : Libraries = allEntered (detailNeeds item) (w .libraries) in
         let c : ArrayStands τ s rows r = array-at τ s rows st i h k in
         let kind : q .kind ≡ 7 = first-kind τ s rows ps fs st pl fi i h ∙ k in
-        let none-new : isNew s rows i r ≡ false = ap (λ (t : Bool). pick t (eqb (classFirst s rows (classFrom s rows r)) (i + 1)) false) (ap isClass k) in
+        let none-new : isNew (τ .book) s rows i r ≡ false = ap (λ (t : Bool). pick t (eqb (classFirst (τ .book) s rows (classFrom (τ .book) s rows r)) (i + 1)) false) (ap isClass k) in
         let fields : rowFields s i q ≡ arrayFields s q =
         other-row-fields s i q (first-new τ s rows ps fs st pl fi i h ∙ none-new) ∙ ap (λ (n : ℕ). pick (eqb n 7) (arrayFields s q) []) kind in
-        let needs : rowNeeds s rows i r ≡ detailNeeds item = other-row-needs s rows i r none-new ∙ ap (λ (n : ℕ). pick (eqb n 7) (itemNeeds s rows r) []) k in
+        let needs : rowNeeds (τ .book) s rows i r ≡ detailNeeds item = other-row-needs (τ .book) s rows i r none-new ∙ ap (λ (n : ℕ). pick (eqb n 7) (itemNeeds s rows r) []) k in
         let need : List ℕ = needInfoOut s ms (getD s (itemType s q) 0) (itemsPlace s q) in
         let body : List ℕ = bodyOut δ s ms (itemType s q) (itemsPlace s q) q in
         let a : need ≡ encs (libraryRecords (detailNeeds item) (w .libraries)) =
@@ -211,12 +211,12 @@ module _ (τ : Terms) (s : List ℕ) (rows ps fs : List Row) (st : Stands τ s r
         ∙ ap (λ (n : ℕ). enc (whole n)) (ap (λ (z : Row). z .id) e ∙ next-number (ap isObject k)) in
         from-first (ap isObject k)
         ∙ (record-as δ s ms i q 7 kind
-        ∙ last-record need body (libraryRecords (detailNeeds item) (w .libraries)) (whole (suc (w .count))) (recordsOf w (whatFrom s rows r)) a b (records-array s rows r w k))
+        ∙ last-record need body (libraryRecords (detailNeeds item) (w .libraries)) (whole (suc (w .count))) (recordsOf w (whatFrom (τ .book) s rows r)) a b (records-array (τ .book) s rows r w k))
 
     -- ---- rows that are kept but for their number
 
     abbrev Said : Type 0
-    Said = recordOut δ s ms i (getD ms i blank) ≡ encs (recordsOf (progressTo s rows i) (whatFrom s rows (getD rows i blank)))
+    Said = recordOut δ s ms i (getD ms i blank) ≡ encs (recordsOf (progressTo (τ .book) s rows i) (whatFrom (τ .book) s rows (getD rows i blank)))
 
     -- the row with its number
     abbrev renumbered : Row
@@ -224,14 +224,14 @@ module _ (τ : Terms) (s : List ℕ) (rows ps fs : List Row) (st : Stands τ s r
 
     object-writes : (kind : ℕ) (rec : ℕ → Rec) → getD rows i blank .kind ≡ kind → isObject kind ≡ true → isClass kind ≡ false
         → recordAs δ s ms i renumbered kind ≡ enc (rec (orderOf rows (suc i)))
-        → recordsOf (progressTo s rows i) (whatFrom s rows (getD rows i blank)) ≡ rec (suc (progressTo s rows i .count)) ∷ [] → Said
+        → recordsOf (progressTo (τ .book) s rows i) (whatFrom (τ .book) s rows (getD rows i blank)) ≡ rec (suc (progressTo (τ .book) s rows i .count)) ∷ [] → Said
     object-writes kind rec k o c out says =
         let object : isObject (getD rows i blank .kind) ≡ true = ap isObject k ∙ o in
-        let w : Progress = progressTo s rows i in
+        let w : Progress = progressTo (τ .book) s rows i in
         from-first object
         ∙ (ap (recordOut δ s ms i) (object-words τ s rows ps fs st pl fi i h object (ap isClass k ∙ c))
         ∙ (record-as δ s ms i renumbered kind k
-        ∙ one-record (recordAs δ s ms i renumbered kind) (rec (suc (w .count))) (recordsOf w (whatFrom s rows (getD rows i blank)))
+        ∙ one-record (recordAs δ s ms i renumbered kind) (rec (suc (w .count))) (recordsOf w (whatFrom (τ .book) s rows (getD rows i blank)))
         (out ∙ ap (λ (n : ℕ). enc (rec n)) (next-number object)) says))
 
     -- rows that are no object's are as they were
@@ -243,9 +243,9 @@ module _ (τ : Terms) (s : List ℕ) (rows ps fs : List Row) (st : Stands τ s r
         ∙ record-as δ s ms i (getD rows i blank) kind k
 
     other-writes : (kind : ℕ) (rec : Rec) → getD rows i blank .kind ≡ kind → isObject kind ≡ false → eqb kind 12 ≡ false
-        → recordAs δ s ms i (getD rows i blank) kind ≡ enc rec → recordsOf (progressTo s rows i) (whatFrom s rows (getD rows i blank)) ≡ rec ∷ [] → Said
+        → recordAs δ s ms i (getD rows i blank) kind ≡ enc rec → recordsOf (progressTo (τ .book) s rows i) (whatFrom (τ .book) s rows (getD rows i blank)) ≡ rec ∷ [] → Said
     other-writes kind rec k o l out says =
-        as-it-was kind k o l ∙ one-record (recordAs δ s ms i (getD rows i blank) kind) rec (recordsOf (progressTo s rows i) (whatFrom s rows (getD rows i blank))) out says
+        as-it-was kind k o l ∙ one-record (recordAs δ s ms i (getD rows i blank) kind) rec (recordsOf (progressTo (τ .book) s rows i) (whatFrom (τ .book) s rows (getD rows i blank))) out says
 
     -- ---- any row
 
@@ -281,20 +281,20 @@ module _ (τ : Terms) (s : List ℕ) (rows ps fs : List Row) (st : Stands τ s r
     written (a-string k t) =
         said 6 k refl
         (object-writes 6 (λ (n : ℕ). string n (shortest (textFrom s (getD rows i blank .offset + 5)))) k refl refl
-        (string-is s (st .bytes) renumbered (getD rows i blank) refl refl) (records-string s rows (getD rows i blank) (progressTo s rows i) k))
+        (string-is s (st .bytes) renumbered (getD rows i blank) refl refl) (records-string (τ .book) s rows (getD rows i blank) (progressTo (τ .book) s rows i) k))
     written (an-array k a) = said 7 k refl (array-writes k)
     written (a-primitive k c a b) =
         let r : Row = getD rows i blank in
         let code = codeFrom s (r .offset + 1) in
         said 8 k refl
         (other-writes 8 (typedPrimitive code (valueBy code (contentFrom s code (r .offset + 2)))) k refl refl
-        (typed-is τ s (st .bytes) r (st .kind-byte i h (λ z. absurd (omega arith)) ∙ k) c a) (records-typed s rows r (progressTo s rows i) k))
+        (typed-is τ s (st .bytes) r (st .kind-byte i h (λ z. absurd (omega arith)) ∙ k) c a) (records-typed (τ .book) s rows r (progressTo (τ .book) s rows i) k))
     written (a-reference k t) =
         let target : ℕ = orderOf rows (getD rows i blank .link) in
         said 9 k refl
         (other-writes 9 (reference target) k refl refl
         (ap (headOut 9) (target-id τ s rows ps fs st pl fi ms (needed-same s rows fs F) (getD rows i blank .link) t) ∙ reference-is target)
-        (records-reference s rows (getD rows i blank) (progressTo s rows i) k))
+        (records-reference (τ .book) s rows (getD rows i blank) (progressTo (τ .book) s rows i) k))
     written (nulls k n) =
         record {
           first = λ e. differ (sym k ∙ ap isNulls e);
@@ -316,29 +316,29 @@ module _ (τ : Terms) (s : List ℕ) (rows ps fs : List Row) (st : Stands τ s r
         let code = codeFrom s (r .offset + 9) in
         said 15 k refl
         (object-writes 15 (λ (n : ℕ). primitiveArray n (r .count) code (valuesBy code (itemsFrom s code (r .count) (r .offset + 10)))) k refl refl
-        (primitives-is τ s (st .bytes) renumbered r refl refl u refl c a) (records-primitives s rows r (progressTo s rows i) k))
+        (primitives-is τ s (st .bytes) renumbered r refl refl u refl c a) (records-primitives (τ .book) s rows r (progressTo (τ .book) s rows i) k))
     written (objects k u e) =
         let r : Row = getD rows i blank in
         said 16 k refl
         (object-writes 16 (λ (n : ℕ). objectArray n (r .count)) k refl refl
-        (objects-is s (st .bytes) renumbered r refl refl u k e) (records-objects s rows r (progressTo s rows i) k))
+        (objects-is s (st .bytes) renumbered r refl refl u k e) (records-objects (τ .book) s rows r (progressTo (τ .book) s rows i) k))
     written (texts k u e) =
         let r : Row = getD rows i blank in
         said 17 k refl
         (object-writes 17 (λ (n : ℕ). stringArray n (r .count)) k refl refl
-        (texts-is s (st .bytes) renumbered r refl refl u k e) (records-texts s rows r (progressTo s rows i) k))
+        (texts-is s (st .bytes) renumbered r refl refl u k e) (records-texts (τ .book) s rows r (progressTo (τ .book) s rows i) k))
     written (a-value k a b) =
         let r : Row = getD rows i blank in
         let w = pl .values i h k in
-        let code = valueCode s rows r in
+        let code = valueCode (τ .book) s rows r in
         said 32 k refl
         (other-writes 32 (value code (valueBy code (contentFrom s code (r .offset)))) k refl refl
         (member-is τ s (st .bytes) r (w .code) (w .link-is) (w .reads)
         ∙ ap (λ (c : PrimitiveCode). enc (value c (valueBy c (contentFrom s c (r .offset))))) (sym (w .said)))
-        (records-value s rows r (progressTo s rows i) k))
+        (records-value (τ .book) s rows r (progressTo (τ .book) s rows i) k))
 
   -- marked rows write what the rows say
-  pub writes : Writes δ s rows ms
+  pub writes : Writes δ (τ .book) s rows ms
   writes =
       let like = needed-same s rows fs F in
       record {
@@ -357,7 +357,7 @@ module _ (τ : Terms) (s : List ℕ) (rows ps fs : List Row) (st : Stands τ s r
 pub copy-of-rows : (τ : Terms) (s : List ℕ) (rows : List Row) → Stands τ s rows
     → ((i : ℕ) → i < length rows → isClass (getD rows i blank .kind) ≡ true → TypesThere τ s (getD rows i blank))
     → ((i : ℕ) → i < length rows → getD rows i blank .kind ≡ 32 → ValueThere τ s rows (getD rows i blank))
-    → ((i : ℕ) → i < length rows → getD rows i blank .kind ≡ 12 → getD rows i blank .slot ≡ 0) → copyOf (anewIn (τ .setting)) s (marked s rows) ≡ tidyOf (says s rows)
+    → ((i : ℕ) → i < length rows → getD rows i blank .kind ≡ 12 → getD rows i blank .slot ≡ 0) → copyOf (anewIn (τ .setting)) s (marked s rows) ≡ tidyOf (says (τ .book) s rows)
 unfolding marked
 copy-of-rows τ s rows st types values fresh =
     let ps : List Row = placed s (numbered rows) in

@@ -15,7 +15,8 @@ use Rattle.format.specs.Values.{valueAt, times}
 use Rattle.format.specs.Types.{codeNumber, nameAt}
 use Rattle.format.specs.Rows.{blank, isObject, isClass, findFrom, withLink}
 use Rattle.format.specs.Types.{afterInfo}
-use Rattle.format.specs.Says.{Class, textFrom, numberFrom, libraryName, classFrom, valueCode, orderOf}
+use Rattle.format.specs.Contents.{Class}
+use Rattle.format.specs.Says.{textFrom, numberFrom, libraryName, classFrom, valueCode, orderOf}
 use Rattle.format.specs.Tidy.{sameClass}
 use Rattle.marks.specs.Marks.{withId, withSlot, withCount, firstLibrary, infosPlace, itemType, firstClass, isFirst}
 
@@ -32,7 +33,7 @@ pub record ValueThere (τ : Terms) (s : List ℕ) (rows : List Row) (r : Row) : 
   pub code : PrimitiveCode
   pub link-is : r .link ≡ codeNumber code
   pub reads : valueAt (τ .setting) s code (r .offset) ≡ F.End (r .end)
-  pub said : valueCode s rows r ≡ code
+  pub said : valueCode (τ .book) s rows r ≡ code
 
 -- after numbering, and after the first library and the types' place were put in
 pub record Placed (τ : Terms) (s : List ℕ) (rows ps : List Row) : Type 0 where
@@ -98,5 +99,5 @@ namesOf s rows (p ∷ ps) = nameAtField s rows p ∷ namesOf s rows ps
 unfoldable pub libraryFirst : List ℕ → List Row → List ℕ → ℕ
 libraryFirst s rows name = findFrom (λ (r : Row). eqb (r .kind) 12 && sameBytes name (textFrom s (r .offset + 5))) 0 rows
 
-unfoldable pub classFirst : List ℕ → List Row → Class → ℕ
-classFirst s rows c = findFrom (λ (r : Row). isClass (r .kind) && sameClass c (classFrom s rows r)) 0 rows
+unfoldable pub classFirst : List ℕ → List ℕ → List Row → Class → ℕ
+classFirst β s rows c = findFrom (λ (r : Row). isClass (r .kind) && sameClass c (classFrom β s rows r)) 0 rows

@@ -86,7 +86,7 @@ module _ (τ : Terms) (s : List ℕ) where
 -- the test of two details of type t is a test for equality
 abbrev Fair : Terms → List ℕ → List Row → List Row → ℕ → Type 0
 Fair τ s rows ps t =
-    (a x b y : ℕ) → a ≤ length s → b ≤ length s → infoKnown τ s rows t a ≡ F.End x → infoKnown τ s rows t b ≡ F.End y
+    (a x b y : ℕ) → a ≤ length s → b ≤ length s → infoKnown (τ .setting) s rows t a ≡ F.End x → infoKnown (τ .setting) s rows t b ≡ F.End y
     → (sameInfo s ps t a x b y ≡ true → detailFrom s rows t a ≡ detailFrom s rows t b)
     × (detailFrom s rows t a ≡ detailFrom s rows t b → sameInfo s ps t a x b y ≡ true)
 
@@ -130,19 +130,19 @@ module _ (τ : Terms) (s : List ℕ) (rows ps : List Row) (st : Stands τ s rows
   fair-primitive : Fair τ s rows ps 0
   unfolding sameInfo detailFrom infoAt
   fair-primitive a x b y h g p q =
-      let w = code-same τ s a b x y (info-plain τ s rows 0 a x p) (info-plain τ s rows 0 b y q) in
+      let w = code-same τ s a b x y (info-plain (τ .setting) s rows 0 a x p) (info-plain (τ .setting) s rows 0 b y q) in
       ((λ t. ap primitive (w .0 t)), (λ t. w .1 cc))
 
   fair-primitives : Fair τ s rows ps 7
   unfolding sameInfo detailFrom infoAt
   fair-primitives a x b y h g p q =
-      let w = code-same τ s a b x y (info-plain τ s rows 7 a x p) (info-plain τ s rows 7 b y q) in
+      let w = code-same τ s a b x y (info-plain (τ .setting) s rows 7 a x p) (info-plain (τ .setting) s rows 7 b y q) in
       ((λ t. ap primitives (w .0 t)), (λ t. w .1 cc))
 
   fair-system : Fair τ s rows ps 3
   unfolding sameInfo detailFrom infoAt
   fair-system a x b y h g p q =
-      let w = name-same τ s a b x y (info-plain τ s rows 3 a x p) (info-plain τ s rows 3 b y q) in
+      let w = name-same τ s a b x y (info-plain (τ .setting) s rows 3 a x p) (info-plain (τ .setting) s rows 3 b y q) in
       ((λ t. ap system (same-eq (textFrom s a) (textFrom s b) (sym w ∙ t))), (λ t. w ∙ true-same (textFrom s a) (textFrom s b) cc))
 
   -- a type without a detail
@@ -150,7 +150,7 @@ module _ (τ : Terms) (s : List ℕ) (rows ps : List Row) (st : Stands τ s rows
       → ((a x b y : ℕ) → sameInfo s ps t a x b y ≡ sameBetween s a x b y) → Fair τ s rows ps t
   fair-none d t i f k a x b y h g p q = (
     (λ e. f a ∙ sym (f b)),
-    (λ e. k a x b y ∙ no-detail a x b y h g (sym (i a) ∙ info-plain τ s rows t a x p) (sym (i b) ∙ info-plain τ s rows t b y q)),
+    (λ e. k a x b y ∙ no-detail a x b y h g (sym (i a) ∙ info-plain (τ .setting) s rows t a x p) (sym (i b) ∙ info-plain (τ .setting) s rows t b y q)),
   )
 
   fair : (t : ℕ) → t ≤ 7 → Fair τ s rows ps t
@@ -172,7 +172,7 @@ pub record Infos (τ : Terms) (s : List ℕ) (rows : List Row) (n t p : ℕ) : T
   pub types-end : ℕ
   pub typed : times (typeByteAt s) n t ≡ F.End types-end
   pub infos-end : ℕ
-  pub infos : infosAt τ s rows n t p ≡ F.End infos-end
+  pub infos : infosAt (τ .setting) s rows n t p ≡ F.End infos-end
   pub begins : t ≤ length s
   pub inside : p ≤ length s
 
@@ -181,14 +181,14 @@ record Info (τ : Terms) (s : List ℕ) (rows : List Row) (n t p : ℕ) : Type 0
   type : getD s t 0 ≤ 7
   there : t < length s
   info-end : ℕ
-  info : infoKnown τ s rows (getD s t 0) p ≡ F.End info-end
+  info : infoKnown (τ .setting) s rows (getD s t 0) p ≡ F.End info-end
   others : Infos τ s rows n (t + 1) info-end
 
 next-info : (τ : Terms) (s : List ℕ) (rows : List Row) (n t p : ℕ) → Infos τ s rows (suc n) t p → Info τ s rows n t p
 unfolding times infosAt
 next-info τ s rows n t p w =
     let u = through (times (typeByteAt s) n) (typeByteAt s t) (w .types-end) (w .typed) in
-    let v = through (infosAt τ s rows n (t + 1)) (infoKnown τ s rows (getD s t 0) p) (w .infos-end) (w .infos) in
+    let v = through (infosAt (τ .setting) s rows n (t + 1)) (infoKnown (τ .setting) s rows (getD s t 0) p) (w .infos-end) (w .infos) in
     let x = type-told s t (u .0) (u .1) in
     record {
       type = x .0;
@@ -202,7 +202,7 @@ next-info τ s rows n t p w =
             infos-end = w .infos-end;
             infos = v .2;
             begins = omega (arith, x .1);
-            inside = info-known-moves τ s rows (getD s t 0) p (v .0) (w .inside) (v .1) .1;
+            inside = info-known-moves (τ .setting) s rows (getD s t 0) p (v .0) (w .inside) (v .1) .1;
           };
     }
 
@@ -235,7 +235,7 @@ module _ (τ : Terms) (s : List ℕ) (rows ps : List Row) (st : Stands τ s rows
       let two = pick-of (eqb type (getD s u 0)) (pick same rest false) (one .1) in
       let three = pick-of same rest (two .1) in
       let c : type ≡ getD s u 0 = eqb-true type (getD s u 0) (two .0) in
-      let known : infoKnown τ s rows type q ≡ F.End k = subst (λ (z : ℕ). infoKnown τ s rows z q ≡ F.End k) (sym c) (y .info) in
+      let known : infoKnown (τ .setting) s rows type q ≡ F.End k = subst (λ (z : ℕ). infoKnown (τ .setting) s rows z q ≡ F.End k) (sym c) (y .info) in
       let o = info-place τ s rows type p m (x .info) in
       let r = info-place τ s rows type q k known in
       let d = name-after (τ .setting) s a (i .0) (i .1) in
@@ -263,7 +263,7 @@ module _ (τ : Terms) (s : List ℕ) (rows ps : List Row) (st : Stands τ s rows
       let name : textFrom s a ≡ textFrom s b = ap (λ (x : Member (List ℕ) (List ℕ)). x .name) (both .0) in
       let detail : detailFrom s rows type p ≡ detailFrom s rows (getD s u 0) q = ap (λ (x : Member (List ℕ) (List ℕ)). x .type) (both .0) in
       let c : type ≡ getD s u 0 = sym (type-is s rows type p (x .type)) ∙ (ap typeByte detail ∙ type-is s rows (getD s u 0) q (y .type)) in
-      let known : infoKnown τ s rows type q ≡ F.End k = subst (λ (z : ℕ). infoKnown τ s rows z q ≡ F.End k) (sym c) (y .info) in
+      let known : infoKnown (τ .setting) s rows type q ≡ F.End k = subst (λ (z : ℕ). infoKnown (τ .setting) s rows z q ≡ F.End k) (sym c) (y .info) in
       let o = info-place τ s rows type p m (x .info) in
       let r = info-place τ s rows type q k known in
       let d = name-after (τ .setting) s a (i .0) (i .1) in

@@ -164,7 +164,7 @@ module _ (τ : Terms) (s : List ℕ) (rows : List Row) where
       id-names p (x .0) e (x .1) (x .2)
 
   -- type 4: a name, and then the number of a library
-  pub class-info : (p e : ℕ) → infoKnown τ s rows 4 p ≡ F.End e
+  pub class-info : (p e : ℕ) → infoKnown (τ .setting) s rows 4 p ≡ F.End e
       → NamesLibrary s rows (e - 4) × (m : ℕ) × (nameAt (τ .setting) s p ≡ F.End m) × (e ≡ m + 4) × (e ≤ length s)
   unfolding infoKnown infoAt
   class-info p e q =
@@ -175,14 +175,14 @@ module _ (τ : Terms) (s : List ℕ) (rows : List Row) where
 
   -- ---- all fields of a row
 
-  info-field : (type p e : ℕ) → infoKnown τ s rows type p ≡ F.End e → All (NamesLibrary s rows) (pick (eqb type 4) ((e - 4) ∷ []) [])
+  info-field : (type p e : ℕ) → infoKnown (τ .setting) s rows type p ≡ F.End e → All (NamesLibrary s rows) (pick (eqb type 4) ((e - 4) ∷ []) [])
   info-field type p e q = picked (λ (l : List ℕ). All (NamesLibrary s rows) l) (eqb type 4) (λ t. both (class-info p e (rw (eqb-true type 4 t) at q) .0) none) (λ t. none)
 
-  pub infos-name : (n types p e : ℕ) → infosAt τ s rows n types p ≡ F.End e → All (NamesLibrary s rows) (infoFields s n types p)
+  pub infos-name : (n types p e : ℕ) → infosAt (τ .setting) s rows n types p ≡ F.End e → All (NamesLibrary s rows) (infoFields s n types p)
   unfolding infosAt infoFields
   infos-name zero types p e q = none
   infos-name (suc n) types p e q =
-      let x = through (infosAt τ s rows n (types + 1)) (infoKnown τ s rows (getD s types 0) p) e q in
+      let x = through (infosAt (τ .setting) s rows n (types + 1)) (infoKnown (τ .setting) s rows (getD s types 0) p) e q in
       let a = info-place τ s rows (getD s types 0) p (x .0) (x .1) in
       rw a (all-append (info-field (getD s types 0) p (x .0) (x .1)) (infos-name n (types + 1) (x .0) e (x .2)))
 
@@ -233,9 +233,9 @@ module _ (τ : Terms) (s : List ℕ) (rows : List Row) (r : Row) (c : ClassStand
   pub class-places : (c .name-end + 4 ≤ c .types) × (c .types + r .count ≤ length s) × (c .types + r .count ≤ c .infos-end) × (c .infos-end ≤ length s)
   class-places =
       let u = u32-says s (c .name-end) (r .count) (c .name-end + 4) (c .counted) in
-      let n = names-there τ s (r .count) (c .name-end + 4) (c .types) (u .within) (c .names) in
+      let n = names-there (τ .setting) s (r .count) (c .name-end + 4) (c .types) (u .within) (c .names) in
       let t = types-there s (r .count) (c .types) (c .types + r .count) (n .1) (c .type-bytes) in
-      let i = infos-moves τ s rows (r .count) (c .types) (c .types + r .count) (c .infos-end) (t .1) (c .infos) in
+      let i = infos-moves (τ .setting) s rows (r .count) (c .types) (c .types + r .count) (c .infos-end) (t .1) (c .infos) in
       (n .0, t .1, i .0, i .1)
 
 -- where the field at p leads to in placed rows: the first library with the name that it says

@@ -13,7 +13,8 @@ use Rattle.format.specs.Terms.{Terms}
 use Rattle.format.specs.declared.Row.{Row}
 use Rattle.format.specs.Bytes.{pick}
 use Rattle.format.specs.Rows.{blank, isObject, isClass, findFrom}
-use Rattle.format.specs.Says.{Class, What, anObject, aString, aPrimitive, aReference, aPrimitiveArray, anObjectArray, aStringArray, aValue, node, textFrom, codeFrom, detailFrom, classFrom, arrayFrom, objectsIn, orderOf, whatFrom, spread, isNulls, isSilent, nodesOf, contentFrom, itemsFrom, valueCode}
+use Rattle.format.specs.Contents.{Class}
+use Rattle.format.specs.Says.{What, anObject, aString, aPrimitive, aReference, aPrimitiveArray, anObjectArray, aStringArray, aValue, node, textFrom, codeFrom, detailFrom, classFrom, arrayFrom, objectsIn, orderOf, whatFrom, spread, isNulls, isSilent, nodesOf, contentFrom, itemsFrom, valueCode}
 use Rattle.format.specs.Tidy.{sameClass, numberIn, Progress, nothing, allEntered, detailNeeds, classNeeds, afterObject, counted, afterWhat}
 use Rattle.lookups.specs.Find.{find-hit}
 use Rattle.laws.specs.Tests.{both-of, differ, either, neither}
@@ -41,25 +42,25 @@ module _ (rows : List Row) where
 
 -- ---- nodes of a row
 
-module _ (s : List ℕ) (rows : List Row) (r : Row) where
-  pub nodes-silent : isSilent (r .kind) ≡ true → nodesOf s rows r ≡ []
+module _ (β s : List ℕ) (rows : List Row) (r : Row) where
+  pub nodes-silent : isSilent (r .kind) ≡ true → nodesOf β s rows r ≡ []
   unfolding nodesOf
   nodes-silent e = rw e
 
-  pub nodes-nulls : isSilent (r .kind) ≡ false → isNulls (r .kind) ≡ true → nodesOf s rows r ≡ spread (r .count) (orderOf rows (r .owner)) (r .slot)
+  pub nodes-nulls : isSilent (r .kind) ≡ false → isNulls (r .kind) ≡ true → nodesOf β s rows r ≡ spread (r .count) (orderOf rows (r .owner)) (r .slot)
   unfolding nodesOf
   nodes-nulls e f = rw (e, f)
 
-  pub nodes-one : isSilent (r .kind) ≡ false → isNulls (r .kind) ≡ false → nodesOf s rows r ≡ node (whatFrom s rows r) (orderOf rows (r .owner)) (r .slot) ∷ []
+  pub nodes-one : isSilent (r .kind) ≡ false → isNulls (r .kind) ≡ false → nodesOf β s rows r ≡ node (whatFrom β s rows r) (orderOf rows (r .owner)) (r .slot) ∷ []
   unfolding nodesOf
   nodes-one e f = rw (e, f)
 
   -- what a row says if its kind is k
   abbrev pub whatAs : ℕ → What
   whatAs k =
-      pick (eqb k 1) (anObject (classFrom s rows (getD rows (r .link - 1) blank)))
-      (pick (eqb k 4) (anObject (classFrom s rows r))
-      (pick (eqb k 5) (anObject (classFrom s rows r))
+      pick (eqb k 1) (anObject (classFrom β s rows (getD rows (r .link - 1) blank)))
+      (pick (eqb k 4) (anObject (classFrom β s rows r))
+      (pick (eqb k 5) (anObject (classFrom β s rows r))
       (pick (eqb k 6) (aString (textFrom s (r .offset + 5)))
       (pick (eqb k 7) (arrayFrom s rows r)
       (pick (eqb k 8) (aPrimitive (codeFrom s (r .offset + 1)) (contentFrom s (codeFrom s (r .offset + 1)) (r .offset + 2)))
@@ -67,18 +68,18 @@ module _ (s : List ℕ) (rows : List Row) (r : Row) where
       (pick (eqb k 15) (aPrimitiveArray (r .count) (codeFrom s (r .offset + 9)) (itemsFrom s (codeFrom s (r .offset + 9)) (r .count) (r .offset + 10)))
       (pick (eqb k 16) (anObjectArray (r .count))
       (pick (eqb k 17) (aStringArray (r .count))
-      (aValue (valueCode s rows r) (contentFrom s (valueCode s rows r) (r .offset))))))))))))
+      (aValue (valueCode β s rows r) (contentFrom s (valueCode β s rows r) (r .offset))))))))))))
 
-  pub what-as : (k : ℕ) → r .kind ≡ k → whatFrom s rows r ≡ whatAs k
+  pub what-as : (k : ℕ) → r .kind ≡ k → whatFrom β s rows r ≡ whatAs k
   unfolding whatFrom
   what-as k e = ap whatAs e
 
 -- ---- what was written once these rows were
 
-module _ (s : List ℕ) (rows : List Row) where
+module _ (β s : List ℕ) (rows : List Row) where
   -- silent rows and nulls leave what was written
   unfoldable pub afterRow : Progress → Row → Progress
-  afterRow w r = pick (isSilent (r .kind)) w (pick (isNulls (r .kind)) w (afterWhat w (whatFrom s rows r)))
+  afterRow w r = pick (isSilent (r .kind)) w (pick (isNulls (r .kind)) w (afterWhat w (whatFrom β s rows r)))
 
   unfoldable pub afterRows : Progress → List Row → Progress
   afterRows w [] = w
@@ -97,7 +98,7 @@ module _ (s : List ℕ) (rows : List Row) where
   unfolding afterRow
   after-run w r e f = rw (e, f)
 
-  pub after-said : (w : Progress) (r : Row) → isSilent (r .kind) ≡ false → isNulls (r .kind) ≡ false → afterRow w r ≡ afterWhat w (whatFrom s rows r)
+  pub after-said : (w : Progress) (r : Row) → isSilent (r .kind) ≡ false → isNulls (r .kind) ≡ false → afterRow w r ≡ afterWhat w (whatFrom β s rows r)
   unfolding afterRow
   after-said w r e f = rw (e, f)
 
@@ -124,38 +125,38 @@ unfoldable pub itemNeeds : List ℕ → List Row → Row → List (List ℕ)
 itemNeeds s rows r = detailNeeds (detailFrom s rows (getD s (itemType s r) 0) (itemType s r + 1))
 
 -- row i is the first of its class
-abbrev pub isNew : List ℕ → List Row → ℕ → Row → Bool
-isNew s rows i r = pick (isClass (r .kind)) (eqb (classFirst s rows (classFrom s rows r)) (i + 1)) false
+abbrev pub isNew : List ℕ → List ℕ → List Row → ℕ → Row → Bool
+isNew β s rows i r = pick (isClass (r .kind)) (eqb (classFirst β s rows (classFrom β s rows r)) (i + 1)) false
 
 -- the libraries that row i needs
-unfoldable pub rowNeeds : List ℕ → List Row → ℕ → Row → List (List ℕ)
-rowNeeds s rows i r = pick (isNew s rows i r) (classNeeds (classFrom s rows r)) (pick (eqb (r .kind) 7) (itemNeeds s rows r) [])
+unfoldable pub rowNeeds : List ℕ → List ℕ → List Row → ℕ → Row → List (List ℕ)
+rowNeeds β s rows i r = pick (isNew β s rows i r) (classNeeds (classFrom β s rows r)) (pick (eqb (r .kind) 7) (itemNeeds s rows r) [])
 
 -- a row's kind, and what was written after it
-pub data Adds (s : List ℕ) (rows : List Row) (w : Progress) (r : Row) : Type 0 where
-  of-class-row : r .kind ≡ 1 → afterRow s rows w r ≡ afterWhat w (anObject (classFrom s rows (getD rows (r .link - 1) blank))) → Adds s rows w r
-  of-own-class : isClass (r .kind) ≡ true → afterRow s rows w r ≡ afterWhat w (anObject (classFrom s rows r)) → Adds s rows w r
+pub data Adds (β s : List ℕ) (rows : List Row) (w : Progress) (r : Row) : Type 0 where
+  of-class-row : r .kind ≡ 1 → afterRow β s rows w r ≡ afterWhat w (anObject (classFrom β s rows (getD rows (r .link - 1) blank))) → Adds β s rows w r
+  of-own-class : isClass (r .kind) ≡ true → afterRow β s rows w r ≡ afterWhat w (anObject (classFrom β s rows r)) → Adds β s rows w r
   of-items : r .kind ≡ 7
-      → afterRow s rows w r ≡ record { count = suc (w .count); classes = w .classes; libraries = allEntered (itemNeeds s rows r) (w .libraries) }
-      → Adds s rows w r
-  of-no-class : isObject (r .kind) ≡ true → isClass (r .kind) ≡ false → eqb (r .kind) 7 ≡ false → afterRow s rows w r ≡ counted w → Adds s rows w r
-  no-object : isObject (r .kind) ≡ false → afterRow s rows w r ≡ w → Adds s rows w r
+      → afterRow β s rows w r ≡ record { count = suc (w .count); classes = w .classes; libraries = allEntered (itemNeeds s rows r) (w .libraries) }
+      → Adds β s rows w r
+  of-no-class : isObject (r .kind) ≡ true → isClass (r .kind) ≡ false → eqb (r .kind) 7 ≡ false → afterRow β s rows w r ≡ counted w → Adds β s rows w r
+  no-object : isObject (r .kind) ≡ false → afterRow β s rows w r ≡ w → Adds β s rows w r
 
-module _ (s : List ℕ) (rows : List Row) (w : Progress) (r : Row) where
+module _ (β s : List ℕ) (rows : List Row) (w : Progress) (r : Row) where
   abbrev afterAs : ℕ → Progress
-  afterAs k = pick (isSilent k) w (pick (isNulls k) w (afterWhat w (whatAs s rows r k)))
+  afterAs k = pick (isSilent k) w (pick (isNulls k) w (afterWhat w (whatAs β s rows r k)))
 
-  after-as : (k : ℕ) → r .kind ≡ k → afterRow s rows w r ≡ afterAs k
+  after-as : (k : ℕ) → r .kind ≡ k → afterRow β s rows w r ≡ afterAs k
   unfolding afterRow whatFrom
   after-as k e = ap afterAs e
 
-  own-class : (k : ℕ) → r .kind ≡ k → isClass k ≡ true → afterAs k ≡ afterWhat w (anObject (classFrom s rows r)) → Adds s rows w r
+  own-class : (k : ℕ) → r .kind ≡ k → isClass k ≡ true → afterAs k ≡ afterWhat w (anObject (classFrom β s rows r)) → Adds β s rows w r
   own-class k e f g = of-own-class (ap isClass e ∙ f) (after-as k e ∙ g)
 
-  no-class : (k : ℕ) → r .kind ≡ k → isObject k ≡ true → isClass k ≡ false → eqb k 7 ≡ false → afterAs k ≡ counted w → Adds s rows w r
+  no-class : (k : ℕ) → r .kind ≡ k → isObject k ≡ true → isClass k ≡ false → eqb k 7 ≡ false → afterAs k ≡ counted w → Adds β s rows w r
   no-class k e a b c g = of-no-class (ap isObject e ∙ a) (ap isClass e ∙ b) (ap (λ (n : ℕ). eqb n 7) e ∙ c) (after-as k e ∙ g)
 
-  none-after : isObject (r .kind) ≡ false → afterRow s rows w r ≡ w
+  none-after : isObject (r .kind) ≡ false → afterRow β s rows w r ≡ w
   unfolding afterRow whatFrom afterWhat
   none-after e =
       let k = r .kind in
@@ -171,14 +172,14 @@ module _ (s : List ℕ) (rows : List Row) (w : Progress) (r : Row) where
       go : (p q x y : Bool)
           → pick p w (pick q w (afterWhat w
           (pick x (aPrimitive (codeFrom s (r .offset + 1)) (contentFrom s (codeFrom s (r .offset + 1)) (r .offset + 2)))
-          (pick y (aReference (orderOf rows (r .link))) (aValue (valueCode s rows r) (contentFrom s (valueCode s rows r) (r .offset))))))) ≡ w
+          (pick y (aReference (orderOf rows (r .link))) (aValue (valueCode β s rows r) (contentFrom s (valueCode β s rows r) (r .offset))))))) ≡ w
       go true q x y = refl
       go false true x y = refl
       go false false true y = refl
       go false false false true = refl
       go false false false false = refl
 
-  pub adds : Adds s rows w r
+  pub adds : Adds β s rows w r
   unfolding afterWhat arrayFrom itemNeeds itemType
   adds =
       let k = r .kind in
@@ -216,33 +217,33 @@ object-count w c = go (numberIn (sameClass c) (w .classes))
     go zero = refl
     go (suc n) = refl
 
-module _ (s : List ℕ) (rows : List Row) where
-  row-count : (w : Progress) (r : Row) → afterRow s rows w r .count ≡ w .count + pick (isObject (r .kind)) 1 0
-  row-count w r = go (adds s rows w r)
+module _ (β s : List ℕ) (rows : List Row) where
+  row-count : (w : Progress) (r : Row) → afterRow β s rows w r .count ≡ w .count + pick (isObject (r .kind)) 1 0
+  row-count w r = go (adds β s rows w r)
     where
-      one : (v : Progress) → afterRow s rows w r ≡ v → v .count ≡ suc (w .count) → isObject (r .kind) ≡ true
-          → afterRow s rows w r .count ≡ w .count + pick (isObject (r .kind)) 1 0
+      one : (v : Progress) → afterRow β s rows w r ≡ v → v .count ≡ suc (w .count) → isObject (r .kind) ≡ true
+          → afterRow β s rows w r .count ≡ w .count + pick (isObject (r .kind)) 1 0
       one v e f g =
           let a : w .count + pick (isObject (r .kind)) 1 0 ≡ w .count + 1 = ap (λ (t : Bool). w .count + pick t 1 0) g in
           ap (λ (x : Progress). x .count) e ∙ omega arith
 
-      go : Adds s rows w r → afterRow s rows w r .count ≡ w .count + pick (isObject (r .kind)) 1 0
-      go (of-class-row k e) = one _ e (object-count w (classFrom s rows (getD rows (r .link - 1) blank))) (ap isObject k)
-      go (of-own-class k e) = one _ e (object-count w (classFrom s rows r)) (class-is-object (r .kind) k)
+      go : Adds β s rows w r → afterRow β s rows w r .count ≡ w .count + pick (isObject (r .kind)) 1 0
+      go (of-class-row k e) = one _ e (object-count w (classFrom β s rows (getD rows (r .link - 1) blank))) (ap isObject k)
+      go (of-own-class k e) = one _ e (object-count w (classFrom β s rows r)) (class-is-object (r .kind) k)
       go (of-items k e) = one _ e refl (ap isObject k)
       go (of-no-class o c a e) = one _ e refl o
       go (no-object o e) =
           let a : w .count + pick (isObject (r .kind)) 1 0 ≡ w .count + 0 = ap (λ (t : Bool). w .count + pick t 1 0) o in
           ap (λ (x : Progress). x .count) e ∙ omega arith
 
-  pub progress-count : (i : ℕ) → i ≤ length rows → progressTo s rows i .count ≡ orderOf rows i
+  pub progress-count : (i : ℕ) → i ≤ length rows → progressTo β s rows i .count ≡ orderOf rows i
   unfolding orderOf objectsIn
-  progress-count zero h = ap (λ (w : Progress). w .count) (progress-none s rows)
+  progress-count zero h = ap (λ (w : Progress). w .count) (progress-none β s rows)
   progress-count (suc i) h =
       let a : i < length rows = omega arith in
-      let e : progressTo s rows i .count ≡ orderOf rows i = progress-count i (omega arith) in
-      let f : progressTo s rows (suc i) .count ≡ progressTo s rows i .count + pick (isObject (getD rows i blank .kind)) 1 0 =
-      ap (λ (w : Progress). w .count) (progress-next s rows i a) ∙ row-count (progressTo s rows i) (getD rows i blank) in
+      let e : progressTo β s rows i .count ≡ orderOf rows i = progress-count i (omega arith) in
+      let f : progressTo β s rows (suc i) .count ≡ progressTo β s rows i .count + pick (isObject (getD rows i blank .kind)) 1 0 =
+      ap (λ (w : Progress). w .count) (progress-next β s rows i a) ∙ row-count (progressTo β s rows i) (getD rows i blank) in
       let g : orderOf rows (suc i) ≡ orderOf rows i + pick (isObject (getD rows i blank .kind)) 1 0 = order-next rows i a in
       f ∙ (ap (λ (n : ℕ). n + pick (isObject (getD rows i blank .kind)) 1 0) e ∙ sym g)
 
@@ -305,45 +306,45 @@ class-of-id τ s rows i r (a-value k x y) e = absurd (omega arith)
 module _ (τ : Terms) (s : List ℕ) (rows : List Row) where
   -- the class of row i
   abbrev pub classAt : ℕ → Class
-  classAt i = classFrom s rows (getD rows i blank)
+  classAt i = classFrom (τ .book) s rows (getD rows i blank)
 
   -- the number of a class before row i: its first object's, or 0
   unfoldable pub classNumber : ℕ → Class → ℕ
-  classNumber i c = pick (leb (classFirst s rows c) i) (orderOf rows (classFirst s rows c)) 0
+  classNumber i c = pick (leb (classFirst (τ .book) s rows c) i) (orderOf rows (classFirst (τ .book) s rows c)) 0
 
-  pub number-known : (i : ℕ) (c : Class) → classFirst s rows c ≤ i → classNumber i c ≡ orderOf rows (classFirst s rows c)
+  pub number-known : (i : ℕ) (c : Class) → classFirst (τ .book) s rows c ≤ i → classNumber i c ≡ orderOf rows (classFirst (τ .book) s rows c)
   unfolding classNumber
-  number-known i c h = rw (le-leb (classFirst s rows c) i h)
+  number-known i c h = rw (le-leb (classFirst (τ .book) s rows c) i h)
 
-  pub number-later : (i : ℕ) (c : Class) → i < classFirst s rows c → classNumber i c ≡ 0
+  pub number-later : (i : ℕ) (c : Class) → i < classFirst (τ .book) s rows c → classNumber i c ≡ 0
   unfolding classNumber
-  number-later i c h = rw (lt-leb (classFirst s rows c) i h)
+  number-later i c h = rw (lt-leb (classFirst (τ .book) s rows c) i h)
 
-  pub first-row : (c : Class) (i : ℕ) → classFirst s rows c ≡ suc i
+  pub first-row : (c : Class) (i : ℕ) → classFirst (τ .book) s rows c ≡ suc i
       → (i < length rows) × (isClass (getD rows i blank .kind) ≡ true) × (sameClass c (classAt i) ≡ true)
   unfolding classFirst
   first-row c i e =
-      let h = find-hit (λ (r : Row). isClass (r .kind) && sameClass c (classFrom s rows r)) rows i e in
+      let h = find-hit (λ (r : Row). isClass (r .kind) && sameClass c (classFrom (τ .book) s rows r)) rows i e in
       let b = both-of (isClass (getD rows i blank .kind)) (sameClass c (classAt i)) (h .1) in
       (h .0, b .0, b .1)
 
   -- a class that has a row has a number above 0
-  pub first-order : (c : Class) → 0 < classFirst s rows c → 0 < orderOf rows (classFirst s rows c)
+  pub first-order : (c : Class) → 0 < classFirst (τ .book) s rows c → 0 < orderOf rows (classFirst (τ .book) s rows c)
   first-order c h =
-      let i : ℕ = classFirst s rows c - 1 in
-      let e : classFirst s rows c ≡ suc i = omega arith in
+      let i : ℕ = classFirst (τ .book) s rows c - 1 in
+      let e : classFirst (τ .book) s rows c ≡ suc i = omega arith in
       let f = first-row c i e in
       let g : orderOf rows (suc i) ≡ suc (orderOf rows i) = order-object rows i (f .0) (class-is-object (getD rows i blank .kind) (f .1)) in
       subst (λ (n : ℕ). 0 < orderOf rows n) (sym e) (omega arith)
 
-  number-stays : (i : ℕ) (c : Class) → (classFirst s rows c ≡ suc i → ⊥) → classNumber (suc i) c ≡ classNumber i c
+  number-stays : (i : ℕ) (c : Class) → (classFirst (τ .book) s rows c ≡ suc i → ⊥) → classNumber (suc i) c ≡ classNumber i c
   number-stays i c h =
-      either (leb (classFirst s rows c) i)
-      (λ e. let a : classFirst s rows c ≤ i = leb-true (classFirst s rows c) i e in number-known (suc i) c (omega arith) ∙ sym (number-known i c a))
+      either (leb (classFirst (τ .book) s rows c) i)
+      (λ e. let a : classFirst (τ .book) s rows c ≤ i = leb-true (classFirst (τ .book) s rows c) i e in number-known (suc i) c (omega arith) ∙ sym (number-known i c a))
       (λ e.
-      let a : i < classFirst s rows c = leb-false (classFirst s rows c) i e in
-      let b : suc i < classFirst s rows c = either (eqb (classFirst s rows c) (suc i)) (λ q. absurd (h (eqb-true (classFirst s rows c) (suc i) q)))
-      (λ q. let z = eqb-false (classFirst s rows c) (suc i) q in omega arith) in
+      let a : i < classFirst (τ .book) s rows c = leb-false (classFirst (τ .book) s rows c) i e in
+      let b : suc i < classFirst (τ .book) s rows c = either (eqb (classFirst (τ .book) s rows c) (suc i)) (λ q. absurd (h (eqb-true (classFirst (τ .book) s rows c) (suc i) q)))
+      (λ q. let z = eqb-false (classFirst (τ .book) s rows c) (suc i) q in omega arith) in
       number-later (suc i) c b ∙ sym (number-later i c a))
 
   -- a table that has the classes of the rows before i
@@ -351,16 +352,16 @@ module _ (τ : Terms) (s : List ℕ) (rows : List Row) where
     pub above : Numbered es
     pub number : (c : Class) → numberIn (sameClass c) es ≡ classNumber i c
 
-  known-stays : (i : ℕ) (es : List (ℕ × Class)) → Known i es → ((c : Class) → classFirst s rows c ≡ suc i → ⊥) → Known (suc i) es
+  known-stays : (i : ℕ) (es : List (ℕ × Class)) → Known i es → ((c : Class) → classFirst (τ .book) s rows c ≡ suc i → ⊥) → Known (suc i) es
   known-stays i es t h = record { above = t .above; number = λ c. t .number c ∙ sym (number-stays i c (h c)) }
 
   -- no class begins at a row of another kind
-  no-class-here : (i : ℕ) → isClass (getD rows i blank .kind) ≡ false → (c : Class) → classFirst s rows c ≡ suc i → ⊥
+  no-class-here : (i : ℕ) → isClass (getD rows i blank .kind) ≡ false → (c : Class) → classFirst (τ .book) s rows c ≡ suc i → ⊥
   no-class-here i e c q = differ (sym (first-row c i q .1) ∙ e)
 
   known-none : Known 0 []
   unfolding numberIn classNumber orderOf objectsIn
-  known-none = record { above = no-entry; number = λ c. none (classFirst s rows c) }
+  known-none = record { above = no-entry; number = λ c. none (classFirst (τ .book) s rows c) }
     where
       none : (k : ℕ) → 0 ≡ pick (leb k 0) (objectsIn (take k rows)) 0
       none zero = refl
@@ -369,24 +370,24 @@ module _ (τ : Terms) (s : List ℕ) (rows : List Row) where
   module _ (same-refl : (c : Class) → sameClass c c ≡ true) (same-true : (c d : Class) → sameClass c d ≡ true → c ≡ d) where
     -- a class row is not before the first row of its class
     pub first-before : (i : ℕ) → i < length rows → isClass (getD rows i blank .kind) ≡ true
-        → (0 < classFirst s rows (classAt i)) × (classFirst s rows (classAt i) ≤ suc i)
+        → (0 < classFirst (τ .book) s rows (classAt i)) × (classFirst (τ .book) s rows (classAt i) ≤ suc i)
     unfolding classFirst
     first-before i h e =
-        let x = find-before (λ (r : Row). isClass (r .kind) && sameClass (classAt i) (classFrom s rows r)) 0 rows i h (rw (e, same-refl (classAt i))) in
+        let x = find-before (λ (r : Row). isClass (r .kind) && sameClass (classAt i) (classFrom (τ .book) s rows r)) 0 rows i h (rw (e, same-refl (classAt i))) in
         (x .0, omega (arith, x .1))
 
     -- the class whose first row it is
-    first-here : (i : ℕ) (c : Class) → classFirst s rows c ≡ suc i → c ≡ classAt i
+    first-here : (i : ℕ) (c : Class) → classFirst (τ .book) s rows c ≡ suc i → c ≡ classAt i
     first-here i c e = same-true c (classAt i) (first-row c i e .2)
 
-    known-class : (i : ℕ) (es : List (ℕ × Class)) → Known i es → (c : Class) → 0 < classFirst s rows c → numberIn (sameClass c) es ≡ 0 → i < classFirst s rows c
+    known-class : (i : ℕ) (es : List (ℕ × Class)) → Known i es → (c : Class) → 0 < classFirst (τ .book) s rows c → numberIn (sameClass c) es ≡ 0 → i < classFirst (τ .book) s rows c
     known-class i es t c h e =
-        either (leb (classFirst s rows c) i)
+        either (leb (classFirst (τ .book) s rows c) i)
         (λ q.
-        let a : orderOf rows (classFirst s rows c) ≡ 0 = sym (number-known i c (leb-true (classFirst s rows c) i q)) ∙ (sym (t .number c) ∙ e) in
+        let a : orderOf rows (classFirst (τ .book) s rows c) ≡ 0 = sym (number-known i c (leb-true (classFirst (τ .book) s rows c) i q)) ∙ (sym (t .number c) ∙ e) in
         let b = first-order c h in
         absurd (omega arith))
-        (λ q. leb-false (classFirst s rows c) i q)
+        (λ q. leb-false (classFirst (τ .book) s rows c) i q)
 
     known-new : (i : ℕ) (es : List (ℕ × Class)) (n : ℕ) → Known i es → i < length rows → isClass (getD rows i blank .kind) ≡ true
         → numberIn (sameClass (classAt i)) es ≡ 0 → n ≡ orderOf rows i → Known (suc i) (es ++ ((suc n, classAt i) ∷ []))
@@ -400,7 +401,7 @@ module _ (τ : Terms) (s : List ℕ) (rows : List Row) where
         keep zero = refl
         keep (suc m) = rw (ne-eqb (suc m) 0 (λ e. omega arith))
 
-        first : classFirst s rows (classAt i) ≡ suc i
+        first : classFirst (τ .book) s rows (classAt i) ≡ suc i
         first =
             let b = first-before i h k in
             let a = known-class i es t (classAt i) (b .0) z in
@@ -409,7 +410,7 @@ module _ (τ : Terms) (s : List ℕ) (rows : List Row) where
         here : pick (eqb (numberIn (sameClass (classAt i)) es) 0) (pick (sameClass (classAt i) (classAt i)) (suc n) 0) (numberIn (sameClass (classAt i)) es)
             ≡ classNumber (suc i) (classAt i)
         here =
-            let a : classFirst s rows (classAt i) ≤ suc i = omega (arith, first) in
+            let a : classFirst (τ .book) s rows (classAt i) ≤ suc i = omega (arith, first) in
             let b : orderOf rows (suc i) ≡ suc (orderOf rows i) = order-object rows i h (class-is-object (getD rows i blank .kind) k) in
             let e : suc n ≡ classNumber (suc i) (classAt i) = (ap suc o ∙ sym b) ∙ (ap (orderOf rows) (sym first) ∙ sym (number-known (suc i) (classAt i) a)) in
             rw (z, same-refl (classAt i)) e
@@ -424,45 +425,45 @@ module _ (τ : Terms) (s : List ℕ) (rows : List Row) where
 
     -- an object of kind 1 is of a class that is known before it
     pub id-known : (i : ℕ) (r : Row) → i < length rows → RowStands τ s rows i r → r .kind ≡ 1 → (es : List (ℕ × Class)) → Known i es
-        → 0 < numberIn (sameClass (classFrom s rows (getD rows (r .link - 1) blank))) es
+        → 0 < numberIn (sameClass (classFrom (τ .book) s rows (getD rows (r .link - 1) blank))) es
     id-known i r h x k es t =
         let y = class-of-id τ s rows i r x k in
         let j : ℕ = y .0 in
         let a : r .link - 1 ≡ j = omega (arith, y .1) in
         let l : j < i = y .2 in
         let b = first-before j (omega arith) (y .3) in
-        let f : classFirst s rows (classAt j) ≤ i = omega (arith, b .1) in
+        let f : classFirst (τ .book) s rows (classAt j) ≤ i = omega (arith, b .1) in
         let o = first-order (classAt j) (b .0) in
-        let n : numberIn (sameClass (classAt j)) es ≡ orderOf rows (classFirst s rows (classAt j)) = t .number (classAt j) ∙ number-known i (classAt j) f in
+        let n : numberIn (sameClass (classAt j)) es ≡ orderOf rows (classFirst (τ .book) s rows (classAt j)) = t .number (classAt j) ∙ number-known i (classAt j) f in
         let p : 0 < numberIn (sameClass (classAt j)) es = omega arith in
         subst (λ (m : ℕ). 0 < numberIn (sameClass (classAt m)) es) (sym a) p
 
     -- where its class is known, row i is the first of none
-    row-known : (i : ℕ) (es : List (ℕ × Class)) → Known i es → (0 < numberIn (sameClass (classAt i)) es) → (c : Class) → classFirst s rows c ≡ suc i → ⊥
+    row-known : (i : ℕ) (es : List (ℕ × Class)) → Known i es → (0 < numberIn (sameClass (classAt i)) es) → (c : Class) → classFirst (τ .book) s rows c ≡ suc i → ⊥
     row-known i es t h c e =
         let d = first-here i c e in
-        let a : classFirst s rows (classAt i) ≡ suc i = subst (λ (x : Class). classFirst s rows x ≡ suc i) d e in
+        let a : classFirst (τ .book) s rows (classAt i) ≡ suc i = subst (λ (x : Class). classFirst (τ .book) s rows x ≡ suc i) d e in
         let b : numberIn (sameClass (classAt i)) es ≡ 0 = t .number (classAt i) ∙ number-later i (classAt i) (omega arith) in
         omega arith
 
     module _ (st : Stands τ s rows) where
       -- the classes of the rows before i, each by the order of its first object
-      pub known : (i : ℕ) → i ≤ length rows → Known i (progressTo s rows i .classes)
-      known zero h = subst (λ (w : Progress). Known 0 (w .classes)) (sym (progress-none s rows)) known-none
-      known (suc i) h = go (known i (omega arith)) (adds s rows (progressTo s rows i) (getD rows i blank))
+      pub known : (i : ℕ) → i ≤ length rows → Known i (progressTo (τ .book) s rows i .classes)
+      known zero h = subst (λ (w : Progress). Known 0 (w .classes)) (sym (progress-none (τ .book) s rows)) known-none
+      known (suc i) h = go (known i (omega arith)) (adds (τ .book) s rows (progressTo (τ .book) s rows i) (getD rows i blank))
         where
           w : Progress
-          w = progressTo s rows i
+          w = progressTo (τ .book) s rows i
 
           inside : i < length rows
           inside = omega arith
 
-          into : (v : Progress) → afterRow s rows w (getD rows i blank) ≡ v → Known (suc i) (v .classes) → Known (suc i) (progressTo s rows (suc i) .classes)
-          into v e k = subst (λ (x : Progress). Known (suc i) (x .classes)) (sym (progress-next s rows i inside ∙ e)) k
+          into : (v : Progress) → afterRow (τ .book) s rows w (getD rows i blank) ≡ v → Known (suc i) (v .classes) → Known (suc i) (progressTo (τ .book) s rows (suc i) .classes)
+          into v e k = subst (λ (x : Progress). Known (suc i) (x .classes)) (sym (progress-next (τ .book) s rows i inside ∙ e)) k
 
-          go : Known i (w .classes) → Adds s rows w (getD rows i blank) → Known (suc i) (progressTo s rows (suc i) .classes)
+          go : Known i (w .classes) → Adds (τ .book) s rows w (getD rows i blank) → Known (suc i) (progressTo (τ .book) s rows (suc i) .classes)
           go t (of-class-row k e) =
-              let d : Class = classFrom s rows (getD rows (getD rows i blank .link - 1) blank) in
+              let d : Class = classFrom (τ .book) s rows (getD rows (getD rows i blank .link - 1) blank) in
               let p = id-known i (getD rows i blank) inside (st .each i inside) k (w .classes) t in
               into (counted w) (e ∙ object-old w d p) (known-stays i (w .classes) t (no-class-here i (ap isClass k)))
           go t (of-own-class k e) =
@@ -470,7 +471,7 @@ module _ (τ : Terms) (s : List ℕ) (rows : List Row) where
               (λ q.
               let z = eqb-true (numberIn (sameClass (classAt i)) (w .classes)) 0 q in
               into (record { count = suc (w .count); classes = w .classes ++ ((suc (w .count), classAt i) ∷ []); libraries = allEntered (classNeeds (classAt i)) (w .libraries) })
-              (e ∙ object-new w (classAt i) z) (known-new i (w .classes) (w .count) t inside k z (progress-count s rows i (omega arith))))
+              (e ∙ object-new w (classAt i) z) (known-new i (w .classes) (w .count) t inside k z (progress-count (τ .book) s rows i (omega arith))))
               (λ q.
               let z = eqb-false (numberIn (sameClass (classAt i)) (w .classes)) 0 q in
               let p : 0 < numberIn (sameClass (classAt i)) (w .classes) = omega arith in
@@ -481,55 +482,55 @@ module _ (τ : Terms) (s : List ℕ) (rows : List Row) where
               into _ e (known-stays i (w .classes) t (no-class-here i (either (isClass (getD rows i blank .kind)) (λ c. differ (sym (class-is-object (getD rows i blank .kind) c) ∙ o)) (λ c. c))))
 
       -- the number of a class before row i
-      pub class-known : (i : ℕ) → i ≤ length rows → (c : Class) → classFirst s rows c ≤ i
-          → numberIn (sameClass c) (progressTo s rows i .classes) ≡ orderOf rows (classFirst s rows c)
+      pub class-known : (i : ℕ) → i ≤ length rows → (c : Class) → classFirst (τ .book) s rows c ≤ i
+          → numberIn (sameClass c) (progressTo (τ .book) s rows i .classes) ≡ orderOf rows (classFirst (τ .book) s rows c)
       class-known i h c k = known i h .number c ∙ number-known i c k
 
-      pub class-later : (i : ℕ) → i ≤ length rows → (c : Class) → i < classFirst s rows c → numberIn (sameClass c) (progressTo s rows i .classes) ≡ 0
+      pub class-later : (i : ℕ) → i ≤ length rows → (c : Class) → i < classFirst (τ .book) s rows c → numberIn (sameClass c) (progressTo (τ .book) s rows i .classes) ≡ 0
       class-later i h c k = known i h .number c ∙ number-later i c k
 
       -- the libraries, each entered by the first row that needs it
       pub progress-libraries : (i : ℕ) → i < length rows
-          → progressTo s rows (suc i) .libraries ≡ allEntered (rowNeeds s rows i (getD rows i blank)) (progressTo s rows i .libraries)
+          → progressTo (τ .book) s rows (suc i) .libraries ≡ allEntered (rowNeeds (τ .book) s rows i (getD rows i blank)) (progressTo (τ .book) s rows i .libraries)
       unfolding rowNeeds allEntered
       progress-libraries i h =
-          ap (λ (v : Progress). v .libraries) (progress-next s rows i h) ∙ go (known i (omega arith)) (adds s rows (progressTo s rows i) (getD rows i blank))
+          ap (λ (v : Progress). v .libraries) (progress-next (τ .book) s rows i h) ∙ go (known i (omega arith)) (adds (τ .book) s rows (progressTo (τ .book) s rows i) (getD rows i blank))
         where
           w : Progress
-          w = progressTo s rows i
+          w = progressTo (τ .book) s rows i
 
           r : Row
           r = getD rows i blank
 
-          none : isClass (r .kind) ≡ false → eqb (r .kind) 7 ≡ false → (v : Progress) → afterRow s rows w r ≡ v → v .libraries ≡ w .libraries
-              → afterRow s rows w r .libraries ≡ allEntered (rowNeeds s rows i r) (w .libraries)
+          none : isClass (r .kind) ≡ false → eqb (r .kind) 7 ≡ false → (v : Progress) → afterRow (τ .book) s rows w r ≡ v → v .libraries ≡ w .libraries
+              → afterRow (τ .book) s rows w r .libraries ≡ allEntered (rowNeeds (τ .book) s rows i r) (w .libraries)
           none c a v e f = rw (c, a) (ap (λ (x : Progress). x .libraries) e ∙ f)
 
-          new : isClass (r .kind) ≡ true → afterRow s rows w r ≡ afterWhat w (anObject (classAt i)) → Known i (w .classes)
-              → classFirst s rows (classAt i) ≡ i + 1
-              → afterRow s rows w r .libraries ≡ allEntered (rowNeeds s rows i r) (w .libraries)
+          new : isClass (r .kind) ≡ true → afterRow (τ .book) s rows w r ≡ afterWhat w (anObject (classAt i)) → Known i (w .classes)
+              → classFirst (τ .book) s rows (classAt i) ≡ i + 1
+              → afterRow (τ .book) s rows w r .libraries ≡ allEntered (rowNeeds (τ .book) s rows i r) (w .libraries)
           new c e t f =
               let z : numberIn (sameClass (classAt i)) (w .classes) ≡ 0 = t .number (classAt i) ∙ number-later i (classAt i) (omega arith) in
-              rw (c, eq-eqb (classFirst s rows (classAt i)) (i + 1) f) (ap (λ (x : Progress). x .libraries) (e ∙ object-new w (classAt i) z))
+              rw (c, eq-eqb (classFirst (τ .book) s rows (classAt i)) (i + 1) f) (ap (λ (x : Progress). x .libraries) (e ∙ object-new w (classAt i) z))
 
-          old : isClass (r .kind) ≡ true → eqb (r .kind) 7 ≡ false → afterRow s rows w r ≡ afterWhat w (anObject (classAt i)) → Known i (w .classes)
-              → (classFirst s rows (classAt i) ≡ i + 1 → ⊥)
-              → afterRow s rows w r .libraries ≡ allEntered (rowNeeds s rows i r) (w .libraries)
+          old : isClass (r .kind) ≡ true → eqb (r .kind) 7 ≡ false → afterRow (τ .book) s rows w r ≡ afterWhat w (anObject (classAt i)) → Known i (w .classes)
+              → (classFirst (τ .book) s rows (classAt i) ≡ i + 1 → ⊥)
+              → afterRow (τ .book) s rows w r .libraries ≡ allEntered (rowNeeds (τ .book) s rows i r) (w .libraries)
           old c a e t f =
               let b = first-before i h c in
-              let b1 : classFirst s rows (classAt i) ≤ suc i = b .1 in
-              let k : classFirst s rows (classAt i) ≤ i = omega arith in
-              let n : numberIn (sameClass (classAt i)) (w .classes) ≡ orderOf rows (classFirst s rows (classAt i)) = t .number (classAt i) ∙ number-known i (classAt i) k in
+              let b1 : classFirst (τ .book) s rows (classAt i) ≤ suc i = b .1 in
+              let k : classFirst (τ .book) s rows (classAt i) ≤ i = omega arith in
+              let n : numberIn (sameClass (classAt i)) (w .classes) ≡ orderOf rows (classFirst (τ .book) s rows (classAt i)) = t .number (classAt i) ∙ number-known i (classAt i) k in
               let o = first-order (classAt i) (b .0) in
               let p : 0 < numberIn (sameClass (classAt i)) (w .classes) = omega arith in
-              rw (c, ne-eqb (classFirst s rows (classAt i)) (i + 1) f, a) (ap (λ (x : Progress). x .libraries) (e ∙ object-old w (classAt i) p))
+              rw (c, ne-eqb (classFirst (τ .book) s rows (classAt i)) (i + 1) f, a) (ap (λ (x : Progress). x .libraries) (e ∙ object-old w (classAt i) p))
 
-          go : Known i (w .classes) → Adds s rows w r → afterRow s rows w r .libraries ≡ allEntered (rowNeeds s rows i r) (w .libraries)
+          go : Known i (w .classes) → Adds (τ .book) s rows w r → afterRow (τ .book) s rows w r .libraries ≡ allEntered (rowNeeds (τ .book) s rows i r) (w .libraries)
           go t (of-class-row k e) =
-              let d : Class = classFrom s rows (getD rows (r .link - 1) blank) in
+              let d : Class = classFrom (τ .book) s rows (getD rows (r .link - 1) blank) in
               none (ap isClass k) (ap (λ (n : ℕ). eqb n 7) k) (counted w) (e ∙ object-old w d (id-known i r h (st .each i h) k (w .classes) t)) refl
           go t (of-own-class k e) =
-              let f : ℕ = classFirst s rows (classAt i) in
+              let f : ℕ = classFirst (τ .book) s rows (classAt i) in
               either (eqb f (i + 1)) (λ q. new k e t (eqb-true f (i + 1) q))
               (λ q. old k (class-kind (r .kind) k (λ (n : ℕ). eqb n 7 ≡ false) refl refl) e t (eqb-false f (i + 1) q))
           go t (of-items k e) =

@@ -45,22 +45,22 @@ one-field e b p h l = next {b = b} {p = p} h (no-field e (suc p) l)
 
 module _ (τ : Terms) (s : List ℕ) (rows : List Row) where
   -- a detail from p to e
-  info-rising : (type p e : ℕ) → p ≤ length s → infoKnown τ s rows type p ≡ F.End e → Rising e p (pick (eqb type 4) ((e - 4) ∷ []) [])
-  info-rising type p e h q = picked (Rising e p) (eqb type 4) of-class (λ t. let m = info-known-moves τ s rows type p e h q in no-field e p (omega arith))
+  info-rising : (type p e : ℕ) → p ≤ length s → infoKnown (τ .setting) s rows type p ≡ F.End e → Rising e p (pick (eqb type 4) ((e - 4) ∷ []) [])
+  info-rising type p e h q = picked (Rising e p) (eqb type 4) of-class (λ t. let m = info-known-moves (τ .setting) s rows type p e h q in no-field e p (omega arith))
     where
       of-class : eqb type 4 ≡ true → Rising e p ((e - 4) ∷ [])
       of-class t =
-          let c = class-info τ s rows p e (ap (λ (x : ℕ). infoKnown τ s rows x p) (sym (eqb-true type 4 t)) ∙ q) in
+          let c = class-info τ s rows p e (ap (λ (x : ℕ). infoKnown (τ .setting) s rows x p) (sym (eqb-true type 4 t)) ∙ q) in
           let m = c .moves in
           one-field e p (e - 4) (omega arith) (omega arith)
 
-  infos-rising : (n types p e : ℕ) → p ≤ length s → infosAt τ s rows n types p ≡ F.End e → Rising e p (infoFields s n types p)
+  infos-rising : (n types p e : ℕ) → p ≤ length s → infosAt (τ .setting) s rows n types p ≡ F.End e → Rising e p (infoFields s n types p)
   unfolding infosAt infoFields
   infos-rising zero types p e h q = let z : p ≡ e = cc in no-field e p (omega arith)
   infos-rising (suc n) types p e h q =
       let type = getD s types 0 in
-      let x = through (infosAt τ s rows n (types + 1)) (infoKnown τ s rows type p) e q in
-      let m = info-known-moves τ s rows type p (x .0) h (x .1) in
+      let x = through (infosAt (τ .setting) s rows n (types + 1)) (infoKnown (τ .setting) s rows type p) e q in
+      let m = info-known-moves (τ .setting) s rows type p (x .0) h (x .1) in
       rw (info-place τ s rows type p (x .0) (x .1))
       (rising-append e (x .0) p (pick (eqb type 4) ((x .0 - 4) ∷ []) []) (infoFields s n (types + 1) (x .0))
       (info-rising type p (x .0) h (x .1)) (infos-rising n (types + 1) (x .0) e (omega arith) (x .2)))

@@ -71,28 +71,28 @@ module _ (s : List ℕ) where
     unfolding rowFields
     other-row-fields e = ap (λ (t : Bool). pick t (classFields s q) (pick (eqb (q .kind) 7) (arrayFields s q) [])) e
 
-  module _ (rows : List Row) (i : ℕ) (r : Row) where
-    pub class-row-needs : isNew s rows i r ≡ true → rowNeeds s rows i r ≡ classNeeds (classFrom s rows r)
-    unfolding rowNeeds
-    class-row-needs e = ap (λ (t : Bool). pick t (classNeeds (classFrom s rows r)) (pick (eqb (r .kind) 7) (itemNeeds s rows r) [])) e
+module _ (β s : List ℕ) (rows : List Row) (i : ℕ) (r : Row) where
+  pub class-row-needs : isNew β s rows i r ≡ true → rowNeeds β s rows i r ≡ classNeeds (classFrom β s rows r)
+  unfolding rowNeeds
+  class-row-needs e = ap (λ (t : Bool). pick t (classNeeds (classFrom β s rows r)) (pick (eqb (r .kind) 7) (itemNeeds s rows r) [])) e
 
-    pub other-row-needs : isNew s rows i r ≡ false → rowNeeds s rows i r ≡ pick (eqb (r .kind) 7) (itemNeeds s rows r) []
-    unfolding rowNeeds
-    other-row-needs e = ap (λ (t : Bool). pick t (classNeeds (classFrom s rows r)) (pick (eqb (r .kind) 7) (itemNeeds s rows r) [])) e
+  pub other-row-needs : isNew β s rows i r ≡ false → rowNeeds β s rows i r ≡ pick (eqb (r .kind) 7) (itemNeeds s rows r) []
+  unfolding rowNeeds
+  other-row-needs e = ap (λ (t : Bool). pick t (classNeeds (classFrom β s rows r)) (pick (eqb (r .kind) 7) (itemNeeds s rows r) [])) e
 
 -- ---- the libraries that a row names
 
 module _ (τ : Terms) (s : List ℕ) (rows ps fs : List Row) (st : Stands τ s rows) (pl : Placed τ s rows ps) (fi : Firsts s rows ps fs) where
   module _ (i : ℕ) (h : i < length rows) where
     -- a class's first row needs its libraries
-    pub first-new : isFirst i (getD fs i blank) ≡ isNew s rows i (getD rows i blank)
+    pub first-new : isFirst i (getD fs i blank) ≡ isNew (τ .book) s rows i (getD rows i blank)
     first-new =
         either (isClass (getD rows i blank .kind))
         (λ k. ap (isFirst i) (class-words τ s rows ps fs st pl fi i h k))
         (λ k. ap (λ (t : Bool). pick t (eqb (getD fs i blank .link) (i + 1)) false) (ap isClass (first-kind τ s rows ps fs st pl fi i h) ∙ k)
-        ∙ sym (ap (λ (t : Bool). pick t (eqb (classFirst s rows (classFrom s rows (getD rows i blank))) (i + 1)) false) k))
+        ∙ sym (ap (λ (t : Bool). pick t (eqb (classFirst (τ .book) s rows (classFrom (τ .book) s rows (getD rows i blank))) (i + 1)) false) k))
 
-    class-names : isClass (getD rows i blank .kind) ≡ true → namesOf s rows (classFields s (getD fs i blank)) ≡ classNeeds (classFrom s rows (getD rows i blank))
+    class-names : isClass (getD rows i blank .kind) ≡ true → namesOf s rows (classFields s (getD fs i blank)) ≡ classNeeds (classFrom (τ .book) s rows (getD rows i blank))
     class-names k =
         let e = class-words τ s rows ps fs st pl fi i h k in
         class-need τ s rows (getD rows i blank) (class-at τ s rows st i h k) (getD fs i blank)
@@ -104,15 +104,15 @@ module _ (τ : Terms) (s : List ℕ) (rows ps fs : List Row) (st : Stands τ s r
         array-need τ s rows (getD rows i blank) (array-at τ s rows st i h k) (getD fs i blank)
         (ap (λ (z : Row). z .offset) (object-words τ s rows ps fs st pl fi i h (ap isObject k) (ap isClass k)))
 
-    row-names : namesOf s rows (rowFields s i (getD fs i blank)) ≡ rowNeeds s rows i (getD rows i blank)
+    row-names : namesOf s rows (rowFields s i (getD fs i blank)) ≡ rowNeeds (τ .book) s rows i (getD rows i blank)
     unfolding namesOf
     row-names =
-        either (isNew s rows i r)
+        either (isNew (τ .book) s rows i r)
         (λ e. ap (namesOf s rows) (class-row-fields s i q (first-new ∙ e))
-        ∙ (class-names (pick-of (isClass (r .kind)) (eqb (classFirst s rows (classFrom s rows r)) (i + 1)) e .0) ∙ sym (class-row-needs s rows i r e)))
+        ∙ (class-names (pick-of (isClass (r .kind)) (eqb (classFirst (τ .book) s rows (classFrom (τ .book) s rows r)) (i + 1)) e .0) ∙ sym (class-row-needs (τ .book) s rows i r e)))
         (λ e. ap (namesOf s rows) (other-row-fields s i q (first-new ∙ e))
         ∙ (ap (λ (k : ℕ). namesOf s rows (pick (eqb k 7) (arrayFields s q) [])) (first-kind τ s rows ps fs st pl fi i h)
-        ∙ (items (eqb (r .kind) 7) refl ∙ sym (other-row-needs s rows i r e))))
+        ∙ (items (eqb (r .kind) 7) refl ∙ sym (other-row-needs (τ .book) s rows i r e))))
       where
         r : Row
         r = getD rows i blank
@@ -126,9 +126,9 @@ module _ (τ : Terms) (s : List ℕ) (rows ps fs : List Row) (st : Stands τ s r
         items false e = refl
 
   -- the libraries that the rows before row i need
-  libraries-before : (i : ℕ) → i ≤ length rows → progressTo s rows i .libraries ≡ librariesFor s rows (fieldsFrom s 0 (take i fs))
+  libraries-before : (i : ℕ) → i ≤ length rows → progressTo (τ .book) s rows i .libraries ≡ librariesFor s rows (fieldsFrom s 0 (take i fs))
   unfolding fieldsFrom namesOf allEntered
-  libraries-before zero h = ap (λ (w : Progress). w .libraries) (progress-none s rows)
+  libraries-before zero h = ap (λ (w : Progress). w .libraries) (progress-none (τ .book) s rows)
   libraries-before (suc i) h =
       let b : List ℕ = fieldsFrom s 0 (take i fs) in
       let l : i < length fs = omega (arith, fi .size, pl .size) in
@@ -138,7 +138,7 @@ module _ (τ : Terms) (s : List ℕ) (rows ps fs : List Row) (st : Stands τ s r
 
   -- ---- row i, whose fields name these libraries
 
-  module _ (F : Fields s rows fs) (i : ℕ) (h : i < length rows) (fields : List ℕ) (needs : List (List ℕ)) (f : rowFields s i (getD fs i blank) ≡ fields) (n : rowNeeds s rows i (getD rows i blank) ≡ needs) where
+  module _ (F : Fields s rows fs) (i : ℕ) (h : i < length rows) (fields : List ℕ) (needs : List (List ℕ)) (f : rowFields s i (getD fs i blank) ≡ fields) (n : rowNeeds (τ .book) s rows i (getD rows i blank) ≡ needs) where
     rest : List ℕ
     rest = fieldsFrom s (i + 1) (drop (suc i) fs)
 
@@ -150,13 +150,13 @@ module _ (τ : Terms) (s : List ℕ) (rows ps fs : List Row) (st : Stands τ s r
     cut = ap (λ (l : List ℕ). fieldsFrom s 0 (take i fs) ++ (l ++ rest)) (sym f) ∙ fields-cut s fs i (omega (arith, fi .size, pl .size))
 
     -- the library records before its record
-    pub row-out : All (Spelled s rows fs) (fieldsFrom s 0 fs) → needsOut s (needed s fs) fields ≡ encs (libraryRecords needs (progressTo s rows i .libraries))
+    pub row-out : All (Spelled s rows fs) (fieldsFrom s 0 fs) → needsOut s (needed s fs) fields ≡ encs (libraryRecords needs (progressTo (τ .book) s rows i .libraries))
     row-out a =
         stretch-out s rows fs F a fields (fieldsFrom s 0 (take i fs)) rest cut
         ∙ ap₂ (λ (x : List (List ℕ)) (t : Libraries). encs (libraryRecords x t)) names (sym (libraries-before i (omega arith)))
 
     -- and the numbers that its libraries have after it
-    pub row-numbers : All (Numbered s rows (needed s fs) (allEntered needs (progressTo s rows i .libraries))) fields
+    pub row-numbers : All (Numbered s rows (needed s fs) (allEntered needs (progressTo (τ .book) s rows i .libraries))) fields
     row-numbers =
         subst (λ (t : Libraries). All (Numbered s rows (needed s fs) t) fields)
         (ap₂ (λ (x : List (List ℕ)) (t : Libraries). allEntered x t) names (sym (libraries-before i (omega arith))))

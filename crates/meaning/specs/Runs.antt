@@ -77,9 +77,9 @@ records-plain w a h = go a (sort-of w a) h
     go x (plain p) e = p
 
 -- only a row of nulls says a null
-pub what-some : (s : List ℕ) (rows : List Row) (r : Row) → isNothing (whatFrom s rows r) ≡ false
+pub what-some : (β s : List ℕ) (rows : List Row) (r : Row) → isNothing (whatFrom β s rows r) ≡ false
 unfolding whatFrom arrayFrom
-what-some s rows r =
+what-some β s rows r =
     let P : What → Type 0 = λ (a : What). isNothing a ≡ false in
     let k = r .kind in
     picked P (eqb k 1) (λ e. refl)
@@ -158,16 +158,16 @@ nulls-speak k e = nulls-kind k e (λ (n : ℕ). isSilent n ≡ false) refl refl 
 nulls-other : (k : ℕ) → isNulls k ≡ true → eqb k 12 ≡ false
 nulls-other k e = nulls-kind k e (λ (n : ℕ). eqb n 12 ≡ false) refl refl refl
 
-module _ (s : List ℕ) (rows : List Row) (r : Row) where
+module _ (β s : List ℕ) (rows : List Row) (r : Row) where
   -- libraries and runs of 0 say nothing, and nothing is gathered or written at them
-  pub nodes-passed : isPassed r ≡ true → nodesOf s rows r ≡ []
+  pub nodes-passed : isPassed r ≡ true → nodesOf β s rows r ≡ []
   unfolding spread
   nodes-passed e =
-      either (eqb (r .kind) 12) (λ a. nodes-silent s rows r (ap isSilent (eqb-true (r .kind) 12 a)))
+      either (eqb (r .kind) 12) (λ a. nodes-silent β s rows r (ap isSilent (eqb-true (r .kind) 12 a)))
       (λ a. either (isNulls (r .kind))
       (λ b.
       let c : eqb (r .count) 0 ≡ true = sym (rw (a, b)) ∙ e in
-      nodes-nulls s rows r (nulls-speak (r .kind) b) b ∙ ap (λ (n : ℕ). spread n (orderOf rows (r .owner)) (r .slot)) (eqb-true (r .count) 0 c))
+      nodes-nulls β s rows r (nulls-speak (r .kind) b) b ∙ ap (λ (n : ℕ). spread n (orderOf rows (r .owner)) (r .slot)) (eqb-true (r .count) 0 c))
       (λ b. let c : isPassed r ≡ false = rw (a, b) in differ (sym e ∙ c)))
 
 pub passed-library : (r : Row) → r .kind ≡ 12 → isPassed r ≡ true
@@ -197,7 +197,7 @@ nullsAfter rows w r =
     let o = orderOf rows (r .owner) in
     runBy o (pick (eqb o (w .owner)) (w .count + r .count) (r .count))
 
-module _ (s : List ℕ) (rows : List Row) (r : Row) (g : Gathered) (w : Run) (m : Match rows g w) where
+module _ (β s : List ℕ) (rows : List Row) (r : Row) (g : Gathered) (w : Run) (m : Match rows g w) where
   -- a row of nulls, at least one
   module _ (e : isNulls (r .kind) ≡ true) (some : 0 < r .count) (owns : Owner rows (r .owner)) where
     nulls-stay : isPassed r ≡ false
@@ -226,7 +226,7 @@ module _ (s : List ℕ) (rows : List Row) (r : Row) (g : Gathered) (w : Run) (m 
         go false = refl
 
     pub null-row : (p : Progress) (ns : List Node)
-        → encs (squeeze w (pack p (nodesOf s rows r ++ ns))) ≡ beforeOut g r ++ encs (squeeze (nullsAfter rows w r) (pack p ns))
+        → encs (squeeze w (pack p (nodesOf β s rows r ++ ns))) ≡ beforeOut g r ++ encs (squeeze (nullsAfter rows w r) (pack p ns))
     null-row p ns = go (r .count) refl
       where
         o : ℕ
@@ -235,10 +235,10 @@ module _ (s : List ℕ) (rows : List Row) (r : Row) (g : Gathered) (w : Run) (m 
         t : Bool
         t = eqb o (w .owner)
 
-        nodes : nodesOf s rows r ≡ spread (r .count) o (r .slot)
-        nodes = nodes-nulls s rows r (nulls-speak (r .kind) e) e
+        nodes : nodesOf β s rows r ≡ spread (r .count) o (r .slot)
+        nodes = nodes-nulls β s rows r (nulls-speak (r .kind) e) e
 
-        go : (n : ℕ) → r .count ≡ n → encs (squeeze w (pack p (nodesOf s rows r ++ ns))) ≡ beforeOut g r ++ encs (squeeze (nullsAfter rows w r) (pack p ns))
+        go : (n : ℕ) → r .count ≡ n → encs (squeeze w (pack p (nodesOf β s rows r ++ ns))) ≡ beforeOut g r ++ encs (squeeze (nullsAfter rows w r) (pack p ns))
         go zero q = absurd (omega arith)
         go (suc k) q =
             ap (λ (xs : List Node). encs (squeeze w (pack p (xs ++ ns)))) (nodes ∙ ap (λ (n : ℕ). spread n o (r .slot)) q)
@@ -260,15 +260,15 @@ module _ (s : List ℕ) (rows : List Row) (r : Row) (g : Gathered) (w : Run) (m 
 
   -- any other row x that has row r's kind
   pub other-row : (x : Row) → x .kind ≡ r .kind → isSilent (r .kind) ≡ false → isNulls (r .kind) ≡ false → (p : Progress) (ns : List Node)
-      → encs (squeeze w (pack p (nodesOf s rows r ++ ns)))
-      ≡ beforeOut g x ++ (encs (recordsOf p (whatFrom s rows r)) ++ encs (squeeze noRun (pack (afterWhat p (whatFrom s rows r)) ns)))
+      → encs (squeeze w (pack p (nodesOf β s rows r ++ ns)))
+      ≡ beforeOut g x ++ (encs (recordsOf p (whatFrom β s rows r)) ++ encs (squeeze noRun (pack (afterWhat p (whatFrom β s rows r)) ns)))
   unfolding pack
   other-row x k a b p ns =
-      let c : What = whatFrom s rows r in
+      let c : What = whatFrom β s rows r in
       let rest : List Standing = pack (afterWhat p c) ns in
       let o : ℕ = orderOf rows (r .owner) in
-      ap (λ (xs : List Node). encs (squeeze w (pack p (xs ++ ns)))) (nodes-one s rows r a b)
-      ∙ (ap encs (squeeze-records w o (records-plain p c (what-some s rows r)) rest)
+      ap (λ (xs : List Node). encs (squeeze w (pack p (xs ++ ns)))) (nodes-one β s rows r a b)
+      ∙ (ap encs (squeeze-records w o (records-plain p c (what-some β s rows r)) rest)
       ∙ (encs-append (runOf (w .count)) (recordsOf p c ++ squeeze noRun rest)
       ∙ (ap (λ (xs : List ℕ). encs (runOf (w .count)) ++ xs) (encs-append (recordsOf p c) (squeeze noRun rest))
       ∙ ap (λ (xs : List ℕ). xs ++ (encs (recordsOf p c) ++ encs (squeeze noRun rest))) (sym (before-other g x (ap isNulls k ∙ b) (ap (λ (n : ℕ). eqb n 12) k ∙ said-other (r .kind) a) ∙ run-out)))))

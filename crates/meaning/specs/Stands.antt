@@ -1,7 +1,7 @@
 -- What stands where a row of an accepted stream says it does, kind by kind: the facts about the stream that the copy rests on.
 use Prim.Native.Nat.{ℕ, suc, _+_, _-_, _*_, _≤_, _<_}
-use mathlib.Core.Path.{_≡_}
-use mathlib.Core.Bool.{true}
+use mathlib.Core.Path.{_≡_, ap}
+use mathlib.Core.Bool.{true, false}
 use mathlib.Core.List.{List}
 use lib.ListN.{length, getD}
 use Rattle.format.specs.Terms.{Terms}
@@ -13,9 +13,10 @@ use Rattle.format.specs.Numbers.{u32At}
 use Rattle.format.specs.Text.{stringAt}
 use Rattle.format.specs.Values.{valueAt, times, itemsAt}
 use Rattle.format.specs.Types.{codeAt, typeByteAt, nameAt}
-use Rattle.format.specs.Rows.{blank, isObject, isClass}
+use Rattle.format.specs.Rows.{blank, isObject, isClass, isUntyped}
 use Rattle.format.specs.Records.{infoKnown, infosAt, ownLibraryAt}
-use Rattle.format.specs.Says.{codeFrom, isNulls}
+use Rattle.format.specs.Says.{codeFrom, typedFrom, classFrom, isNulls}
+use Rattle.laws.specs.Classes.{class-typed}
 
 -- a link to the row of an object
 pub record Target (rows : List Row) (link : ℕ) : Type 0 where
@@ -43,9 +44,17 @@ pub record ClassStands (τ : Terms) (s : List ℕ) (rows : List Row) (r : Row) :
   pub names : times (nameAt (τ .setting) s) (r .count) (name-end + 4) ≡ F.End types
   pub type-bytes : times (typeByteAt s) (r .count) types ≡ F.End (types + r .count)
   pub infos-end : ℕ
-  pub infos : infosAt τ s rows (r .count) types (types + r .count) ≡ F.End infos-end
+  pub infos : infosAt (τ .setting) s rows (r .count) types (types + r .count) ≡ F.End infos-end
   pub own : OwnStands s rows r infos-end
   pub inside : r .end ≤ length s
+
+-- a class that stands has its types
+pub class-stands : (τ : Terms) (s : List ℕ) (rows : List Row) (r : Row) → ClassStands τ s rows r → (β : List ℕ) → classFrom β s rows r ≡ typedFrom s rows r
+class-stands τ s rows r c β = class-typed β s rows r (typed (c .own))
+  where
+    typed : {p : ℕ} → OwnStands s rows r p → isUntyped (r .kind) ≡ false
+    typed (of-system k e) = ap isUntyped k
+    typed (of-library k e) = ap isUntyped k
 
 -- array type, rank, lengths, item type with its detail, items where they are primitive
 pub record ArrayStands (τ : Terms) (s : List ℕ) (rows : List Row) (r : Row) : Type 0 where
@@ -53,7 +62,7 @@ pub record ArrayStands (τ : Terms) (s : List ℕ) (rows : List Row) (r : Row) :
   pub ranked : u32At s (r .offset + 6) ≡ N32.Value rank (r .offset + 10)
   pub typed : typeByteAt s (r .offset + 10 + 4 * rank) ≡ F.End (r .offset + 10 + 4 * rank + 1)
   pub info-end : ℕ
-  pub info : infoKnown τ s rows (getD s (r .offset + 10 + 4 * rank) 0) (r .offset + 10 + 4 * rank + 1) ≡ F.End info-end
+  pub info : infoKnown (τ .setting) s rows (getD s (r .offset + 10 + 4 * rank) 0) (r .offset + 10 + 4 * rank + 1) ≡ F.End info-end
   pub items : info-end ≤ r .end
   pub items-at : getD s (r .offset + 10 + 4 * rank) 0 ≡ 0 → itemsAt (τ .setting) s (codeFrom s (r .offset + 10 + 4 * rank + 1)) (r .count) info-end ≡ F.End (r .end)
   pub no-items : (getD s (r .offset + 10 + 4 * rank) 0 ≡ 0 → ⊥) → r .end ≡ info-end

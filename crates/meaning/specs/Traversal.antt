@@ -72,19 +72,19 @@ module _ (δ : ℕ) (s : List ℕ) (rs : List Row) (i : ℕ) (r : Row) where
 -- ---- the copy
 
 -- marked rows, each of which writes what the row says
-pub record Writes (δ : ℕ) (s : List ℕ) (rows rs : List Row) : Type 0 where
+pub record Writes (δ : ℕ) (β s : List ℕ) (rows rs : List Row) : Type 0 where
   pub size : length rs ≡ length rows
   pub kinds : (i : ℕ) → i < length rows → getD rs i blank .kind ≡ getD rows i blank .kind
   pub nulls : (i : ℕ) → i < length rows → isNulls (getD rows i blank .kind) ≡ true → getD rs i blank ≡ getD rows i blank
   pub first : recordOut δ s rs 0 (getD rs 0 blank) ≡ enc (header (orderOf rows (getD rows 0 blank .link)) (orderOf rows (getD rows 0 blank .link)))
   pub last : (i : ℕ) → i < length rows → getD rows i blank .kind ≡ 11 → recordOut δ s rs i (getD rs i blank) ≡ enc end
   pub each : (i : ℕ) → i < length rows → isSilent (getD rows i blank .kind) ≡ false → isNulls (getD rows i blank .kind) ≡ false
-      → recordOut δ s rs i (getD rs i blank) ≡ encs (recordsOf (progressTo s rows i) (whatFrom s rows (getD rows i blank)))
+      → recordOut δ s rs i (getD rs i blank) ≡ encs (recordsOf (progressTo β s rows i) (whatFrom β s rows (getD rows i blank)))
 
-module _ (τ : Terms) (δ : ℕ) (s : List ℕ) (rows rs : List Row) (st : Stands τ s rows) (wr : Writes δ s rows rs) where
+module _ (τ : Terms) (δ : ℕ) (s : List ℕ) (rows rs : List Row) (st : Stands τ s rows) (wr : Writes δ (τ .book) s rows rs) where
   -- from row i on, after a run
   abbrev Copied : ℕ → Gathered → Run → Type 0
-  Copied i g w = copyFrom δ s rs i g (drop i rs) ≡ encs (squeeze w (pack (progressTo s rows i) (nodesFrom s rows (drop i rows)))) ++ enc end
+  Copied i g w = copyFrom δ s rs i g (drop i rs) ≡ encs (squeeze w (pack (progressTo (τ .book) s rows i) (nodesFrom (τ .book) s rows (drop i rows)))) ++ enc end
 
   next-copy : (i : ℕ) → i < length rows → (g : Gathered)
       → copyFrom δ s rs i g (drop i rs)
@@ -95,35 +95,35 @@ module _ (τ : Terms) (δ : ℕ) (s : List ℕ) (rows rs : List Row) (st : Stand
       ap (copyFrom δ s rs i g) (drop-cons rs i blank k)
       ∙ ap (λ (n : ℕ). (beforeOut g (getD rs i blank) ++ recordOut δ s rs i (getD rs i blank)) ++ copyFrom δ s rs n (runAfter g (getD rs i blank)) (drop (suc i) rs)) (add-one i)
 
-  next-nodes : (i : ℕ) → i < length rows → nodesFrom s rows (drop i rows) ≡ nodesOf s rows (getD rows i blank) ++ nodesFrom s rows (drop (suc i) rows)
+  next-nodes : (i : ℕ) → i < length rows → nodesFrom (τ .book) s rows (drop i rows) ≡ nodesOf (τ .book) s rows (getD rows i blank) ++ nodesFrom (τ .book) s rows (drop (suc i) rows)
   unfolding nodesFrom
-  next-nodes i h = ap (nodesFrom s rows) (drop-cons rows i blank h)
+  next-nodes i h = ap (nodesFrom (τ .book) s rows) (drop-cons rows i blank h)
 
   -- one row more
   turn : (i : ℕ) → i < length rows → (g : Gathered) (w v : Run)
-      → encs (squeeze w (pack (progressTo s rows i) (nodesOf s rows (getD rows i blank) ++ nodesFrom s rows (drop (suc i) rows))))
-      ≡ (beforeOut g (getD rs i blank) ++ recordOut δ s rs i (getD rs i blank)) ++ encs (squeeze v (pack (progressTo s rows (suc i)) (nodesFrom s rows (drop (suc i) rows))))
+      → encs (squeeze w (pack (progressTo (τ .book) s rows i) (nodesOf (τ .book) s rows (getD rows i blank) ++ nodesFrom (τ .book) s rows (drop (suc i) rows))))
+      ≡ (beforeOut g (getD rs i blank) ++ recordOut δ s rs i (getD rs i blank)) ++ encs (squeeze v (pack (progressTo (τ .book) s rows (suc i)) (nodesFrom (τ .book) s rows (drop (suc i) rows))))
       → Copied (suc i) (runAfter g (getD rs i blank)) v → Copied i g w
   turn i h g w v e c =
       let a : List ℕ = beforeOut g (getD rs i blank) ++ recordOut δ s rs i (getD rs i blank) in
-      let b : List ℕ = encs (squeeze v (pack (progressTo s rows (suc i)) (nodesFrom s rows (drop (suc i) rows)))) in
+      let b : List ℕ = encs (squeeze v (pack (progressTo (τ .book) s rows (suc i)) (nodesFrom (τ .book) s rows (drop (suc i) rows)))) in
       next-copy i h g
       ∙ (ap (λ (x : List ℕ). a ++ x) c
       ∙ (sym (append-assoc a b (enc end))
-      ∙ ap (λ (x : List ℕ). x ++ enc end) (sym e ∙ ap (λ (ns : List Node). encs (squeeze w (pack (progressTo s rows i) ns))) (sym (next-nodes i h)))))
+      ∙ ap (λ (x : List ℕ). x ++ enc end) (sym e ∙ ap (λ (ns : List Node). encs (squeeze w (pack (progressTo (τ .book) s rows i) ns))) (sym (next-nodes i h)))))
 
   -- a row at which nothing is written and nothing gathered
   passed : (i : ℕ) → i < length rows → (g : Gathered) (w : Run) → isPassed (getD rows i blank) ≡ true → isPassed (getD rs i blank) ≡ true
-      → recordOut δ s rs i (getD rs i blank) ≡ [] → progressTo s rows (suc i) ≡ progressTo s rows i → Copied (suc i) g w → Copied i g w
+      → recordOut δ s rs i (getD rs i blank) ≡ [] → progressTo (τ .book) s rows (suc i) ≡ progressTo (τ .book) s rows i → Copied (suc i) g w → Copied i g w
   passed i h g w a b e q c =
       let x : Row = getD rs i blank in
-      let ns : List Node = nodesFrom s rows (drop (suc i) rows) in
-      let f : encs (squeeze w (pack (progressTo s rows i) (nodesOf s rows (getD rows i blank) ++ ns)))
-      ≡ (beforeOut g x ++ recordOut δ s rs i x) ++ encs (squeeze w (pack (progressTo s rows (suc i)) ns)) =
-      ap (λ (m : List Node). encs (squeeze w (pack (progressTo s rows i) (m ++ ns)))) (nodes-passed s rows (getD rows i blank) a)
+      let ns : List Node = nodesFrom (τ .book) s rows (drop (suc i) rows) in
+      let f : encs (squeeze w (pack (progressTo (τ .book) s rows i) (nodesOf (τ .book) s rows (getD rows i blank) ++ ns)))
+      ≡ (beforeOut g x ++ recordOut δ s rs i x) ++ encs (squeeze w (pack (progressTo (τ .book) s rows (suc i)) ns)) =
+      ap (λ (m : List Node). encs (squeeze w (pack (progressTo (τ .book) s rows i) (m ++ ns)))) (nodes-passed (τ .book) s rows (getD rows i blank) a)
       ∙ (ap (λ (p : Progress). encs (squeeze w (pack p ns))) (sym q)
-      ∙ (ap (λ (l : List ℕ). ([] ++ l) ++ encs (squeeze w (pack (progressTo s rows (suc i)) ns))) (sym e)
-      ∙ ap (λ (l : List ℕ). (l ++ recordOut δ s rs i x) ++ encs (squeeze w (pack (progressTo s rows (suc i)) ns))) (sym (before-passed g x b)))) in
+      ∙ (ap (λ (l : List ℕ). ([] ++ l) ++ encs (squeeze w (pack (progressTo (τ .book) s rows (suc i)) ns))) (sym e)
+      ∙ ap (λ (l : List ℕ). (l ++ recordOut δ s rs i x) ++ encs (squeeze w (pack (progressTo (τ .book) s rows (suc i)) ns))) (sym (before-passed g x b)))) in
       turn i h g w w f (subst (λ (k : Gathered). Copied (suc i) k w) (sym (run-passed g x b)) c)
 
   -- a row of nulls, at least one
@@ -134,17 +134,17 @@ module _ (τ : Terms) (δ : ℕ) (s : List ℕ) (rows rs : List Row) (st : Stand
       let same : getD rs i blank ≡ r = wr .nulls i h e in
       let owns = st .owners i h in
       let v : Run = nullsAfter rows w r in
-      let p : Progress = progressTo s rows i in
-      let ns : List Node = nodesFrom s rows (drop (suc i) rows) in
-      let q : progressTo s rows (suc i) ≡ p = progress-next s rows i h ∙ after-run s rows p r (nulls-speak (r .kind) e) e in
+      let p : Progress = progressTo (τ .book) s rows i in
+      let ns : List Node = nodesFrom (τ .book) s rows (drop (suc i) rows) in
+      let q : progressTo (τ .book) s rows (suc i) ≡ p = progress-next (τ .book) s rows i h ∙ after-run (τ .book) s rows p r (nulls-speak (r .kind) e) e in
       let none : recordOut δ s rs i (getD rs i blank) ≡ [] = record-nulls δ s rs i (getD rs i blank) (ap (λ (z : Row). isNulls (z .kind)) same ∙ e) in
       let before : beforeOut g r ≡ beforeOut g (getD rs i blank) ++ recordOut δ s rs i (getD rs i blank) =
       ap (beforeOut g) (sym same) ∙ (sym (append-nil (beforeOut g (getD rs i blank))) ∙ ap (λ (l : List ℕ). beforeOut g (getD rs i blank) ++ l) (sym none)) in
       turn i h g w v
-      (null-row s rows r g w m e n owns p ns
+      (null-row (τ .book) s rows r g w m e n owns p ns
       ∙ (ap (λ (l : List ℕ). l ++ encs (squeeze v (pack p ns))) before
       ∙ ap (λ (z : Progress). (beforeOut g (getD rs i blank) ++ recordOut δ s rs i (getD rs i blank)) ++ encs (squeeze v (pack z ns))) (sym q)))
-      (c (runAfter g (getD rs i blank)) v (subst (λ (z : Row). Match rows (runAfter g z) v) (sym same) (null-match s rows r g w m e n owns)))
+      (c (runAfter g (getD rs i blank)) v (subst (λ (z : Row). Match rows (runAfter g z) v) (sym same) (null-match (τ .book) s rows r g w m e n owns)))
 
   -- a row that says something else
   said : (i : ℕ) → i < length rows → (g : Gathered) (w : Run) → Match rows g w → isSilent (getD rows i blank .kind) ≡ false → isNulls (getD rows i blank .kind) ≡ false
@@ -152,14 +152,14 @@ module _ (τ : Terms) (δ : ℕ) (s : List ℕ) (rows rs : List Row) (st : Stand
   said i h g w m a b c =
       let r : Row = getD rows i blank in
       let x : Row = getD rs i blank in
-      let p : Progress = progressTo s rows i in
-      let ns : List Node = nodesFrom s rows (drop (suc i) rows) in
+      let p : Progress = progressTo (τ .book) s rows i in
+      let ns : List Node = nodesFrom (τ .book) s rows (drop (suc i) rows) in
       let kind : x .kind ≡ r .kind = wr .kinds i h in
-      let rest : List ℕ = encs (squeeze noRun (pack (afterWhat p (whatFrom s rows r)) ns)) in
-      let q : progressTo s rows (suc i) ≡ afterWhat p (whatFrom s rows r) = progress-next s rows i h ∙ after-said s rows p r a b in
+      let rest : List ℕ = encs (squeeze noRun (pack (afterWhat p (whatFrom (τ .book) s rows r)) ns)) in
+      let q : progressTo (τ .book) s rows (suc i) ≡ afterWhat p (whatFrom (τ .book) s rows r) = progress-next (τ .book) s rows i h ∙ after-said (τ .book) s rows p r a b in
       let other : eqb (x .kind) 12 ≡ false = ap (λ (n : ℕ). eqb n 12) kind ∙ said-other (r .kind) a in
       turn i h g w noRun
-      (other-row s rows r g w m x kind a b p ns
+      (other-row (τ .book) s rows r g w m x kind a b p ns
       ∙ (ap (λ (l : List ℕ). beforeOut g x ++ (l ++ rest)) (sym (wr .each i h a b))
       ∙ (sym (append-assoc (beforeOut g x) (recordOut δ s rs i x) rest)
       ∙ ap (λ (z : Progress). (beforeOut g x ++ recordOut δ s rs i x) ++ encs (squeeze noRun (pack z ns))) (sym q))))
@@ -178,15 +178,15 @@ module _ (τ : Terms) (δ : ℕ) (s : List ℕ) (rows rs : List Row) (st : Stand
       let a : drop (suc i) rs ≡ [] = drop-of-length-le rs {i = suc i} (omega (arith, wr .size)) in
       let b : drop (suc i) rows ≡ [] = drop-of-length-le rows {i = suc i} (omega arith) in
       let gone : runAfter g x ≡ noneYet = run-other g x (ap isNulls like) (ap (λ (n : ℕ). eqb n 12) like) in
-      let ns : nodesFrom s rows (drop i rows) ≡ [] =
-      next-nodes i inside ∙ (ap (λ (z : List Node). z ++ nodesFrom s rows (drop (suc i) rows)) (nodes-silent s rows r (ap isSilent kind)) ∙ ap (nodesFrom s rows) b) in
+      let ns : nodesFrom (τ .book) s rows (drop i rows) ≡ [] =
+      next-nodes i inside ∙ (ap (λ (z : List Node). z ++ nodesFrom (τ .book) s rows (drop (suc i) rows)) (nodes-silent (τ .book) s rows r (ap isSilent kind)) ∙ ap (nodesFrom (τ .book) s rows) b) in
       next-copy i inside g
       ∙ (ap (λ (z : List Row). (beforeOut g x ++ recordOut δ s rs i x) ++ copyFrom δ s rs (suc i) (runAfter g x) z) a
       ∙ (ap (λ (k : Gathered). (beforeOut g x ++ recordOut δ s rs i x) ++ runOut (k .count)) gone
       ∙ (append-nil (beforeOut g x ++ recordOut δ s rs i x)
-      ∙ (ap (λ (z : List ℕ). z ++ recordOut δ s rs i x) (end-row s rows r g w m x (ap isNulls like) (ap (λ (n : ℕ). eqb n 12) like))
+      ∙ (ap (λ (z : List ℕ). z ++ recordOut δ s rs i x) (end-row (τ .book) s rows r g w m x (ap isNulls like) (ap (λ (n : ℕ). eqb n 12) like))
       ∙ (ap (λ (z : List ℕ). encs (squeeze w []) ++ z) (wr .last i inside kind)
-      ∙ ap (λ (z : List Node). encs (squeeze w (pack (progressTo s rows i) z)) ++ enc end) (sym ns))))))
+      ∙ ap (λ (z : List Node). encs (squeeze w (pack (progressTo (τ .book) s rows i) z)) ++ enc end) (sym ns))))))
 
   -- a row between the header and the end
   step : (i : ℕ) → 0 < i → suc i < length rows → (g : Gathered) (w : Run) → Match rows g w
@@ -196,13 +196,13 @@ module _ (τ : Terms) (δ : ℕ) (s : List ℕ) (rows rs : List Row) (st : Stand
       let x : Row = getD rs i blank in
       let inside : i < length rows = omega arith in
       let stands = st .each i inside in
-      let p : Progress = progressTo s rows i in
+      let p : Progress = progressTo (τ .book) s rows i in
       let kind : x .kind ≡ r .kind = wr .kinds i inside in
       either (eqb (r .kind) 12)
       (λ a.
       let e : r .kind ≡ 12 = eqb-true (r .kind) 12 a in
       passed i inside g w (passed-library r e) (passed-library x (kind ∙ e)) (record-library δ s rs i x (kind ∙ e))
-      (progress-next s rows i inside ∙ after-silent s rows p r (ap isSilent e)) (c g w m))
+      (progress-next (τ .book) s rows i inside ∙ after-silent (τ .book) s rows p r (ap isSilent e)) (c g w m))
       (λ a. either (isNulls (r .kind))
       (λ b.
       let same : x ≡ r = wr .nulls i inside b in
@@ -210,7 +210,7 @@ module _ (τ : Terms) (δ : ℕ) (s : List ℕ) (rows rs : List Row) (st : Stand
       (λ d.
       let e : isPassed r ≡ true = rw (a, b, d) in
       passed i inside g w e (ap isPassed same ∙ e) (record-nulls δ s rs i x (ap isNulls kind ∙ b))
-      (progress-next s rows i inside ∙ after-run s rows p r (nulls-speak (r .kind) b) b) (c g w m))
+      (progress-next (τ .book) s rows i inside ∙ after-run (τ .book) s rows p r (nulls-speak (r .kind) b) b) (c g w m))
       (λ d. let z = eqb-false (r .count) 0 d in more-nulls i inside g w m b (omega arith) c))
       (λ b.
       let no-header : eqb (r .kind) 0 ≡ false = ne-eqb (r .kind) 0 (λ e. let z = header-first τ s rows i r stands e in omega arith) in
@@ -221,7 +221,7 @@ module _ (τ : Terms) (δ : ℕ) (s : List ℕ) (rows rs : List Row) (st : Stand
   middle zero i h o g w m = ended i (omega arith) g w m
   middle (suc k) i h o g w m = step i o (omega arith) g w m (middle k (suc i) (omega arith) (omega arith))
 
-  pub copied : copyOf δ s rs ≡ tidyOf (says s rows)
+  pub copied : copyOf δ s rs ≡ tidyOf (says (τ .book) s rows)
   unfolding copyOf tidyOf tidyRecords says encs runOut runOf
   copied =
       let r : Row = getD rows 0 blank in
@@ -232,16 +232,16 @@ module _ (τ : Terms) (δ : ℕ) (s : List ℕ) (rows rs : List Row) (st : Stand
       let like : x .kind ≡ 0 = wr .kinds 0 some ∙ st .first in
       let before : beforeOut noneYet x ≡ [] = before-other noneYet x (ap isNulls like) (ap (λ (n : ℕ). eqb n 12) like) in
       let gone : runAfter noneYet x ≡ noneYet = run-other noneYet x (ap isNulls like) (ap (λ (n : ℕ). eqb n 12) like) in
-      let nodes : nodesFrom s rows rows ≡ nodesFrom s rows (drop 1 rows) =
-      next-nodes 0 some ∙ ap (λ (ns : List Node). ns ++ nodesFrom s rows (drop 1 rows)) (nodes-silent s rows r (ap isSilent (st .first))) in
-      let after : progressTo s rows 1 ≡ nothing =
-      progress-next s rows 0 some ∙ (after-silent s rows (progressTo s rows 0) r (ap isSilent (st .first)) ∙ progress-none s rows) in
-      let all : List Rec = squeeze noRun (pack nothing (nodesFrom s rows rows)) in
+      let nodes : nodesFrom (τ .book) s rows rows ≡ nodesFrom (τ .book) s rows (drop 1 rows) =
+      next-nodes 0 some ∙ ap (λ (ns : List Node). ns ++ nodesFrom (τ .book) s rows (drop 1 rows)) (nodes-silent (τ .book) s rows r (ap isSilent (st .first))) in
+      let after : progressTo (τ .book) s rows 1 ≡ nothing =
+      progress-next (τ .book) s rows 0 some ∙ (after-silent (τ .book) s rows (progressTo (τ .book) s rows 0) r (ap isSilent (st .first)) ∙ progress-none (τ .book) s rows) in
+      let all : List Rec = squeeze noRun (pack nothing (nodesFrom (τ .book) s rows rows)) in
       next-copy 0 some noneYet
       ∙ (ap (λ (z : List ℕ). (z ++ recordOut δ s rs 0 x) ++ copyFrom δ s rs 1 (runAfter noneYet x) (drop 1 rs)) before
       ∙ (ap (λ (k : Gathered). recordOut δ s rs 0 x ++ copyFrom δ s rs 1 k (drop 1 rs)) gone
       ∙ (ap (λ (z : List ℕ). recordOut δ s rs 0 x ++ z) (middle (length rows - 2) 1 (omega arith) (omega arith) noneYet noRun (match-none rows))
-      ∙ (ap (λ (p : Progress). recordOut δ s rs 0 x ++ (encs (squeeze noRun (pack p (nodesFrom s rows (drop 1 rows)))) ++ enc end)) after
+      ∙ (ap (λ (p : Progress). recordOut δ s rs 0 x ++ (encs (squeeze noRun (pack p (nodesFrom (τ .book) s rows (drop 1 rows)))) ++ enc end)) after
       ∙ (ap (λ (ns : List Node). recordOut δ s rs 0 x ++ (encs (squeeze noRun (pack nothing ns)) ++ enc end)) (sym nodes)
       ∙ (ap (λ (z : List ℕ). z ++ (encs all ++ enc end)) (wr .first)
       ∙ (ap (λ (z : List ℕ). enc (header root root) ++ (encs all ++ z)) (sym (append-nil (enc end)))

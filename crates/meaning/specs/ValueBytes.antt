@@ -8,7 +8,7 @@ use native.Mathlib.Omega.{arith}
 use lib.ListN.{length}
 use lib.Dec.{eqb}
 use borrow.Author.Tests.{eqb-true}
-use Rattle.format.specs.Terms.{Terms, terms, strict}
+use Rattle.format.specs.Terms.{Terms, strict, lenient}
 use Rattle.format.specs.declared.Setting.{Setting}
 use Rattle.format.specs.declared.Setting.the-variants as S
 use Rattle.format.specs.declared.Coded.the-variants as D
@@ -130,7 +130,7 @@ module _ (τ : Terms) (s : List ℕ) (byte : Bytes s) (c : PrimitiveCode) where
       go S.Strict q =
           let w = value-back strict s c p e byte q in
           ap (λ (t : Bool). valueOut s t p e) (no-code-0 c) ∙ (stand-same (w .1) ∙ strict-one c (valueIn s c p) (w .0))
-      go S.Lenient q = value-anew (terms S.Lenient) s byte c p e q
+      go S.Lenient q = value-anew lenient s byte c p e q
 
   pub items-are : (n p e : ℕ) → p ≤ length s → itemsAt (τ .setting) s c n p ≡ F.End e
       → valuesOut s (eqb (codeNumber c) (anewIn (τ .setting))) n p e ≡ itemsBytes (valuesBy c (itemsFrom s c n p))
@@ -142,4 +142,4 @@ module _ (τ : Terms) (s : List ℕ) (byte : Bytes s) (c : PrimitiveCode) where
           ap (λ (t : Bool). valuesOut s t n p e) (no-code-0 c)
           ∙ (stand-same (w .1)
           ∙ (strict-all c n (itemsIn s c n p) (w .0) ∙ ap (λ (l : List (List ℕ)). itemsBytes (valuesBy c l)) (items-from s c n p)))
-      go S.Lenient q = items-anew (terms S.Lenient) s byte c n p e h q
+      go S.Lenient q = items-anew lenient s byte c n p e h q

@@ -37,7 +37,7 @@ module _ (τ : Terms) (s : List ℕ) (rows ps fs : List Row) (st : Stands τ s r
     pub class-words : (k : isClass (getD rows i blank .kind) ≡ true)
         → getD fs i blank
         ≡ withLink (withSlot (withId (getD rows i blank) (orderOf rows (suc i))) (class-at τ s rows st i h k .types))
-        (classFirst s rows (classFrom s rows (getD rows i blank)))
+        (classFirst (τ .book) s rows (classFrom (τ .book) s rows (getD rows i blank)))
     class-words k =
         let r : Row = withSlot (withId (getD rows i blank) (orderOf rows (suc i))) (class-at τ s rows st i h k .types) in
         fi .class i inside (ap isClass (placed-kind τ s rows ps st pl i h) ∙ k)
@@ -84,16 +84,16 @@ module _ (τ : Terms) (s : List ℕ) (rows ps fs : List Row) (st : Stands τ s r
 
     -- a class's row leads to the number of the first object of its class
     pub first-id : (i : ℕ) → i < length rows → isClass (getD rows i blank .kind) ≡ true
-        → rowAt ms (classFirst s rows (classFrom s rows (getD rows i blank))) .id ≡ orderOf rows (classFirst s rows (classFrom s rows (getD rows i blank)))
+        → rowAt ms (classFirst (τ .book) s rows (classFrom (τ .book) s rows (getD rows i blank))) .id ≡ orderOf rows (classFirst (τ .book) s rows (classFrom (τ .book) s rows (getD rows i blank)))
     first-id i h k =
         let w = class-first τ s rows ps st pl i h k in
         let b = w .before in
-        target-id (classFirst s rows (classFrom s rows (getD rows i blank)))
+        target-id (classFirst (τ .book) s rows (classFrom (τ .book) s rows (getD rows i blank)))
         (record { row = w .row; link-is = w .first; inside = omega arith; object = class-is-object (getD rows (w .row) blank .kind) (w .kind) })
 
     -- and so does an object by its class's row
     pub class-id : (i : ℕ) → i < length rows → isClass (getD rows i blank .kind) ≡ true
-        → rowAt ms (getD ms i blank .link) .id ≡ orderOf rows (classFirst s rows (classFrom s rows (getD rows i blank)))
+        → rowAt ms (getD ms i blank .link) .id ≡ orderOf rows (classFirst (τ .book) s rows (classFrom (τ .book) s rows (getD rows i blank)))
     class-id i h k =
         let l = object-not-library (getD rows i blank .kind) (class-is-object (getD rows i blank .kind) k) in
         ap (λ (r : Row). rowAt ms (r .link) .id) (marked-kept i h l ∙ class-words i h k) ∙ first-id i h k

@@ -12,8 +12,8 @@ use Rattle.format.specs.declared.SlotType.{SlotType}
 use Rattle.format.specs.declared.Row.{Row}
 use Rattle.format.specs.Bytes.{pick}
 use Rattle.format.specs.Rows.{blank, findFrom}
-use Rattle.format.specs.Contents.{Prefixed, Detail, primitive, text, object, system, class, objects, texts, primitives, Member, Rec}
-use Rattle.format.specs.Says.{From, Class, textFrom, libraryName, classFrom}
+use Rattle.format.specs.Contents.{Prefixed, Detail, primitive, text, object, system, class, objects, texts, primitives, Member, Rec, From, Class}
+use Rattle.format.specs.Says.{textFrom, libraryName, classFrom}
 use Rattle.format.specs.Grammar.{Entry, aClass, another, aLibrary, used, known, classed, unknown, classOf, GoodDetail, Members, no-more, member, typesOf}
 use Rattle.format.specs.Meant.{named, namedAll, classOfAll, found, libraryOf, librariesOf, ownClass, classesOf, noClass}
 use Rattle.saying.specs.Good.{slotsOf}
@@ -126,7 +126,7 @@ module _ (τ : Terms) (s : List ℕ) (table : List Row) (name : ℕ → List ℕ
 
     -- a record of kind 4 or 5
     pub agrees-class : (j : ℕ) (us : List SlotType) (c : Class) → eqb (w .kind) 12 ≡ false → libraryOf r ≡ [] → ownClass name r ≡ (j, c) ∷ []
-        → used j es ≡ false → classFrom s table w ≡ c → slotsOf (c .members) ≡ us → Agrees (suc row) (es ++ (aClass j (suc row) us ∷ [])) rs
+        → used j es ≡ false → classFrom (τ .book) s table w ≡ c → slotsOf (c .members) ≡ us → Agrees (suc row) (es ++ (aClass j (suc row) us ∷ [])) rs
     unfolding found classesOf
     agrees-class j us c n a b f q l =
         agrees-entry (aClass j (suc row) us) (λ i h. rw n) (λ l h. apart (sym h)) (λ i h. ap (λ (l : List (ℕ × List ℕ)). found [] i (l ++ librariesOf rs)) a)
@@ -146,7 +146,7 @@ module _ (τ : Terms) (s : List ℕ) (table : List Row) (name : ℕ → List ℕ
         at-it : classAt τ s table (suc row) ≡ c
         at-it =
             let z : suc row - 1 ≡ row = omega arith in
-            ap (λ (k : ℕ). classFrom s table (getD table k blank)) z ∙ (ap (classFrom s table) (item-there table is w row e blank) ∙ q)
+            ap (λ (k : ℕ). classFrom (τ .book) s table (getD table k blank)) z ∙ (ap (classFrom (τ .book) s table) (item-there table is w row e blank) ∙ q)
 
         it : Same j (suc row) us
         it = record { class-is = at-it ∙ sym of-it; slots-are = ap (λ (d : Class). slotsOf (d .members)) of-it ∙ l }

@@ -14,9 +14,9 @@ use Rattle.format.specs.declared.SlotType.the-variants as S
 use Rattle.format.specs.declared.Row.{Row}
 use Rattle.format.specs.Bytes.{pick}
 use Rattle.format.specs.Rows.{isObject, findFrom, objectRow, withLink, linkOf, linked}
-use Rattle.format.specs.Contents.{Prefixed, Detail, Member, Rec, header, classById, systemClass, libraryClass, string, array, typedPrimitive, reference, null, nulls, manyNulls, end, library, primitiveArray, objectArray, stringArray, value, enc, encs}
+use Rattle.format.specs.Contents.{Prefixed, Detail, Member, Rec, header, classById, systemClass, libraryClass, string, array, typedPrimitive, reference, null, nulls, manyNulls, end, library, primitiveArray, objectArray, stringArray, value, enc, encs, theSystem, theLibrary, Class}
 use Rattle.format.specs.Grammar.{Name, Value, Values, product, ClassId, ClassInfo, LibraryId, typesOf, classed, classOf, used, Array, of-objects, of-strings, of-primitives, of-any, of-values, Object, system-class, library-class, class-by-id, Body, hollow, filled, Slots, full, member-value, an-object, a-string, a-typed-primitive, a-reference, a-null, a-run, a-long-run, a-library, Objects, the-end, one-object, one-string, one-array, one-library, Entry, aClass, another, aLibrary, known, Cur, cur, size, rowOf, Reading}
-use Rattle.format.specs.Says.{theSystem, theLibrary, Class, anObject, anArray, Node, Model, textFrom, libraryName, classFrom, classRowOf, codeIn, objectsIn, orderOf, nodesOf, nodesFrom, says}
+use Rattle.format.specs.Says.{anObject, anArray, Node, Model, textFrom, libraryName, classFrom, classRowOf, codeIn, objectsIn, orderOf, nodesOf, nodesFrom, says}
 use Rattle.format.specs.Meant.{classOfAll, libraryOf, ownClass, orderAfter, nameBy, classBy, orderBy, Sense, opens, itemSlots, senseOf, Open, opened, ownerIn, slotIn, fill, close, nodesBy, countBy, openBy, walk, meant, meantBy}
 use Rattle.laws.specs.Fields.{size-header, positive-bits}
 use Rattle.laws.specs.Links.{rows-are}
@@ -77,7 +77,7 @@ module _ (τ : Terms) (s : List ℕ) (raw : List Row) (name : ℕ → List ℕ) 
 
   -- the rows from a cursor on say what its records say, with these objects open
   record Ok (os : List Open) (at row : ℕ) (es : List Entry) (rs : List Rec) (is : List Row) : Type 0 where
-    pub leads : At at row es rs is → nodesFrom s table (drop row table) ≡ walk name of order (orderOf table row) os rs
+    pub leads : At at row es rs is → nodesFrom (τ .book) s table (drop row table) ≡ walk name of order (orderOf table row) os rs
 
   abbrev OkIn : List Open → Cur → Type 0
   OkIn os (cur at row es rs is) = Ok os at row es rs is
@@ -87,7 +87,7 @@ module _ (τ : Terms) (s : List ℕ) (raw : List Row) (name : ℕ → List ℕ) 
 
   -- a record with this row says what its row says, and leaves this open and this known
   record Step (os gs : List Open) (row : ℕ) (r : Rec) (x : Row) (es₁ : List Entry) (rs : List Rec) : Type 0 where
-    pub link-is : LinkIs s table of order r (withOwn x)
+    pub link-is : LinkIs (τ .book) s table of order r (withOwn x)
     pub said : nodesBy (senseOf (libraryName s table) of order r) (orderOf table (x .owner)) (x .slot) ≡ nodesBy (sense r) (ownerIn os) (slotIn os)
     pub left-open : openBy (sense r) (orderOf table row) os ≡ gs
     pub agrees : Knows (suc row) es₁ rs
@@ -103,15 +103,15 @@ module _ (τ : Terms) (s : List ℕ) (raw : List Row) (name : ℕ → List ℕ) 
         x : Row
         x = rowFor at r id own slot link count
 
-        leads : At at row es (r ∷ rs) (x ∷ is) → nodesFrom s table (drop row table) ≡ walk name of order (orderOf table row) os (r ∷ rs)
+        leads : At at row es (r ∷ rs) (x ∷ is) → nodesFrom (τ .book) s table (drop row table) ≡ walk name of order (orderOf table row) os (r ∷ rs)
         leads w =
             let y = withOwn x in
             let n = orderOf table row in
             let u = t w in
             let f = row-linked (linkOf raw x) (row-of r at id own slot link count c) in
-            let a = nodes-more table (map withOwn is) y row (w .rows-there) s in
-            let b : nodesOf s table y ≡ nodesBy (sense r) (ownerIn os) (slotIn os) =
-            row-said τ s table y of order (encs rs) at r (w .bytes-there) f g (u .link-is) ∙ u .said in
+            let a = nodes-more table (map withOwn is) y row (w .rows-there) (τ .book) s in
+            let b : nodesOf (τ .book) s table y ≡ nodesBy (sense r) (ownerIn os) (slotIn os) =
+            row-said τ (τ .book) s table y of order (encs rs) at r (w .bytes-there) f g (u .link-is) ∙ u .said in
             let v : At at₁ (suc row) es₁ rs is =
             record {
               rows-there = items-after table (map withOwn is) y row (w .rows-there);
@@ -121,7 +121,7 @@ module _ (τ : Terms) (s : List ℕ) (raw : List Row) (name : ℕ → List ℕ) 
             let m : orderOf table (suc row) ≡ countBy (sense r) n = order-more table (map withOwn is) y row (w .rows-there) ∙ sense-counts name of order n r in
             let o = ap (λ (l : List Open). walk name of order (countBy (sense r) n) l rs) (sym (u .left-open)) in
             let d = k w .leads v ∙ (ap (λ (j : ℕ). walk name of order j gs rs) m ∙ o) in
-            a ∙ (ap (λ (l : List Node). l ++ nodesFrom s table (drop (suc row) table)) b
+            a ∙ (ap (λ (l : List Node). l ++ nodesFrom (τ .book) s table (drop (suc row) table)) b
             ∙ ap (λ (l : List Node). nodesBy (sense r) (ownerIn os) (slotIn os) ++ l) d)
 
     record-ok : {at₁ : ℕ} {it : Row} {os gs : List Open} → it ≡ rowFor at r id own slot link count → CountIs r count → GoodRec τ r → at₁ ≡ at + size r
@@ -139,7 +139,7 @@ module _ (τ : Terms) (s : List ℕ) (raw : List Row) (name : ℕ → List ℕ) 
     known-another = agrees-another τ s table name of (map withOwn is) (withOwn x) row (w .rows-there) (w .agrees)
 
     known-class : (i : ℕ) (ts : List SlotType) (c : Class) → eqb (x .kind) 12 ≡ false → libraryOf r ≡ [] → ownClass name r ≡ (i, c) ∷ [] → used i es ≡ false
-        → classFrom s table (withOwn x) ≡ c → slotsOf (c .members) ≡ ts → Knows (suc row) (es ++ (aClass i (suc row) ts ∷ [])) rs
+        → classFrom (τ .book) s table (withOwn x) ≡ c → slotsOf (c .members) ≡ ts → Knows (suc row) (es ++ (aClass i (suc row) ts ∷ [])) rs
     known-class = agrees-class τ s table name of (map withOwn is) (withOwn x) row (w .rows-there) (w .agrees)
 
     known-library : (i : ℕ) (n : List ℕ) → x .kind ≡ 12 → x .id ≡ i → known i es ≡ false → libraryOf r ≡ (i, n) ∷ [] → ownClass name r ≡ []
@@ -159,7 +159,7 @@ module _ (τ : Terms) (s : List ℕ) (raw : List Row) (name : ℕ → List ℕ) 
   slot-stands : {own slot k : ℕ} {os : List Open} → Stands (opened (orderOf table own) slot k ∷ os) own slot
   slot-stands = record { owner-is = refl; slot-is = refl }
 
-  step : {os gs : List Open} {row : ℕ} {r : Rec} {x : Row} {es₁ : List Entry} {rs : List Rec} → Stands os (x .owner) (x .slot) → LinkIs s table of order r (withOwn x)
+  step : {os gs : List Open} {row : ℕ} {r : Rec} {x : Row} {es₁ : List Entry} {rs : List Rec} → Stands os (x .owner) (x .slot) → LinkIs (τ .book) s table of order r (withOwn x)
       → senseOf (libraryName s table) of order r ≡ sense r → openBy (sense r) (orderOf table row) os ≡ gs → Knows (suc row) es₁ rs → Step os gs row r x es₁ rs
   step {os = os} {r = r} {x = x} p l e o k =
       record {
@@ -176,11 +176,11 @@ module _ (τ : Terms) (s : List ℕ) (raw : List Row) (name : ℕ → List ℕ) 
     string-ok {i} {x} n q k = record-ok i own slot 0 0 q tt n refl (λ w. step p tt refl refl (known-another w i refl refl refl)) k
 
     -- of the code that its owner's class has for its slot
-    value-ok : {b : PrimitiveCode} {v : Prefixed} → Value τ b v → codeIn (ownerClass τ s table own .members) slot ≡ b → it ≡ rowOf 32 at (value b v) 0 own slot 0 0
+    value-ok : {b : PrimitiveCode} {v : Prefixed} → Value τ b v → codeIn (ownerClass τ (τ .book) s table own .members) slot ≡ b → it ≡ rowOf 32 at (value b v) 0 own slot 0 0
         → Ok (close (fill 1 os)) (at + size (value b v)) (suc row) es rs is → Ok os at row es (value b v ∷ rs) (it ∷ is)
     value-ok {b} {v} g e q k =
         record-ok 0 own slot 0 0 q tt g refl
-        (λ w. step p (value-code τ s table (withOwn (rowOf 32 at (value b v) 0 own slot 0 0)) b e) refl refl (known-same w refl refl refl)) k
+        (λ w. step p (value-code τ (τ .book) s table (withOwn (rowOf 32 at (value b v) 0 own slot 0 0)) b e) refl refl (known-same w refl refl refl)) k
 
     typed-primitive-ok : {b : PrimitiveCode} {v : Prefixed} → Value τ b v → it ≡ rowOf 8 at (typedPrimitive b v) 0 own slot 0 0
         → Ok (close (fill 1 os)) (at + size (typedPrimitive b v)) (suc row) es rs is → Ok os at row es (typedPrimitive b v ∷ rs) (it ∷ is)
@@ -220,7 +220,7 @@ module _ (τ : Terms) (s : List ℕ) (raw : List Row) (name : ℕ → List ℕ) 
   unfolding walk
   end-ok {at} {row} {es} q =
       record-ok 0 0 0 0 0 q tt tt refl (λ w. step top-stands tt refl refl (known-same w refl refl refl))
-      (record { leads = λ w. order-end table (suc row) (w .rows-there) s .1 })
+      (record { leads = λ w. order-end table (suc row) (w .rows-there) (τ .book) s .1 })
 
   -- ---- objects of classes
 
@@ -236,9 +236,9 @@ module _ (τ : Terms) (s : List ℕ) (raw : List Row) (name : ℕ → List ℕ) 
 
   -- an object of this class has the codes of its slots
   row-codes : {at row : ℕ} {es : List Entry} {r : Rec} {rs : List Rec} {x : Row} {is : List Row} → At at row es (r ∷ rs) (x ∷ is) → (c : Class) (ts : List SlotType)
-      → classFrom s table (classRowOf table (withOwn x)) ≡ c → slotsOf (c .members) ≡ ts → Codes τ s table (suc row) 0 ts
+      → classFrom (τ .book) s table (classRowOf table (withOwn x)) ≡ c → slotsOf (c .members) ≡ ts → Codes τ (τ .book) s table (suc row) 0 ts
   row-codes {row = row} {x = x} {is = is} w c ts e f =
-      class-codes τ s table (suc row) c ts (row-class τ s table (map withOwn is) (withOwn x) row (w .rows-there) ∙ e) f
+      class-codes τ (τ .book) s table (suc row) c ts (row-class τ (τ .book) s table (map withOwn is) (withOwn x) row (w .rows-there) ∙ e) f
 
   -- a class of a library that is known
   library-same : {row l : ℕ} {n : Prefixed} {ms : List (Member Prefixed ℕ)} {es : List Entry} {rs : List Rec} → Knows row es rs → ClassInfo τ es n ms → LibraryId l es
@@ -250,26 +250,26 @@ module _ (τ : Terms) (s : List ℕ) (raw : List Row) (name : ℕ → List ℕ) 
   -- the class in the row of a record of kind 4 or 5
   module _ {at row own slot i : ℕ} {n : Prefixed} {ms : List (Member Prefixed ℕ)} {es : List Entry} {rs : List Rec} {is : List Row} (g : ClassInfo τ es n ms) where
     system-from : At at row es (systemClass i n ms ∷ rs) (rowOf 4 at (systemClass i n ms) i own slot 0 (length ms) ∷ is)
-        → classFrom s table (withOwn (rowOf 4 at (systemClass i n ms) i own slot 0 (length ms))) ≡ classOfAll name (n .text) theSystem ms
+        → classFrom (τ .book) s table (withOwn (rowOf 4 at (systemClass i n ms) i own slot 0 (length ms))) ≡ classOfAll name (n .text) theSystem ms
     unfolding encs
     system-from w =
         let x = rowOf 4 at (systemClass i n ms) i own slot 0 (length ms) in
         let h = row-linked (linkOf raw x) (row-of (systemClass i n ms) at i own slot 0 (length ms) refl) in
-        system-class-from τ s table (withOwn x) at (encs rs) i n ms (g .named) (own-members τ (g .members)) (w .bytes-there) h
+        system-class-from τ (τ .book) s table (withOwn x) at (encs rs) i n ms (g .named) (own-members τ (g .members)) (w .bytes-there) h
         ∙ class-same τ s table name of (w .agrees) (n .text) theSystem ms (g .members)
 
     library-from : {l : ℕ} → LibraryId l es → At at row es (libraryClass i n ms l ∷ rs) (rowOf 5 at (libraryClass i n ms l) i own slot 0 (length ms) ∷ is)
-        → classFrom s table (withOwn (rowOf 5 at (libraryClass i n ms l) i own slot 0 (length ms))) ≡ classOfAll name (n .text) (theLibrary (name l)) ms
+        → classFrom (τ .book) s table (withOwn (rowOf 5 at (libraryClass i n ms l) i own slot 0 (length ms))) ≡ classOfAll name (n .text) (theLibrary (name l)) ms
     unfolding encs
     library-from {l} b w =
         let x = rowOf 5 at (libraryClass i n ms l) i own slot 0 (length ms) in
         let h = row-linked (linkOf raw x) (row-of (libraryClass i n ms l) at i own slot 0 (length ms) refl) in
-        library-class-from τ s table (withOwn x) at (encs rs) i n ms (g .named) (own-members τ (g .members)) l (positive-bits l (b .sign)) (w .bytes-there) h
+        library-class-from τ (τ .book) s table (withOwn x) at (encs rs) i n ms (g .named) (own-members τ (g .members)) l (positive-bits l (b .sign)) (w .bytes-there) h
         ∙ library-same (w .agrees) g b
 
   module _ {at row own slot : ℕ} {es : List Entry} {rs : List Rec} {it : Row} {is : List Row} {os : List Open} (p : Stands os own slot) where
     system-class-ok : {i : ℕ} {n : Prefixed} {ms : List (Member Prefixed ℕ)} → ClassId i es → ClassInfo τ es n ms → it ≡ rowOf 4 at (systemClass i n ms) i own slot 0 (length ms)
-        → (Codes τ s table (suc row) 0 (typesOf ms)
+        → (Codes τ (τ .book) s table (suc row) 0 (typesOf ms)
         → Ok (close (opened (orderOf table (suc row)) 0 (length (typesOf ms)) ∷ fill 1 os)) (at + size (systemClass i n ms)) (suc row)
         (es ++ (aClass i (suc row) (typesOf ms) ∷ [])) rs is)
         → Ok os at row es (systemClass i n ms ∷ rs) (it ∷ is)
@@ -284,7 +284,7 @@ module _ (τ : Terms) (s : List ℕ) (raw : List Row) (name : ℕ → List ℕ) 
 
     library-class-ok : {i l : ℕ} {n : Prefixed} {ms : List (Member Prefixed ℕ)} → ClassId i es → ClassInfo τ es n ms → LibraryId l es
         → it ≡ rowOf 5 at (libraryClass i n ms l) i own slot 0 (length ms)
-        → (Codes τ s table (suc row) 0 (typesOf ms)
+        → (Codes τ (τ .book) s table (suc row) 0 (typesOf ms)
         → Ok (close (opened (orderOf table (suc row)) 0 (length (typesOf ms)) ∷ fill 1 os)) (at + size (libraryClass i n ms l)) (suc row)
         (es ++ (aClass i (suc row) (typesOf ms) ∷ [])) rs is)
         → Ok os at row es (libraryClass i n ms l ∷ rs) (it ∷ is)
@@ -298,7 +298,7 @@ module _ (τ : Terms) (s : List ℕ) (raw : List Row) (name : ℕ → List ℕ) 
         (λ w. k (row-codes w c (typesOf ms) (library-from g b w) (slots-same name ms)))
 
     class-by-id-ok : {i j r : ℕ} {ts : List SlotType} → classOf j es ≡ classed r ts → it ≡ rowOf 1 at (classById i j) i own slot r (length ts)
-        → (Codes τ s table (suc row) 0 ts
+        → (Codes τ (τ .book) s table (suc row) 0 ts
         → Ok (close (opened (orderOf table (suc row)) 0 (length ts) ∷ fill 1 os)) (at + size (classById i j)) (suc row) (es ++ (another i ∷ [])) rs is)
         → Ok os at row es (classById i j ∷ rs) (it ∷ is)
     unfolding linkOf
@@ -359,12 +359,12 @@ module _ (τ : Terms) (s : List ℕ) (raw : List Row) (name : ℕ → List ℕ) 
     object-ok os (library-class a b l q d) p k = library-class-ok p a b l q (λ g. body-ok (fill 1 os) d g k)
     object-ok os (class-by-id a b f q d) p k = class-by-id-ok p f q (λ g. body-ok (fill 1 os) d g k)
 
-    body-ok : {room row : ℕ} {ts : List SlotType} {c c₁ : Cur} (os : List Open) → Body τ room row ts c c₁ → Codes τ s table row 0 ts → OkIn (close os) c₁
+    body-ok : {room row : ℕ} {ts : List SlotType} {c c₁ : Cur} (os : List Open) → Body τ room row ts c c₁ → Codes τ (τ .book) s table row 0 ts → OkIn (close os) c₁
         → OkIn (close (opened (orderOf table row) 0 (length ts) ∷ os)) c
     body-ok os hollow g k = k
     body-ok os (filled d) g k = slots-ok os d g k
 
-    slots-ok : {room own slot : ℕ} {ts : List SlotType} {c c₁ : Cur} (os : List Open) → Slots τ room own slot ts c c₁ → Codes τ s table own slot ts → OkIn (close os) c₁
+    slots-ok : {room own slot : ℕ} {ts : List SlotType} {c c₁ : Cur} (os : List Open) → Slots τ room own slot ts c c₁ → Codes τ (τ .book) s table own slot ts → OkIn (close os) c₁
         → OkIn (close (opened (orderOf table own) slot (length ts) ∷ os)) c
     slots-ok os full g k = k
     slots-ok os (member-value {own = own} {slot = slot} {ts = ts} a q d) g k =
@@ -380,16 +380,16 @@ module _ (τ : Terms) (s : List ℕ) (raw : List Row) (name : ℕ → List ℕ) 
     slots-ok os (a-null {own = own} {slot = slot} {ts = ts} e q d) g k =
         null-ok slot-stands q (one-filled (orderOf table own) slot (length ts) os (slots-ok os d (g .1) k))
     slots-ok os (a-run {own = own} {slot = slot} {k = n} {t = t} {ts = ts} {us = us} e a b f u q d) g k =
-        run-ok slot-stands q (some-filled (orderOf table own) slot n (t ∷ ts) us os u (slots-ok os d (run-codes τ s table own slot n (t ∷ ts) u g) k))
+        run-ok slot-stands q (some-filled (orderOf table own) slot n (t ∷ ts) us os u (slots-ok os d (run-codes τ (τ .book) s table own slot n (t ∷ ts) u g) k))
     slots-ok os (a-long-run {own = own} {slot = slot} {k = n} {t = t} {ts = ts} {us = us} e a b f u q d) g k =
-        long-run-ok slot-stands q (some-filled (orderOf table own) slot n (t ∷ ts) us os u (slots-ok os d (run-codes τ s table own slot n (t ∷ ts) u g) k))
+        long-run-ok slot-stands q (some-filled (orderOf table own) slot n (t ∷ ts) us os u (slots-ok os d (run-codes τ (τ .book) s table own slot n (t ∷ ts) u g) k))
     slots-ok os (a-library t a b n q d) g k = library-ok b n q (slots-ok os d g k)
 
   objects-ok : {c : Cur} → Objects τ c → OkIn [] c
   objects-ok (the-end q) = end-ok q
   objects-ok (one-object a d) = object-ok [] a top-stands (objects-ok d)
   objects-ok (one-string a b q d) = string-ok top-stands b q (objects-ok d)
-  objects-ok (one-array a b q d f) = array-ok b q (body-ok [] d (array-codes τ s table _ b) (objects-ok f))
+  objects-ok (one-array a b q d f) = array-ok b q (body-ok [] d (array-codes τ (τ .book) s table _ b) (objects-ok f))
   objects-ok (one-library a b n q d) = library-ok b n q (objects-ok d)
 
 -- ---- the whole stream
@@ -424,7 +424,7 @@ module _ (τ : Terms) (s : List ℕ) (root h : ℕ) (rs : List Rec) (is : List R
         };
       }
 
-  first-says : nodesFrom s whole whole ≡ nodesFrom s whole (drop 1 whole)
+  first-says : nodesFrom (τ .book) s whole whole ≡ nodesFrom (τ .book) s whole (drop 1 whole)
   unfolding linked nodesFrom nodesOf
   first-says = refl
 
@@ -432,24 +432,24 @@ module _ (τ : Terms) (s : List ℕ) (root h : ℕ) (rs : List Rec) (is : List R
   unfolding linked orderOf objectsIn
   none-before = refl
 
-  root-is : says s whole .root ≡ orderOf whole (objectRow root raw)
+  root-is : says (τ .book) s whole .root ≡ orderOf whole (objectRow root raw)
   unfolding says linked linkOf
   root-is = refl
 
-  linked-meant : s ≡ enc (header root h) ++ encs rs → Objects τ (cur 17 1 [] rs is) → says s whole ≡ meant root rs
+  linked-meant : s ≡ enc (header root h) ++ encs rs → Objects τ (cur 17 1 [] rs is) → says (τ .book) s whole ≡ meant root rs
   unfolding says meant
   linked-meant e d =
       let ns = walk (nameBy rs) (classBy rs) (orderBy rs) 0 [] rs in
-      let a : says s whole .root ≡ orderBy rs root = root-is ∙ order-is d root in
-      let b : nodesFrom s whole whole ≡ ns =
+      let a : says (τ .book) s whole .root ≡ orderBy rs root = root-is ∙ order-is d root in
+      let b : nodesFrom (τ .book) s whole whole ≡ ns =
       first-says
       ∙ (objects-ok τ s raw (nameBy rs) (classBy rs) (orderBy rs) (order-is d) d .leads (begins e d)
       ∙ ap (λ (n : ℕ). walk (nameBy rs) (classBy rs) (orderBy rs) n [] rs) none-before) in
-      ap (λ (k : ℕ). model k (nodesFrom s whole whole)) a ∙ ap (λ (l : List Node). model (orderBy rs root) l) b
+      ap (λ (k : ℕ). model k (nodesFrom (τ .book) s whole whole)) a ∙ ap (λ (l : List Node). model (orderBy rs root) l) b
     where
       model : ℕ → List Node → Model
       model k l = record { root = k; nodes = l }
 
 -- what a stream says, by its rows, is what the records of its reading mean
-pub says-meant : (τ : Terms) {s : List ℕ} {rows : List Row} (w : Reading τ s rows) → says s rows ≡ meantBy w
-says-meant τ {s} w = ap (says s) (rows-are τ w) ∙ linked-meant τ s (w .root) (w .header-id) (w .rs) (w .is) (w .bytes-are) (w .objects-are)
+pub says-meant : (τ : Terms) {s : List ℕ} {rows : List Row} (w : Reading τ s rows) → says (τ .book) s rows ≡ meantBy w
+says-meant τ {s} w = ap (says (τ .book) s) (rows-are τ w) ∙ linked-meant τ s (w .root) (w .header-id) (w .rs) (w .is) (w .bytes-are) (w .objects-are)

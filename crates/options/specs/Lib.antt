@@ -1,3 +1,3 @@
--- The settings that options choose, and the laws of them.
+-- What options choose, and the laws of it.
 pub mod Options
 pub mod Laws

@@ -30,19 +30,19 @@ length-spread zero owner slot = refl
 length-spread (suc n) owner slot = ap suc (length-spread n owner (slot + 1))
 
 -- of a row that says something, where one null counts as one
-module _ (s : List ℕ) (rows : List Row) (r : Row) (one : r .kind ≡ 10 → r .count ≡ 1) (e : isSilent (r .kind) ≡ false) where
-  nulls : isNulls (r .kind) ≡ true → length (nodesOf s rows r) ≡ r .count
+module _ (β s : List ℕ) (rows : List Row) (r : Row) (one : r .kind ≡ 10 → r .count ≡ 1) (e : isSilent (r .kind) ≡ false) where
+  nulls : isNulls (r .kind) ≡ true → length (nodesOf β s rows r) ≡ r .count
   unfolding nodesOf
   nulls f = rw (e, f) (length-spread _ _ _)
 
-  other : isNulls (r .kind) ≡ false → length (nodesOf s rows r) ≡ 1
+  other : isNulls (r .kind) ≡ false → length (nodesOf β s rows r) ≡ 1
   unfolding nodesOf
   other f = rw (e, f)
 
-  row-filled : length (nodesOf s rows r) ≡ slotsFilled r
+  row-filled : length (nodesOf β s rows r) ≡ slotsFilled r
   row-filled = go (eqb (r .kind) 10) (eqb (r .kind) 13) (eqb (r .kind) 14) refl refl refl
     where
-      go : (a b c : Bool) → eqb (r .kind) 10 ≡ a → eqb (r .kind) 13 ≡ b → eqb (r .kind) 14 ≡ c → length (nodesOf s rows r) ≡ slotsFilled r
+      go : (a b c : Bool) → eqb (r .kind) 10 ≡ a → eqb (r .kind) 13 ≡ b → eqb (r .kind) 14 ≡ c → length (nodesOf β s rows r) ≡ slotsFilled r
       go true b c p q t =
           let k = eqb-true (r .kind) 10 p in
           nulls (rw p) ∙ (one k ∙ filled-one r (λ x. omega arith) (λ x. omega arith))
@@ -69,5 +69,5 @@ one-null τ s room rows w i h k =
     ∙ null-counts τ (w .stands .each i (omega arith)) (sym (same-kind f raw i) ∙ (sym (ap (λ (rows : List Row). getD rows i blank .kind) e) ∙ k)))
 
 pub filled-found : (τ : Terms) (s : List ℕ) (room : ℕ) (rows : List Row) → readOf τ s room ≡ accepted rows → (i : ℕ) → i < length rows
-    → isSilent (getD rows i blank .kind) ≡ false → length (nodesOf s rows (getD rows i blank)) ≡ slotsFilled (getD rows i blank)
-filled-found τ s room rows a i h e = row-filled s rows (getD rows i blank) (one-null τ s room rows (accepted-stands τ s room rows a) i h) e
+    → isSilent (getD rows i blank .kind) ≡ false → length (nodesOf (τ .book) s rows (getD rows i blank)) ≡ slotsFilled (getD rows i blank)
+filled-found τ s room rows a i h e = row-filled (τ .book) s rows (getD rows i blank) (one-null τ s room rows (accepted-stands τ s room rows a) i h) e

@@ -1,5 +1,5 @@
 -- A class's name and members at a place (01, Records, kinds 4 and 5): those that the grammar takes are those that end.
-use Prim.Native.Nat.{ℕ, _+_, _≤_}
+use Prim.Native.Nat.{ℕ, _+_, _≤_, _<_}
 use mathlib.Core.Path.{_≡_, refl, ap, _∙_}
 use mathlib.Core.Bool.{false}
 use mathlib.Core.List.{List, _++_}
@@ -27,31 +27,31 @@ use Rattle.places.specs.Members.{membersIn, length-members, members-back
 module _ (τ : Terms) (s : List ℕ) (rows : List Row) where
   -- a good class from p to e; its n type bytes stand at types and its details at infos
   pub record ClassAt (name : Prefixed) (ms : List (Member Prefixed ℕ)) (p e n types infos : ℕ) : Type 0 where
-    pub info : ClassInfo τ (envOf s rows) name ms
+    pub info : ClassInfo τ (envOf (τ .book) s rows) name ms
     pub stands : Stand s (classBytes name ms) p e
     pub counted : length ms ≡ n
-    pub slots : slotsFrom s (typedAt s types infos) n ≡ typesOf ms
-    pub known : typesAt s types n ≡ typesOf ms
+    pub slots : slotsFrom (τ .book) s (typedAt s types infos) n ≡ typesOf ms
+    pub known : typesAt (τ .book) s types n ≡ typesOf ms
 
   -- the details follow the type bytes
-  types-known : (types infos n : ℕ) → infos ≡ types + n → infos ≤ length s → typesAt s types n ≡ slotsFrom s (typedAt s types infos) n
+  types-known : (types infos n : ℕ) → infos ≡ types + n → infos ≤ length s → typesAt (τ .book) s types n ≡ slotsFrom (τ .book) s (typedAt s types infos) n
   unfolding typesAt
   types-known types infos n e h = rw (← e, le-ltb (length s) infos h)
 
   pub class-back : (p q n r types infos e : ℕ) → Bytes s → nameAt (τ .setting) s p ≡ F.End q → u32At s q ≡ N32.Value n r → negative n ≡ false
-      → times (nameAt (τ .setting) s) n r ≡ F.End types → times (typeByteAt s) n types ≡ F.End infos → infosAt τ s rows n types infos ≡ F.End e
+      → times (nameAt (τ .setting) s) n r ≡ F.End types → times (typeByteAt s) n types ≡ F.End infos → infosAt (τ .setting) s rows n types infos ≡ F.End e
       → ClassAt (prefixedAt s p) (membersIn s n r types infos) p e n types infos
   class-back p q n r types infos e byte a b c d f g =
       let x = name-back τ s p q byte a in
       let m = name-moves (τ .setting) s p q a in
       let y = number-back s q n r byte b in
       let i : r ≤ length s = y .stands .room in
-      let u = names-there τ s n r types i d in
+      let u = names-there (τ .setting) s n r types i d in
       let v = types-there s n types infos (u .1) f in
       let k = members-back τ s rows n r types infos types infos e byte i (u .1) (v .1) d f g in
       let l = length-members s n r types infos in
       let count : Stand s (leBytes 4 (length (membersIn s n r types infos))) q r = rw l (y .stands) in
-      let z = slots-are τ s rows n r types infos infos e (omega (arith, y .next)) f g in
+      let z = slots-are τ s rows n r types infos infos e (omega (arith, y .next)) (omega (arith, y .next)) (v .1) f g in
       record {
         info = record { named = x .0; counted = rw l (below-negative n c); members = k .good };
         stands = stand-then (x .1) (stand-then count (stand-then (k .names-stand) (stand-then (k .types-stand) (k .infos-stand))));
@@ -71,12 +71,12 @@ module _ (τ : Terms) (s : List ℕ) (rows : List Row) where
     pub fits : negative (length ms) ≡ false
     pub names-end : times (nameAt (τ .setting) s) (length ms) names-at ≡ F.End types-at
     pub types-end : times (typeByteAt s) (length ms) types-at ≡ F.End infos-at
-    pub infos-end : infosAt τ s rows (length ms) types-at infos-at ≡ F.End e
+    pub infos-end : infosAt (τ .setting) s rows (length ms) types-at infos-at ≡ F.End e
     pub infos-are : infos-at ≡ types-at + length ms
     pub same : membersIn s (length ms) names-at types-at infos-at ≡ ms
     pub class-at : ClassAt name ms p e (length ms) types-at infos-at
 
-  pub class-there : (name : Prefixed) (ms : List (Member Prefixed ℕ)) (p e : ℕ) → ClassInfo τ (envOf s rows) name ms → Stand s (classBytes name ms) p e → ClassEnds name ms p e
+  pub class-there : (name : Prefixed) (ms : List (Member Prefixed ℕ)) (p e : ℕ) → ClassInfo τ (envOf (τ .book) s rows) name ms → Stand s (classBytes name ms) p e → ClassEnds name ms p e
   class-there name ms p e g w =
       let a = stand-split (bytesIn name) (leBytes 4 (length ms) ++ (namesBytes ms ++ (typesBytes ms ++ infosBytes ms))) w in
       let b = stand-split (leBytes 4 (length ms)) (namesBytes ms ++ (typesBytes ms ++ infosBytes ms)) (a .2) in
@@ -92,7 +92,8 @@ module _ (τ : Terms) (s : List ℕ) (rows : List Row) where
           let m = name-moves (τ .setting) s p q n in
           let k = members-there τ s rows ms r types infos types infos e (g .members) c d f in
           let u = types-there s (length ms) types infos (c .room) (k .types-end) in
-          let z = slots-are τ s rows (length ms) r types infos infos e (omega (arith, b .onward, c .onward)) (k .types-end) (k .infos-end) ∙ ap typesOf (k .same) in
+          let h : 0 < types = omega (arith, b .onward, c .onward) in
+          let z = slots-are τ s rows (length ms) r types infos infos e h (omega arith) (u .1) (k .types-end) (k .infos-end) ∙ ap typesOf (k .same) in
           record {
             count-at = q;
             names-at = r;

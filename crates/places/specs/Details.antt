@@ -35,15 +35,15 @@ use Rattle.places.specs.Fields.{Number, number-size, number-there, numbe
 
 -- ---- LibraryIds
 
-module _ (s : List ℕ) (rows : List Row) (p e : ℕ) where
-  pub library-there : (l : ℕ) → LibraryId l (envOf s rows) → Stand s (leBytes 4 l) p e → ownLibraryAt s rows p ≡ F.End e
+module _ (β s : List ℕ) (rows : List Row) (p e : ℕ) where
+  pub library-there : (l : ℕ) → LibraryId l (envOf β s rows) → Stand s (leBytes 4 l) p e → ownLibraryAt s rows p ≡ F.End e
   unfolding ownLibraryAt
   library-there l g w =
       let b = positive-bits l (g .sign) in
       let u = number-there s l p e b w in
       let k = number-size s l p e w in
       let z : e - 4 ≡ p = omega arith in
-      rw (library-end s p l e u (positive-exactly l .1 (g .sign)), z, number-from s l p e b w, library-id-good s rows l g)
+      rw (library-end s p l e u (positive-exactly l .1 (g .sign)), z, number-from s l p e b w, library-id-good β s rows l g)
 
   known-told : (m : ℕ) → knownLibrary s rows m ≡ F.End e → eqb (libraryRow (le (part s (m - 4) 4)) rows) 0 ≡ false
   known-told m q = go (eqb (libraryRow (le (part s (m - 4) 4)) rows) 0) q
@@ -53,7 +53,7 @@ module _ (s : List ℕ) (rows : List Row) (p e : ℕ) where
       go false q = refl
 
   pub library-back : Bytes s → ownLibraryAt s rows p ≡ F.End e
-      → LibraryId (numberFrom s p) (envOf s rows) × Stand s (leBytes 4 (numberFrom s p)) p e
+      → LibraryId (numberFrom s p) (envOf β s rows) × Stand s (leBytes 4 (numberFrom s p)) p e
   unfolding ownLibraryAt
   library-back b q =
       let x = through (knownLibrary s rows) (libraryIdAt s p) e q in
@@ -61,10 +61,10 @@ module _ (s : List ℕ) (rows : List Row) (p e : ℕ) where
       go (x .0) (y .0) (number-back s p (y .0) (x .0) b (y .1)) (y .2) (known-told (x .0) (x .2)) (known-moves s rows (x .0) e (x .2))
     where
       go : (m v : ℕ) → Number s p v m → positive v ≡ true → eqb (libraryRow (le (part s (m - 4) 4)) rows) 0 ≡ false → e ≡ m
-          → LibraryId (numberFrom s p) (envOf s rows) × Stand s (leBytes 4 (numberFrom s p)) p e
+          → LibraryId (numberFrom s p) (envOf β s rows) × Stand s (leBytes 4 (numberFrom s p)) p e
       go m v n g l k =
           let z : m - 4 ≡ p = omega (arith, n .next) in
-          (library-id s rows (numberFrom s p) (rw (n .from) g) (rw z at l), rw (n .from, k) (n .stands))
+          (library-id β s rows (numberFrom s p) (rw (n .from) g) (rw z at l), rw (n .from, k) (n .stands))
 
 -- ---- details
 
@@ -86,7 +86,7 @@ same (F.Fault f) = refl
 
 module _ (τ : Terms) (s : List ℕ) (rows : List Row) (p : ℕ) where
   -- type 4: a name, and then a library that is known
-  class-detail : infoKnown τ s rows 4 p ≡ onEnd (ownLibraryAt s rows) (nameAt (τ .setting) s p)
+  class-detail : infoKnown (τ .setting) s rows 4 p ≡ onEnd (ownLibraryAt s rows) (nameAt (τ .setting) s p)
   unfolding infoKnown infoAt ownLibraryAt
   class-detail = go (nameAt (τ .setting) s p)
     where
@@ -95,7 +95,7 @@ module _ (τ : Terms) (s : List ℕ) (rows : List Row) (p : ℕ) where
       go (F.Fault f) = refl
 
   module _ (e : ℕ) where
-    pub detail-there : (d : Detail Prefixed ℕ) → GoodDetail τ (envOf s rows) d → Stand s (infoBytes d) p e → infoKnown τ s rows (typeByte d) p ≡ F.End e
+    pub detail-there : (d : Detail Prefixed ℕ) → GoodDetail τ (envOf (τ .book) s rows) d → Stand s (infoBytes d) p e → infoKnown (τ .setting) s rows (typeByte d) p ≡ F.End e
     unfolding infoKnown infoAt
     detail-there (primitive c) g w = same (codeAt s p) ∙ code-there s c p e w
     detail-there text g w = let k = stand-size w in ap F.End (omega arith)
@@ -103,13 +103,13 @@ module _ (τ : Terms) (s : List ℕ) (rows : List Row) (p : ℕ) where
     detail-there (system n) g w = same (nameAt (τ .setting) s p) ∙ name-there τ s n p e g w
     detail-there (class n l) g w =
         let x = stand-split (bytesIn n) (leBytes 4 l) w in
-        class-detail ∙ rw (name-there τ s n p (x .0) (g .0) (x .1)) (library-there s rows (x .0) e l (g .1) (x .2))
+        class-detail ∙ rw (name-there τ s n p (x .0) (g .0) (x .1)) (library-there (τ .book) s rows (x .0) e l (g .1) (x .2))
     detail-there objects g w = let k = stand-size w in ap F.End (omega arith)
     detail-there texts g w = let k = stand-size w in ap F.End (omega arith)
     detail-there (primitives c) g w = same (codeAt s p) ∙ code-there s c p e w
 
     -- and it is the detail that is read there
-    pub detail-in : (d : Detail Prefixed ℕ) → GoodDetail τ (envOf s rows) d → Stand s (infoBytes d) p e → detailIn s (typeByte d) p ≡ d
+    pub detail-in : (d : Detail Prefixed ℕ) → GoodDetail τ (envOf (τ .book) s rows) d → Stand s (infoBytes d) p e → detailIn s (typeByte d) p ≡ d
     unfolding detailIn
     detail-in (primitive c) g w = ap primitive (code-from s c p e w)
     detail-in text g w = refl
@@ -144,13 +144,13 @@ module _ (τ : Terms) (s : List ℕ) (p : ℕ) where
   module _ (rows : List Row) (e : ℕ) where
     -- a detail that ends is written there
     pub record Detailed (b : ℕ) : Type 0 where
-      pub good : GoodDetail τ (envOf s rows) (detailIn s b p)
+      pub good : GoodDetail τ (envOf (τ .book) s rows) (detailIn s b p)
       pub stands : Stand s (infoBytes (detailIn s b p)) p e
 
-    pub detail-back : (b : ℕ) → b ≤ 7 → Bytes s → p ≤ length s → infoKnown τ s rows b p ≡ F.End e → Detailed b
+    pub detail-back : (b : ℕ) → b ≤ 7 → Bytes s → p ≤ length s → infoKnown (τ .setting) s rows b p ≡ F.End e → Detailed b
     unfolding infoKnown infoAt detailIn
     detail-back b h byte i q =
-        by-type (λ (b : ℕ). infoKnown τ s rows b p ≡ F.End e → Detailed b)
+        by-type (λ (b : ℕ). infoKnown (τ .setting) s rows b p ≡ F.End e → Detailed b)
         (λ q. record { good = tt; stands = code-back s p e (sym (same (codeAt s p)) ∙ q) })
         (λ q. record { good = tt; stands = none q })
         (λ q. record { good = tt; stands = none q })
@@ -169,9 +169,9 @@ module _ (τ : Terms) (s : List ℕ) (p : ℕ) where
         class-back : (m : ℕ) × (nameAt (τ .setting) s p ≡ F.End m) × (ownLibraryAt s rows m ≡ F.End e) → Detailed 4
         class-back x =
             let n = name-back τ s p (x .0) byte (x .1) in
-            let l = library-back s rows (x .0) e byte (x .2) in
+            let l = library-back (τ .book) s rows (x .0) e byte (x .2) in
             let f : numberFrom s (afterText s p) ≡ numberFrom s (x .0) = ap (numberFrom s) (n .2) in
             record {
-              good = (n .0, subst (λ (v : ℕ). LibraryId v (envOf s rows)) (sym f) (l .0));
+              good = (n .0, subst (λ (v : ℕ). LibraryId v (envOf (τ .book) s rows)) (sym f) (l .0));
               stands = subst (λ (v : ℕ). Stand s (bytesIn (prefixedAt s p) ++ leBytes 4 v) p e) (sym f) (stand-then (n .1) (l .1));
             }

@@ -16,7 +16,7 @@ use Rattle.format.specs.declared.Row.{Row}
 use Rattle.format.specs.Bytes.{pick}
 use Rattle.format.specs.Types.{typedAt, moved, positive}
 use Rattle.format.specs.Rows.{blank, isObject, isClass, findFrom, objectRow, classRow, libraryRow}
-use Rattle.format.specs.Records.{within, goodClassId, goodId}
+use Rattle.format.specs.Records.{within, firstType, goodClassId, goodId}
 use Rattle.format.specs.Grammar.{Positive, Entry, aClass, another, aLibrary, used, known, Classed, classed, unknown, classOf, ClassId, ObjectId, LibraryId}
 use Rattle.format.specs.Own.{positive-exactly}
 use Rattle.laws.specs.Tests.{both-of}
@@ -24,50 +24,50 @@ use Rattle.laws.specs.Tests.{both-of}
 -- ---- the environment
 
 -- the types of n slots, the first of which is this
-unfoldable pub slotsFrom : List ℕ → Typed → ℕ → List SlotType
-slotsFrom s t zero = []
-slotsFrom s t (suc n) = t .slot ∷ slotsFrom s (moved s t) n
+unfoldable pub slotsFrom : List ℕ → List ℕ → Typed → ℕ → List SlotType
+slotsFrom β s t zero = []
+slotsFrom β s t (suc n) = t .slot ∷ slotsFrom β s (moved β s t) n
 
 -- the types of the members of a class whose count type bytes stand at types
-unfoldable pub typesAt : List ℕ → ℕ → ℕ → List SlotType
-typesAt s types count = slotsFrom s (typedAt s types (within (length s) (types + count))) count
+unfoldable pub typesAt : List ℕ → List ℕ → ℕ → ℕ → List SlotType
+typesAt β s types count = slotsFrom β s (typedAt s types (within (length s) (types + count))) count
 
--- before linking, the link of a class's row is the place of its type bytes
-abbrev pub classSlots : List ℕ → Row → List SlotType
-classSlots s r = typesAt s (r .link) (r .count)
+-- before linking, the link of a class's row is the place of its type bytes, in its record or in the book
+abbrev pub classSlots : List ℕ → List ℕ → Row → List SlotType
+classSlots β s r = slotsFrom β s (firstType β s r) (r .count)
 
 -- what a row makes known; row is its number plus 1
-abbrev pub entryOf : List ℕ → ℕ → Row → List Entry
-entryOf s row r =
-    pick (isObject (r .kind)) (pick (isClass (r .kind)) (aClass (r .id) row (classSlots s r)) (another (r .id)) ∷ [])
+abbrev pub entryOf : List ℕ → List ℕ → ℕ → Row → List Entry
+entryOf β s row r =
+    pick (isObject (r .kind)) (pick (isClass (r .kind)) (aClass (r .id) row (classSlots β s r)) (another (r .id)) ∷ [])
     (pick (eqb (r .kind) 12) (aLibrary (r .id) ∷ []) [])
 
-unfoldable pub envFrom : List ℕ → ℕ → List Row → List Entry
-envFrom s i [] = []
-envFrom s i (r ∷ rs) = entryOf s (suc i) r ++ envFrom s (suc i) rs
+unfoldable pub envFrom : List ℕ → List ℕ → ℕ → List Row → List Entry
+envFrom β s i [] = []
+envFrom β s i (r ∷ rs) = entryOf β s (suc i) r ++ envFrom β s (suc i) rs
 
-abbrev pub envOf : List ℕ → List Row → List Entry
-envOf s rows = envFrom s 0 rows
+abbrev pub envOf : List ℕ → List ℕ → List Row → List Entry
+envOf β s rows = envFrom β s 0 rows
 
 -- ---- one row more
 
-env-from-more : (s : List ℕ) (i : ℕ) (rows : List Row) (r : Row) → envFrom s i (rows ++ (r ∷ [])) ≡ envFrom s i rows ++ entryOf s (suc (i + length rows)) r
+env-from-more : (β s : List ℕ) (i : ℕ) (rows : List Row) (r : Row) → envFrom β s i (rows ++ (r ∷ [])) ≡ envFrom β s i rows ++ entryOf β s (suc (i + length rows)) r
 unfolding envFrom
-env-from-more s i [] r =
+env-from-more β s i [] r =
     let z : i + 0 ≡ i = omega arith in
-    rw z (append-nil (entryOf s (suc i) r))
-env-from-more s i (x ∷ rows) r =
+    rw z (append-nil (entryOf β s (suc i) r))
+env-from-more β s i (x ∷ rows) r =
     let z : i + suc (length rows) ≡ suc i + length rows = omega arith in
-    rw (z, env-from-more s (suc i) rows r) (sym (append-assoc (entryOf s (suc i) x) (envFrom s (suc i) rows) _))
+    rw (z, env-from-more β s (suc i) rows r) (sym (append-assoc (entryOf β s (suc i) x) (envFrom β s (suc i) rows) _))
 
-pub env-more : (s : List ℕ) (rows : List Row) (r : Row) → envOf s (rows ++ (r ∷ [])) ≡ envOf s rows ++ entryOf s (suc (length rows)) r
-env-more s rows r =
+pub env-more : (β s : List ℕ) (rows : List Row) (r : Row) → envOf β s (rows ++ (r ∷ [])) ≡ envOf β s rows ++ entryOf β s (suc (length rows)) r
+env-more β s rows r =
     let z : 0 + length rows ≡ length rows = omega arith in
-    rw z at (env-from-more s 0 rows r)
+    rw z at (env-from-more β s 0 rows r)
 
 -- and one that makes nothing known
-pub env-same : (s : List ℕ) (rows : List Row) (r : Row) → entryOf s (suc (length rows)) r ≡ [] → envOf s (rows ++ (r ∷ [])) ≡ envOf s rows
-env-same s rows r e = env-more s rows r ∙ rw e (append-nil (envOf s rows))
+pub env-same : (β s : List ℕ) (rows : List Row) (r : Row) → entryOf β s (suc (length rows)) r ≡ [] → envOf β s (rows ++ (r ∷ [])) ≡ envOf β s rows
+env-same β s rows r e = env-more β s rows r ∙ rw e (append-nil (envOf β s rows))
 
 -- ---- lookups
 
@@ -75,16 +75,16 @@ some-row : (i : ℕ) → not (eqb (i + 1) 0) ≡ true
 some-row i = rw (ne-eqb (i + 1) 0 (λ e. omega arith))
 
 -- the rows may be counted from any number
-used-from : (s : List ℕ) (id i k : ℕ) (rows : List Row)
-    → used id (envFrom s i rows) ≡ not (eqb (findFrom (λ (r : Row). isObject (r .kind) && eqb (r .id) id) k rows) 0)
+used-from : (β s : List ℕ) (id i k : ℕ) (rows : List Row)
+    → used id (envFrom β s i rows) ≡ not (eqb (findFrom (λ (r : Row). isObject (r .kind) && eqb (r .id) id) k rows) 0)
 unfolding envFrom findFrom
-used-from s id i k [] = refl
-used-from s id i k (r ∷ rows) =
-    go (isObject (r .kind)) (isClass (r .kind)) (eqb (r .kind) 12) (eqb (r .id) id) refl (used-from s id (suc i) (k + 1) rows)
+used-from β s id i k [] = refl
+used-from β s id i k (r ∷ rows) =
+    go (isObject (r .kind)) (isClass (r .kind)) (eqb (r .kind) 12) (eqb (r .id) id) refl (used-from β s id (suc i) (k + 1) rows)
   where
     go : (o c l d : Bool) → eqb (r .id) id ≡ d
-        → used id (envFrom s (suc i) rows) ≡ not (eqb (findFrom (λ (r : Row). isObject (r .kind) && eqb (r .id) id) (k + 1) rows) 0)
-        → used id (pick o (pick c (aClass (r .id) (suc i) (classSlots s r)) (another (r .id)) ∷ []) (pick l (aLibrary (r .id) ∷ []) []) ++ envFrom s (suc i) rows)
+        → used id (envFrom β s (suc i) rows) ≡ not (eqb (findFrom (λ (r : Row). isObject (r .kind) && eqb (r .id) id) (k + 1) rows) 0)
+        → used id (pick o (pick c (aClass (r .id) (suc i) (classSlots β s r)) (another (r .id)) ∷ []) (pick l (aLibrary (r .id) ∷ []) []) ++ envFrom β s (suc i) rows)
         ≡ not (eqb (pick (o && d) (k + 1) (findFrom (λ (r : Row). isObject (r .kind) && eqb (r .id) id) (k + 1) rows)) 0)
     go true true l true e h = rw e (sym (some-row k))
     go true true l false e h = rw e h
@@ -93,9 +93,9 @@ used-from s id i k (r ∷ rows) =
     go false c true d e h = h
     go false c false d e h = h
 
-pub used-is : (s : List ℕ) (id : ℕ) (rows : List Row) → used id (envOf s rows) ≡ not (eqb (objectRow id rows) 0)
+pub used-is : (β s : List ℕ) (id : ℕ) (rows : List Row) → used id (envOf β s rows) ≡ not (eqb (objectRow id rows) 0)
 unfolding objectRow
-used-is s id rows = used-from s id 0 0 rows
+used-is β s id rows = used-from β s id 0 0 rows
 
 -- no object is a library
 object-not-library : (k : ℕ) → isObject k ≡ true → eqb k 12 ≡ true → ⊥
@@ -105,16 +105,16 @@ object-not-library k o l =
     let y : _≡_ {A = ℕ} 0 1 = cc in
     omega arith
 
-known-from : (s : List ℕ) (id i k : ℕ) (rows : List Row)
-    → known id (envFrom s i rows) ≡ not (eqb (findFrom (λ (r : Row). eqb (r .kind) 12 && eqb (r .id) id) k rows) 0)
+known-from : (β s : List ℕ) (id i k : ℕ) (rows : List Row)
+    → known id (envFrom β s i rows) ≡ not (eqb (findFrom (λ (r : Row). eqb (r .kind) 12 && eqb (r .id) id) k rows) 0)
 unfolding envFrom findFrom
-known-from s id i k [] = refl
-known-from s id i k (r ∷ rows) =
-    go (isObject (r .kind)) (isClass (r .kind)) (eqb (r .kind) 12) (eqb (r .id) id) refl (object-not-library (r .kind)) (known-from s id (suc i) (k + 1) rows)
+known-from β s id i k [] = refl
+known-from β s id i k (r ∷ rows) =
+    go (isObject (r .kind)) (isClass (r .kind)) (eqb (r .kind) 12) (eqb (r .id) id) refl (object-not-library (r .kind)) (known-from β s id (suc i) (k + 1) rows)
   where
     go : (o c l d : Bool) → eqb (r .id) id ≡ d → (o ≡ true → l ≡ true → ⊥)
-        → known id (envFrom s (suc i) rows) ≡ not (eqb (findFrom (λ (r : Row). eqb (r .kind) 12 && eqb (r .id) id) (k + 1) rows) 0)
-        → known id (pick o (pick c (aClass (r .id) (suc i) (classSlots s r)) (another (r .id)) ∷ []) (pick l (aLibrary (r .id) ∷ []) []) ++ envFrom s (suc i) rows)
+        → known id (envFrom β s (suc i) rows) ≡ not (eqb (findFrom (λ (r : Row). eqb (r .kind) 12 && eqb (r .id) id) (k + 1) rows) 0)
+        → known id (pick o (pick c (aClass (r .id) (suc i) (classSlots β s r)) (another (r .id)) ∷ []) (pick l (aLibrary (r .id) ∷ []) []) ++ envFrom β s (suc i) rows)
         ≡ not (eqb (pick (l && d) (k + 1) (findFrom (λ (r : Row). eqb (r .kind) 12 && eqb (r .id) id) (k + 1) rows)) 0)
     go true c true d e n h = absurd (n refl refl)
     go true true false d e n h = h
@@ -123,9 +123,9 @@ known-from s id i k (r ∷ rows) =
     go false c true false e n h = rw e h
     go false c false d e n h = h
 
-pub known-is : (s : List ℕ) (id : ℕ) (rows : List Row) → known id (envOf s rows) ≡ not (eqb (libraryRow id rows) 0)
+pub known-is : (β s : List ℕ) (id : ℕ) (rows : List Row) → known id (envOf β s rows) ≡ not (eqb (libraryRow id rows) 0)
 unfolding libraryRow
-known-is s id rows = known-from s id 0 0 rows
+known-is β s id rows = known-from β s id 0 0 rows
 
 -- every class is an object
 class-is-object : (k : ℕ) → isClass k ≡ true → isObject k ≡ false → ⊥
@@ -138,26 +138,26 @@ class-is-object k c o = go (eqb k 1) (eqb k 4) (eqb k 5) _ c o
     go false false false w c o = let e : _≡_ {A = ℕ} 0 1 = cc in omega arith
 
 -- the class in a row of a table, given by its number plus 1; 0 for none
-abbrev pub classIn : List ℕ → List Row → ℕ → Classed
-classIn s rows row = pick (eqb row 0) unknown (classed row (classSlots s (getD rows (row - 1) blank)))
+abbrev pub classIn : List ℕ → List ℕ → List Row → ℕ → Classed
+classIn β s rows row = pick (eqb row 0) unknown (classed row (classSlots β s (getD rows (row - 1) blank)))
 
-class-from : (s : List ℕ) (id i : ℕ) (before rows : List Row) → length before ≡ i
-    → classOf id (envFrom s i rows) ≡ classIn s (before ++ rows) (findFrom (λ (r : Row). isClass (r .kind) && eqb (r .id) id) i rows)
+class-from : (β s : List ℕ) (id i : ℕ) (before rows : List Row) → length before ≡ i
+    → classOf id (envFrom β s i rows) ≡ classIn β s (before ++ rows) (findFrom (λ (r : Row). isClass (r .kind) && eqb (r .id) id) i rows)
 unfolding envFrom findFrom
-class-from s id i before [] n = refl
-class-from s id i before (r ∷ rows) n =
+class-from β s id i before [] n = refl
+class-from β s id i before (r ∷ rows) n =
     go (isObject (r .kind)) (isClass (r .kind)) (eqb (r .kind) 12) (eqb (r .id) id) refl (class-is-object (r .kind))
-    (rw (← add-one i, append-assoc before (r ∷ []) rows) at (class-from s id (suc i) (before ++ (r ∷ [])) rows (simp length-append (omega arith))))
+    (rw (← add-one i, append-assoc before (r ∷ []) rows) at (class-from β s id (suc i) (before ++ (r ∷ [])) rows (simp length-append (omega arith))))
   where
-    here : classIn s (before ++ (r ∷ rows)) (i + 1) ≡ classed (suc i) (classSlots s r)
+    here : classIn β s (before ++ (r ∷ rows)) (i + 1) ≡ classed (suc i) (classSlots β s r)
     here =
         let z : i + 1 - 1 ≡ i = omega arith in
         rw (ne-eqb (i + 1) 0 (λ e. omega arith), z, getD-at before r rows blank i n, add-one i)
 
     go : (o c l d : Bool) → eqb (r .id) id ≡ d → (c ≡ true → o ≡ false → ⊥)
-        → classOf id (envFrom s (i + 1) rows) ≡ classIn s (before ++ (r ∷ rows)) (findFrom (λ (r : Row). isClass (r .kind) && eqb (r .id) id) (i + 1) rows)
-        → classOf id (pick o (pick c (aClass (r .id) (suc i) (classSlots s r)) (another (r .id)) ∷ []) (pick l (aLibrary (r .id) ∷ []) []) ++ envFrom s (suc i) rows)
-        ≡ classIn s (before ++ (r ∷ rows)) (pick (c && d) (i + 1) (findFrom (λ (r : Row). isClass (r .kind) && eqb (r .id) id) (i + 1) rows))
+        → classOf id (envFrom β s (i + 1) rows) ≡ classIn β s (before ++ (r ∷ rows)) (findFrom (λ (r : Row). isClass (r .kind) && eqb (r .id) id) (i + 1) rows)
+        → classOf id (pick o (pick c (aClass (r .id) (suc i) (classSlots β s r)) (another (r .id)) ∷ []) (pick l (aLibrary (r .id) ∷ []) []) ++ envFrom β s (suc i) rows)
+        ≡ classIn β s (before ++ (r ∷ rows)) (pick (c && d) (i + 1) (findFrom (λ (r : Row). isClass (r .kind) && eqb (r .id) id) (i + 1) rows))
     go true true l true e n h = rw e (sym here)
     go true true l false e n h = rw (e, ← add-one i) h
     go true false l d e n h = rw (← add-one i) h
@@ -165,58 +165,58 @@ class-from s id i before (r ∷ rows) n =
     go false false true d e n h = rw (← add-one i) h
     go false false false d e n h = rw (← add-one i) h
 
-pub class-is : (s : List ℕ) (id : ℕ) (rows : List Row) → classOf id (envOf s rows) ≡ classIn s rows (classRow id rows)
+pub class-is : (β s : List ℕ) (id : ℕ) (rows : List Row) → classOf id (envOf β s rows) ≡ classIn β s rows (classRow id rows)
 unfolding classRow
-class-is s id rows = class-from s id 0 [] rows refl
+class-is β s id rows = class-from β s id 0 [] rows refl
 
-module _ (s : List ℕ) (rows : List Row) where
+module _ (β s : List ℕ) (rows : List Row) where
   pub class-found : (id : ℕ) → eqb (classRow id rows) 0 ≡ false
-      → classOf id (envOf s rows) ≡ classed (classRow id rows) (classSlots s (getD rows (classRow id rows - 1) blank))
-  class-found id e = class-is s id rows ∙ rw e
+      → classOf id (envOf β s rows) ≡ classed (classRow id rows) (classSlots β s (getD rows (classRow id rows - 1) blank))
+  class-found id e = class-is β s id rows ∙ rw e
 
-  pub class-told : (id row : ℕ) (types : List SlotType) → classOf id (envOf s rows) ≡ classed row types
-      → (eqb (classRow id rows) 0 ≡ false) × (classRow id rows ≡ row) × (classSlots s (getD rows (classRow id rows - 1) blank) ≡ types)
-  class-told id row types e = go (eqb (classRow id rows) 0) refl (sym (class-is s id rows) ∙ e)
+  pub class-told : (id row : ℕ) (types : List SlotType) → classOf id (envOf β s rows) ≡ classed row types
+      → (eqb (classRow id rows) 0 ≡ false) × (classRow id rows ≡ row) × (classSlots β s (getD rows (classRow id rows - 1) blank) ≡ types)
+  class-told id row types e = go (eqb (classRow id rows) 0) refl (sym (class-is β s id rows) ∙ e)
     where
       go : (t : Bool) → eqb (classRow id rows) 0 ≡ t
-          → pick t unknown (classed (classRow id rows) (classSlots s (getD rows (classRow id rows - 1) blank))) ≡ classed row types
-          → (eqb (classRow id rows) 0 ≡ false) × (classRow id rows ≡ row) × (classSlots s (getD rows (classRow id rows - 1) blank) ≡ types)
+          → pick t unknown (classed (classRow id rows) (classSlots β s (getD rows (classRow id rows - 1) blank))) ≡ classed row types
+          → (eqb (classRow id rows) 0 ≡ false) × (classRow id rows ≡ row) × (classSlots β s (getD rows (classRow id rows - 1) blank) ≡ types)
       go true t e = absurd (let z : _≡_ {A = ℕ} 0 1 = cc in omega arith)
       go false t e = (t, cc, cc)
 
 -- ---- the tests of a record's numbers are those of the grammar
 
-module _ (s : List ℕ) (rows : List Row) (i : ℕ) where
+module _ (β s : List ℕ) (rows : List Row) (i : ℕ) where
   above-zero : eqb i 0 ≡ false → 0 < i
   above-zero e = let z = eqb-false i 0 e in omega arith
 
-  pub class-id : goodClassId rows i ≡ true → i < 4294967296 → ClassId i (envOf s rows)
+  pub class-id : goodClassId rows i ≡ true → i < 4294967296 → ClassId i (envOf β s rows)
   class-id e h =
       let w = both-of (not (eqb i 0)) (eqb (objectRow i rows) 0) e in
-      record { apart = above-zero (not-true (eqb i 0) (w .0)); bits = h; fresh = used-is s i rows ∙ rw (w .1) }
+      record { apart = above-zero (not-true (eqb i 0) (w .0)); bits = h; fresh = used-is β s i rows ∙ rw (w .1) }
 
-  pub class-id-good : ClassId i (envOf s rows) → goodClassId rows i ≡ true
-  class-id-good c = rw (ne-eqb i 0 (λ e. omega (arith, c .apart)), not-false (eqb (objectRow i rows) 0) (sym (used-is s i rows) ∙ c .fresh))
+  pub class-id-good : ClassId i (envOf β s rows) → goodClassId rows i ≡ true
+  class-id-good c = rw (ne-eqb i 0 (λ e. omega (arith, c .apart)), not-false (eqb (objectRow i rows) 0) (sym (used-is β s i rows) ∙ c .fresh))
 
-  pub object-id : goodId rows i ≡ true → ObjectId i (envOf s rows)
+  pub object-id : goodId rows i ≡ true → ObjectId i (envOf β s rows)
   object-id e =
       let w = both-of (positive i) (eqb (objectRow i rows) 0) e in
-      record { sign = positive-exactly i .0 (w .0); fresh = used-is s i rows ∙ rw (w .1) }
+      record { sign = positive-exactly i .0 (w .0); fresh = used-is β s i rows ∙ rw (w .1) }
 
-  pub object-id-good : ObjectId i (envOf s rows) → goodId rows i ≡ true
-  object-id-good c = rw (positive-exactly i .1 (c .sign), not-false (eqb (objectRow i rows) 0) (sym (used-is s i rows) ∙ c .fresh))
+  pub object-id-good : ObjectId i (envOf β s rows) → goodId rows i ≡ true
+  object-id-good c = rw (positive-exactly i .1 (c .sign), not-false (eqb (objectRow i rows) 0) (sym (used-is β s i rows) ∙ c .fresh))
 
-  pub library-id : positive i ≡ true → eqb (libraryRow i rows) 0 ≡ false → LibraryId i (envOf s rows)
-  library-id p e = record { sign = positive-exactly i .0 p; there = known-is s i rows ∙ rw e }
+  pub library-id : positive i ≡ true → eqb (libraryRow i rows) 0 ≡ false → LibraryId i (envOf β s rows)
+  library-id p e = record { sign = positive-exactly i .0 p; there = known-is β s i rows ∙ rw e }
 
-  pub library-id-good : LibraryId i (envOf s rows) → eqb (libraryRow i rows) 0 ≡ false
-  library-id-good c = not-true (eqb (libraryRow i rows) 0) (sym (known-is s i rows) ∙ c .there)
+  pub library-id-good : LibraryId i (envOf β s rows) → eqb (libraryRow i rows) 0 ≡ false
+  library-id-good c = not-true (eqb (libraryRow i rows) 0) (sym (known-is β s i rows) ∙ c .there)
 
   -- the LibraryId of a library record is new
-  pub library-new : (positive i && eqb (libraryRow i rows) 0) ≡ true → Positive i × (known i (envOf s rows) ≡ false)
+  pub library-new : (positive i && eqb (libraryRow i rows) 0) ≡ true → Positive i × (known i (envOf β s rows) ≡ false)
   library-new e =
       let w = both-of (positive i) (eqb (libraryRow i rows) 0) e in
-      (positive-exactly i .0 (w .0), known-is s i rows ∙ rw (w .1))
+      (positive-exactly i .0 (w .0), known-is β s i rows ∙ rw (w .1))
 
-  pub library-new-good : Positive i → known i (envOf s rows) ≡ false → (positive i && eqb (libraryRow i rows) 0) ≡ true
-  library-new-good p e = rw (positive-exactly i .1 p, not-false (eqb (libraryRow i rows) 0) (sym (known-is s i rows) ∙ e))
+  pub library-new-good : Positive i → known i (envOf β s rows) ≡ false → (positive i && eqb (libraryRow i rows) 0) ≡ true
+  library-new-good p e = rw (positive-exactly i .1 p, not-false (eqb (libraryRow i rows) 0) (sym (known-is β s i rows) ∙ e))

@@ -50,8 +50,8 @@ module _ (τ : Terms) (s : List ℕ) (rows : List Row) where
   -- ---- what ends is written so
 
   pub members-back : (n names types infos a b c : ℕ) → Bytes s → names ≤ length s → types ≤ length s → infos ≤ length s
-      → times (nameAt (τ .setting) s) n names ≡ F.End a → times (typeByteAt s) n types ≡ F.End b → infosAt τ s rows n types infos ≡ F.End c
-      → MembersAt τ (envOf s rows) s (membersIn s n names types infos) names types infos a b c
+      → times (nameAt (τ .setting) s) n names ≡ F.End a → times (typeByteAt s) n types ≡ F.End b → infosAt (τ .setting) s rows n types infos ≡ F.End c
+      → MembersAt τ (envOf (τ .book) s rows) s (membersIn s n names types infos) names types infos a b c
   unfolding times infosAt membersIn
   members-back zero names types infos a b c byte h i j q r u =
       let x : names ≡ a = cc in
@@ -61,24 +61,24 @@ module _ (τ : Terms) (s : List ℕ) (rows : List Row) where
   members-back (suc n) names types infos a b c byte h i j q r u =
       let x = through (times (nameAt (τ .setting) s) n) (nameAt (τ .setting) s names) a q in
       let y = through (times (typeByteAt s) n) (typeByteAt s types) b r in
-      let z = through (infosAt τ s rows n (types + 1)) (infoKnown τ s rows (getD s types 0) infos) c u in
+      let z = through (infosAt (τ .setting) s rows n (types + 1)) (infoKnown (τ .setting) s rows (getD s types 0) infos) c u in
       let t = type-told s types (y .0) (y .1) in
       let v = name-moves (τ .setting) s names (x .0) (x .1) in
-      let w = info-known-moves τ s rows (getD s types 0) infos (z .0) j (z .1) in
+      let w = info-known-moves (τ .setting) s rows (getD s types 0) infos (z .0) j (z .1) in
       step (x .0) (z .0) (x .1) (z .1) (t .0) (t .1)
       (members-back n (x .0) (types + 1) (z .0) a b c byte (v .1) (omega arith) (w .1) (x .2) (rw (t .2) at (y .2)) (z .2))
     where
-      step : (m k : ℕ) → nameAt (τ .setting) s names ≡ F.End m → infoKnown τ s rows (getD s types 0) infos ≡ F.End k → getD s types 0 ≤ 7 → types < length s
-          → MembersAt τ (envOf s rows) s (membersIn s n m (types + 1) k) m (types + 1) k a b c
-          → MembersAt τ (envOf s rows) s (membersIn s (suc n) names types infos) names types infos a b c
+      step : (m k : ℕ) → nameAt (τ .setting) s names ≡ F.End m → infoKnown (τ .setting) s rows (getD s types 0) infos ≡ F.End k → getD s types 0 ≤ 7 → types < length s
+          → MembersAt τ (envOf (τ .book) s rows) s (membersIn s n m (types + 1) k) m (types + 1) k a b c
+          → MembersAt τ (envOf (τ .book) s rows) s (membersIn s (suc n) names types infos) names types infos a b c
       step m k q u g l more =
           let x = name-back τ s names m byte q in
           let d = detail-back τ s infos rows k (getD s types 0) g byte j u in
           let f : typeByte (detailIn s (getD s types 0) infos) ≡ getD s types 0 = detail-byte τ s infos (getD s types 0) g in
           let here : Member Prefixed ℕ = record { name = prefixedAt s names; type = detailIn s (getD s types 0) infos } in
-          let y = info-after (τ .setting) s (getD s types 0) infos k (info-plain τ s rows (getD s types 0) infos k u) in
-          subst (λ (v : ℕ). MembersAt τ (envOf s rows) s (here ∷ membersIn s n v (types + 1) (afterInfo s (getD s types 0) infos)) names types infos a b c) (sym (x .2))
-          (subst (λ (v : ℕ). MembersAt τ (envOf s rows) s (here ∷ membersIn s n m (types + 1) v) names types infos a b c) (sym y)
+          let y = info-after (τ .setting) s (getD s types 0) infos k (info-plain (τ .setting) s rows (getD s types 0) infos k u) in
+          subst (λ (v : ℕ). MembersAt τ (envOf (τ .book) s rows) s (here ∷ membersIn s n v (types + 1) (afterInfo s (getD s types 0) infos)) names types infos a b c) (sym (x .2))
+          (subst (λ (v : ℕ). MembersAt τ (envOf (τ .book) s rows) s (here ∷ membersIn s n m (types + 1) v) names types infos a b c) (sym y)
           (record {
             good = member (x .0) (d .good) (more .good);
             names-stand = stand-then (x .1) (more .names-stand);
@@ -92,10 +92,10 @@ module _ (τ : Terms) (s : List ℕ) (rows : List Row) where
   pub record MembersEnd (ms : List (Member Prefixed ℕ)) (names types infos a b c : ℕ) : Type 0 where
     pub names-end : times (nameAt (τ .setting) s) (length ms) names ≡ F.End a
     pub types-end : times (typeByteAt s) (length ms) types ≡ F.End b
-    pub infos-end : infosAt τ s rows (length ms) types infos ≡ F.End c
+    pub infos-end : infosAt (τ .setting) s rows (length ms) types infos ≡ F.End c
     pub same : membersIn s (length ms) names types infos ≡ ms
 
-  pub members-there : (ms : List (Member Prefixed ℕ)) (names types infos a b c : ℕ) → Members τ (envOf s rows) ms
+  pub members-there : (ms : List (Member Prefixed ℕ)) (names types infos a b c : ℕ) → Members τ (envOf (τ .book) s rows) ms
       → Stand s (namesBytes ms) names a → Stand s (typesBytes ms) types b → Stand s (infosBytes ms) infos c
       → MembersEnd ms names types infos a b c
   unfolding times infosAt membersIn
@@ -115,7 +115,7 @@ module _ (τ : Terms) (s : List ℕ) (rows : List Row) where
           let f : getD s types 0 ≡ typeByte (m .type) = stand-here y in
           let n = name-there τ s (m .name) names i g u in
           let q = detail-there τ s rows infos k (m .type) d w in
-          let a = info-after (τ .setting) s (typeByte (m .type)) infos k (info-plain τ s rows (typeByte (m .type)) infos k q) in
+          let a = info-after (τ .setting) s (typeByte (m .type)) infos k (info-plain (τ .setting) s rows (typeByte (m .type)) infos k q) in
           let t : typeByteAt s types ≡ F.End (types + 1) = type-end s types (stand-inside y) (rw f (byte-small (m .type))) in
           record {
             names-end = rw n (ends .names-end);
@@ -126,20 +126,22 @@ module _ (τ : Terms) (s : List ℕ) (rows : List Row) where
 
   -- ---- the types of an object's slots
 
-  pub slots-are : (n names types infos b c : ℕ) → 0 < types → times (typeByteAt s) n types ≡ F.End b → infosAt τ s rows n types infos ≡ F.End c
-      → slotsFrom s (typedAt s types infos) n ≡ typesOf (membersIn s n names types infos)
+  pub slots-are : (n names types infos b c : ℕ) → 0 < types → 0 < infos → infos ≤ length s → times (typeByteAt s) n types ≡ F.End b
+      → infosAt (τ .setting) s rows n types infos ≡ F.End c
+      → slotsFrom (τ .book) s (typedAt s types infos) n ≡ typesOf (membersIn s n names types infos)
   unfolding times infosAt membersIn slotsFrom typedAt
-  slots-are zero names types infos b c h q r = refl
-  slots-are (suc n) names types infos b c h q r =
+  slots-are zero names types infos b c h o j q r = refl
+  slots-are (suc n) names types infos b c h o j q r =
       let y = through (times (typeByteAt s) n) (typeByteAt s types) b q in
-      let z = through (infosAt τ s rows n (types + 1)) (infoKnown τ s rows (getD s types 0) infos) c r in
+      let z = through (infosAt (τ .setting) s rows n (types + 1)) (infoKnown (τ .setting) s rows (getD s types 0) infos) c r in
       let t = type-told s types (y .0) (y .1) in
-      step (z .0) (z .1) (t .0) (t .1) (slots-are n (afterText s names) (types + 1) (z .0) b c (omega arith) (rw (t .2) at (y .2)) (z .2))
+      let w = info-known-moves (τ .setting) s rows (getD s types 0) infos (z .0) j (z .1) in
+      step (z .0) (z .1) (t .0) (t .1) (slots-are n (afterText s names) (types + 1) (z .0) b c (omega arith) (omega arith) (w .1) (rw (t .2) at (y .2)) (z .2))
     where
-      step : (k : ℕ) → infoKnown τ s rows (getD s types 0) infos ≡ F.End k → getD s types 0 ≤ 7 → types < length s
-          → slotsFrom s (typedAt s (types + 1) k) n ≡ typesOf (membersIn s n (afterText s names) (types + 1) k)
-          → slotsFrom s (typedAt s types infos) (suc n) ≡ typesOf (membersIn s (suc n) names types infos)
+      step : (k : ℕ) → infoKnown (τ .setting) s rows (getD s types 0) infos ≡ F.End k → getD s types 0 ≤ 7 → types < length s
+          → slotsFrom (τ .book) s (typedAt s (types + 1) k) n ≡ typesOf (membersIn s n (afterText s names) (types + 1) k)
+          → slotsFrom (τ .book) s (typedAt s types infos) (suc n) ≡ typesOf (membersIn s (suc n) names types infos)
       step k u g l more =
-          let i = info-after (τ .setting) s (getD s types 0) infos k (info-plain τ s rows (getD s types 0) infos k u) in
-          rw (moved-on s (typedAt s types infos) (λ z. omega arith), lt-ltb types (length s) l, i, detail-slot τ s infos (getD s types 0) g)
+          let i = info-after (τ .setting) s (getD s types 0) infos k (info-plain (τ .setting) s rows (getD s types 0) infos k u) in
+          rw (moved-on (τ .book) s (typedAt s types infos) (λ z. omega arith) (λ z. omega arith), lt-ltb types (length s) l, i, detail-slot τ s infos (getD s types 0) g)
           (ap (λ (ts : List SlotType). slotFor (detailIn s (getD s types 0) infos) ∷ ts) more)

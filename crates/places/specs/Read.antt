@@ -19,7 +19,7 @@ use Rattle.places.specs.ReadsClasses.{system-class-there, library-class-
 use Rattle.places.specs.ReadsArrays.{array-there}
 
 module _ (τ : Terms) (s : List ℕ) (rows : List Row) (at e : ℕ) where
-  pub record-read : (k : ℕ) (r : Rec) (id count class : ℕ) (ts : List SlotType) → Good τ (envOf s rows) k r id count class ts → Stand s (enc r) at e
+  pub record-read : (k : ℕ) (r : Rec) (id count class : ℕ) (ts : List SlotType) → Good τ (envOf (τ .book) s rows) k r id count class ts → Stand s (enc r) at e
       → There τ s rows k at r id count class ts
   record-read k r id count class ts (is-header {root = root} {h = h} a b) w = header-there τ s rows at e root h a b w
   record-read k r id count class ts (is-class-by-id {i = i} {k = m} {row = row} {ts = us} a b c) w = class-by-id-there τ s rows at e i m row us a b c w

@@ -27,11 +27,11 @@ use Rattle.places.specs.Recs.{entryFor, rowWith, There, plainHead, plain
 module _ (τ : Terms) (s : List ℕ) (rows : List Row) (at e : ℕ) where
   -- a record whose bytes begin with its kind
   pub plain-there : (k : ℕ) (r : Rec) (b : List ℕ) (id count : ℕ) → enc r ≡ k ∷ b → Stand s (enc r) at e → isClass k ≡ false
-      → ((row offset next owner slot : ℕ) → entryOf s row (rowWith k (plainHead id e count) offset next owner slot) ≡ entryFor row r)
+      → ((row offset next owner slot : ℕ) → entryOf (τ .book) s row (rowWith k (plainHead id e count) offset next owner slot) ≡ entryFor row r)
       → headingAt τ s rows k at ≡ H.Fields (plainHead id e count) → There τ s rows k at r id count 0 []
   plain-there k r b id count z w c f q =
       let v : Stand s (k ∷ b) at e = rw z at w in
-      record { head = plainHead id e count; taken = q; told = plain-told s k at r id e count w (stand-inside v) (stand-here v) c f }
+      record { head = plainHead id e count; taken = q; told = plain-told (τ .book) s k at r id e count w (stand-inside v) (stand-here v) c f }
 
   pub header-there : (root h : ℕ) → root < 4294967296 → h < 4294967296 → Stand s (enc (header root h)) at e → There τ s rows 0 at (header root h) root 0 0 []
   unfolding headingAt headerAt enc
@@ -47,12 +47,12 @@ module _ (τ : Terms) (s : List ℕ) (rows : List Row) (at e : ℕ) where
         number-there s 0 (z .0) e (omega arith) (z .2),
       ))
 
-  pub string-there : (i : ℕ) (t : Prefixed) → ObjectId i (envOf s rows) → Name τ t → Stand s (enc (string i t)) at e → There τ s rows 6 at (string i t) i 0 0 []
+  pub string-there : (i : ℕ) (t : Prefixed) → ObjectId i (envOf (τ .book) s rows) → Name τ t → Stand s (enc (string i t)) at e → There τ s rows 6 at (string i t) i 0 0 []
   unfolding headingAt stringRecordAt enc
   string-there i t o n w =
       let x = stand-split (leBytes 4 i) (bytesIn t) (stand-after w) in
       plain-there 6 (string i t) _ i 0 refl w refl (λ row offset next owner slot. refl)
-      (rw (number-there s i (at + 1) (x .0) (positive-bits i (o .sign)) (x .1), object-id-good s rows i o, name-there τ s t (x .0) e n (x .2)))
+      (rw (number-there s i (at + 1) (x .0) (positive-bits i (o .sign)) (x .1), object-id-good (τ .book) s rows i o, name-there τ s t (x .0) e n (x .2)))
 
   pub typed-primitive-there : (c : PrimitiveCode) (v : Prefixed) → Value τ c v → Stand s (enc (typedPrimitive c v)) at e
       → There τ s rows 8 at (typedPrimitive c v) 0 0 0 []
@@ -80,13 +80,13 @@ module _ (τ : Terms) (s : List ℕ) (rows : List Row) (at e : ℕ) where
       let k : e ≡ at + 1 = stand-size w in
       plain-there 11 end _ 0 0 refl w refl (λ row offset next owner slot. refl) (rw k)
 
-  pub library-there : (i : ℕ) (n : Prefixed) → Positive i → known i (envOf s rows) ≡ false → Name τ n → Stand s (enc (library i n)) at e
+  pub library-there : (i : ℕ) (n : Prefixed) → Positive i → known i (envOf (τ .book) s rows) ≡ false → Name τ n → Stand s (enc (library i n)) at e
       → There τ s rows 12 at (library i n) i 0 0 []
   unfolding headingAt libraryAt enc
   library-there i n p u g w =
       let x = stand-split (leBytes 4 i) (bytesIn n) (stand-after w) in
       plain-there 12 (library i n) _ i 0 refl w refl (λ row offset next owner slot. refl)
-      (rw (number-there s i (at + 1) (x .0) (positive-bits i p) (x .1), library-new-good s rows i p u, name-there τ s n (x .0) e g (x .2)))
+      (rw (number-there s i (at + 1) (x .0) (positive-bits i p) (x .1), library-new-good (τ .book) s rows i p u, name-there τ s n (x .0) e g (x .2)))
 
   pub nulls-there : (k : ℕ) → Stand s (enc (nulls k)) at e → There τ s rows 13 at (nulls k) 0 k 0 []
   unfolding headingAt nullsAt enc

@@ -35,13 +35,13 @@ use Rattle.places.specs.Reads.{plain-there}
 module _ (τ : Terms) (s : List ℕ) (rows : List Row) (at e : ℕ) where
   -- slots alike, which records fill
   slotted-there : (k : ℕ) (r : Rec) (b : List ℕ) (id n : ℕ) (t : SlotType) (infos : ℕ) → enc r ≡ k ∷ b → Stand s (enc r) at e → isClass k ≡ false
-      → ((row offset next owner slot : ℕ) → entryOf s row (rowWith k (slottedHead s id e n t infos) offset next owner slot) ≡ entryFor row r)
-      → headingAt τ s rows k at ≡ H.Fields (slottedHead s id e n t infos) → There τ s rows k at r id n 0 (replicate n t)
+      → ((row offset next owner slot : ℕ) → entryOf (τ .book) s row (rowWith k (slottedHead (τ .book) s id e n t infos) offset next owner slot) ≡ entryFor row r)
+      → headingAt τ s rows k at ≡ H.Fields (slottedHead (τ .book) s id e n t infos) → There τ s rows k at r id n 0 (replicate n t)
   slotted-there k r b id n t infos z w c f q =
       let v : Stand s (k ∷ b) at e = rw z at w in
-      record { head = slottedHead s id e n t infos; taken = q; told = slotted-told s k at r id e n t infos w (stand-inside v) (stand-here v) c f }
+      record { head = slottedHead (τ .book) s id e n t infos; taken = q; told = slotted-told (τ .book) s k at r id e n t infos w (stand-inside v) (stand-here v) c f }
 
-  object-array-there : (i n : ℕ) → ObjectId i (envOf s rows) → n < 2147483648 → Stand s (enc (objectArray i n)) at e
+  object-array-there : (i n : ℕ) → ObjectId i (envOf (τ .book) s rows) → n < 2147483648 → Stand s (enc (objectArray i n)) at e
       → There τ s rows 16 at (objectArray i n) i n 0 (replicate n S.Object)
   unfolding headingAt slotArrayAt enc
   object-array-there i n o h w =
@@ -49,12 +49,12 @@ module _ (τ : Terms) (s : List ℕ) (rows : List Row) (at e : ℕ) where
       slotted-there 16 (objectArray i n) _ i n S.Object 0 refl w refl (λ row offset next owner slot. refl)
       (rw (
         number-there s i (at + 1) (x .0) (positive-bits i (o .sign)) (x .1),
-        object-id-good s rows i o,
+        object-id-good (τ .book) s rows i o,
         number-there s n (x .0) e (omega arith) (x .2),
         not-negative n h,
       ))
 
-  string-array-there : (i n : ℕ) → ObjectId i (envOf s rows) → n < 2147483648 → Stand s (enc (stringArray i n)) at e
+  string-array-there : (i n : ℕ) → ObjectId i (envOf (τ .book) s rows) → n < 2147483648 → Stand s (enc (stringArray i n)) at e
       → There τ s rows 17 at (stringArray i n) i n 0 (replicate n S.Text)
   unfolding headingAt slotArrayAt enc
   string-array-there i n o h w =
@@ -62,12 +62,12 @@ module _ (τ : Terms) (s : List ℕ) (rows : List Row) (at e : ℕ) where
       slotted-there 17 (stringArray i n) _ i n S.Text 0 refl w refl (λ row offset next owner slot. refl)
       (rw (
         number-there s i (at + 1) (x .0) (positive-bits i (o .sign)) (x .1),
-        object-id-good s rows i o,
+        object-id-good (τ .book) s rows i o,
         number-there s n (x .0) e (omega arith) (x .2),
         not-negative n h,
       ))
 
-  primitive-array-there : (i n : ℕ) (c : PrimitiveCode) (vs : List Prefixed) → ObjectId i (envOf s rows) → n < 2147483648 → Values τ c n vs
+  primitive-array-there : (i n : ℕ) (c : PrimitiveCode) (vs : List Prefixed) → ObjectId i (envOf (τ .book) s rows) → n < 2147483648 → Values τ c n vs
       → Stand s (enc (primitiveArray i n c vs)) at e → There τ s rows 15 at (primitiveArray i n c vs) i n 0 []
   unfolding headingAt primitiveArrayAt enc
   primitive-array-there i n c vs o h g w =
@@ -77,7 +77,7 @@ module _ (τ : Terms) (s : List ℕ) (rows : List Row) (at e : ℕ) where
       plain-there τ s rows at e 15 (primitiveArray i n c vs) _ i n refl w refl (λ row offset next owner slot. refl)
       (rw (
         number-there s i (at + 1) (x .0) (positive-bits i (o .sign)) (x .1),
-        object-id-good s rows i o,
+        object-id-good (τ .book) s rows i o,
         number-there s n (x .0) (y .0) (omega arith) (y .1),
         not-negative n h,
         code-there s c (y .0) (z .0) (z .1),
@@ -88,8 +88,8 @@ module _ (τ : Terms) (s : List ℕ) (rows : List Row) (at e : ℕ) where
   -- ---- BinaryArray
 
   -- the type byte and the detail of the items, after the lengths
-  type-there : (id n types infos x : ℕ) (d : Detail Prefixed ℕ) → GoodDetail τ (envOf s rows) d → Stand s (typeByte d ∷ []) types infos → Stand s (infoBytes d) infos x
-      → itemTypeAt τ s rows id n types ≡ itemsOf τ s id n infos x (slotFor d)
+  type-there : (id n types infos x : ℕ) (d : Detail Prefixed ℕ) → GoodDetail τ (envOf (τ .book) s rows) d → Stand s (typeByte d ∷ []) types infos → Stand s (infoBytes d) infos x
+      → itemTypeAt (τ .setting) s rows id n types ≡ itemsOf (τ .setting) s id n infos x (slotFor d)
   unfolding itemTypeAt typedAt
   type-there id n types infos x d g v w =
       let k : infos ≡ types + 1 = stand-size v in
@@ -103,10 +103,10 @@ module _ (τ : Terms) (s : List ℕ) (rows : List Row) (at e : ℕ) where
   record Begun (i n : ℕ) (d : Detail Prefixed ℕ) (vs : List Prefixed) : Type 0 where
     infos : ℕ
     items : ℕ
-    taken : headingAt τ s rows 7 at ≡ itemsOf τ s i n infos items (slotFor d)
+    taken : headingAt τ s rows 7 at ≡ itemsOf (τ .setting) s i n infos items (slotFor d)
     stands : Stand s (itemsBytes vs) items e
 
-  begun : (i type : ℕ) (ns : List ℕ) (d : Detail Prefixed ℕ) (vs : List Prefixed) → ObjectId i (envOf s rows) → Shape type ns → GoodDetail τ (envOf s rows) d
+  begun : (i type : ℕ) (ns : List ℕ) (d : Detail Prefixed ℕ) (vs : List Prefixed) → ObjectId i (envOf (τ .book) s rows) → Shape type ns → GoodDetail τ (envOf (τ .book) s rows) d
       → Stand s (enc (array i type ns d vs)) at e → Begun i (product ns) d vs
   unfolding headingAt binaryArrayAt rankAt enc
   begun i type ns d vs o h g w =
@@ -125,7 +125,7 @@ module _ (τ : Terms) (s : List ℕ) (rows : List Row) (at e : ℕ) where
         items = k .0;
         taken = rw (
           number-there s i (at + 1) p (positive-bits i (o .sign)) (a .1),
-          object-id-good s rows i o,
+          object-id-good (τ .book) s rows i o,
           lt-ltb p (length s) (stand-inside (a .2)),
           stand-here (a .2),
           le-leb type 2 (r .0),
@@ -137,7 +137,7 @@ module _ (τ : Terms) (s : List ℕ) (rows : List Row) (at e : ℕ) where
         stands = k .2;
       }
 
-  items-slotted : (id n infos x : ℕ) (t : SlotType) → takesRecords t ≡ true → itemsOf τ s id n infos x t ≡ H.Fields (slottedHead s id x n t infos)
+  items-slotted : (id n infos x : ℕ) (t : SlotType) → takesRecords t ≡ true → itemsOf (τ .setting) s id n infos x t ≡ H.Fields (slottedHead (τ .book) s id x n t infos)
   items-slotted id n infos x (S.Primitive c) f = absurd (let z : _≡_ {A = ℕ} 0 1 = cc in omega arith)
   items-slotted id n infos x S.Text f = refl
   items-slotted id n infos x S.Object f = refl
@@ -147,7 +147,7 @@ module _ (τ : Terms) (s : List ℕ) (rows : List Row) (at e : ℕ) where
   items-slotted id n infos x S.StringArray f = refl
   items-slotted id n infos x (S.PrimitiveArray c) f = refl
 
-  any-array-there : (i type : ℕ) (ns : List ℕ) (d : Detail Prefixed ℕ) → ObjectId i (envOf s rows) → Shape type ns → GoodDetail τ (envOf s rows) d
+  any-array-there : (i type : ℕ) (ns : List ℕ) (d : Detail Prefixed ℕ) → ObjectId i (envOf (τ .book) s rows) → Shape type ns → GoodDetail τ (envOf (τ .book) s rows) d
       → takesRecords (slotFor d) ≡ true → Stand s (enc (array i type ns d [])) at e
       → There τ s rows 7 at (array i type ns d []) i (product ns) 0 (replicate (product ns) (slotFor d))
   unfolding enc
@@ -155,9 +155,9 @@ module _ (τ : Terms) (s : List ℕ) (rows : List Row) (at e : ℕ) where
       let b = begun i type ns d [] o h g w in
       let k : e ≡ b .items = stand-size (b .stands) ∙ add-zero (b .items) in
       slotted-there 7 (array i type ns d []) _ i (product ns) (slotFor d) (b .infos) refl w refl (λ row offset next owner slot. refl)
-      (b .taken ∙ (items-slotted i (product ns) (b .infos) (b .items) (slotFor d) f ∙ ap (λ (x : ℕ). H.Fields (slottedHead s i x (product ns) (slotFor d) (b .infos))) (sym k)))
+      (b .taken ∙ (items-slotted i (product ns) (b .infos) (b .items) (slotFor d) f ∙ ap (λ (x : ℕ). H.Fields (slottedHead (τ .book) s i x (product ns) (slotFor d) (b .infos))) (sym k)))
 
-  value-array-there : (i type : ℕ) (ns : List ℕ) (c : PrimitiveCode) (vs : List Prefixed) → ObjectId i (envOf s rows) → Shape type ns
+  value-array-there : (i type : ℕ) (ns : List ℕ) (c : PrimitiveCode) (vs : List Prefixed) → ObjectId i (envOf (τ .book) s rows) → Shape type ns
       → Values τ c (product ns) vs → Stand s (enc (array i type ns (primitive c) vs)) at e
       → There τ s rows 7 at (array i type ns (primitive c) vs) i (product ns) 0 []
   unfolding enc
@@ -166,7 +166,7 @@ module _ (τ : Terms) (s : List ℕ) (rows : List Row) (at e : ℕ) where
       plain-there τ s rows at e 7 (array i type ns (primitive c) vs) _ i (product ns) refl w refl (λ row offset next owner slot. refl)
       (b .taken ∙ rw (items-there τ s c (product ns) vs (b .items) e g (b .stands)))
 
-  pub array-there : (k i n : ℕ) (r : Rec) (ts : List SlotType) → ObjectId i (envOf s rows) → Array τ (envOf s rows) r k i n ts → Stand s (enc r) at e
+  pub array-there : (k i n : ℕ) (r : Rec) (ts : List SlotType) → ObjectId i (envOf (τ .book) s rows) → Array τ (envOf (τ .book) s rows) r k i n ts → Stand s (enc r) at e
       → There τ s rows k at r i n 0 ts
   array-there k i n r ts o (of-objects h) w = object-array-there i n o h w
   array-there k i n r ts o (of-strings h) w = string-array-there i n o h w

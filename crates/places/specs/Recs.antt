@@ -15,11 +15,11 @@ use Rattle.format.specs.declared.Row.{Row}
 use Rattle.format.specs.Bytes.{pick}
 use Rattle.format.specs.Types.{typedAt, alike, moved}
 use Rattle.format.specs.Rows.{isClass}
-use Rattle.format.specs.Records.{isKind, notTaken, within, headingAt}
+use Rattle.format.specs.Records.{isKind, notTaken, firstType, headingAt}
 use Rattle.format.specs.Contents.{Prefixed, Member, Rec, header, classById, systemClass, libraryClass, string, array, typedPrimitive, reference, null, nulls, manyNulls, end, library, primitiveArray, objectArray, stringArray, value, enc}
 use Rattle.format.specs.Grammar.{Positive, Entry, aClass, another, aLibrary, known, classed, classOf, ClassId, ObjectId, LibraryId, Name, Value, ClassInfo, typesOf, size, Array, of-objects, of-strings, of-primitives, of-any, of-values}
 use Rattle.slots.specs.Slots.{moved-alike}
-use Rattle.places.specs.Env.{slotsFrom, typesAt, classSlots, entryOf, envOf, env-more}
+use Rattle.places.specs.Env.{slotsFrom, classSlots, entryOf, envOf, env-more}
 use Rattle.places.specs.Stand.{Stand, stand-size}
 
 -- a record that the grammar takes where this is known: its kind, its number (ObjectId, LibraryId, IdRef or RootId) or 0, its count, the row of
@@ -92,15 +92,15 @@ rowWith kind h offset after owner slot =
 
 -- The fields h that are read at a place are those of the record r that stands there. Before linking, the link of a class is the place of its
 -- type bytes; of any other record it is the row of the class that it names, or 0.
-pub record Told (s : List ℕ) (k at : ℕ) (h : Head) (r : Rec) (id count class : ℕ) (ts : List SlotType) : Type 0 where
+pub record Told (β s : List ℕ) (k at : ℕ) (h : Head) (r : Rec) (id count class : ℕ) (ts : List SlotType) : Type 0 where
   pub stands : Stand s (enc r) at (h .end)
   pub inside : at < length s
   pub kind-byte : getD s at 0 ≡ k
   pub id-is : h .id ≡ id
   pub count-is : h .count ≡ count
   pub link-is : pick (isClass k) 0 (h .link) ≡ class
-  pub slots-are : slotsFrom s (h .first) (h .slots) ≡ ts
-  pub entry-is : (row offset next owner slot : ℕ) → entryOf s row (rowWith k h offset next owner slot) ≡ entryFor row r
+  pub slots-are : slotsFrom β s (h .first) (h .slots) ≡ ts
+  pub entry-is : (row offset next owner slot : ℕ) → entryOf β s row (rowWith k h offset next owner slot) ≡ entryFor row r
 
 -- a record of which good fields tell
 pub record Back (τ : Terms) (s : List ℕ) (rows : List Row) (k at : ℕ) (h : Head) : Type 0 where
@@ -109,42 +109,42 @@ pub record Back (τ : Terms) (s : List ℕ) (rows : List Row) (k at : ℕ) (h : 
   pub count : ℕ
   pub class : ℕ
   pub types : List SlotType
-  pub good : Good τ (envOf s rows) k rec id count class types
-  pub told : Told s k at h rec id count class types
+  pub good : Good τ (envOf (τ .book) s rows) k rec id count class types
+  pub told : Told (τ .book) s k at h rec id count class types
 
 -- the fields that tell of a good record
 pub record There (τ : Terms) (s : List ℕ) (rows : List Row) (k at : ℕ) (r : Rec) (id count class : ℕ) (ts : List SlotType) : Type 0 where
   pub head : Head
   pub taken : headingAt τ s rows k at ≡ H.Fields head
-  pub told : Told s k at head r id count class ts
+  pub told : Told (τ .book) s k at head r id count class ts
 
 -- ---- slots
 
-pub length-slots : (s : List ℕ) (t : Typed) (n : ℕ) → length (slotsFrom s t n) ≡ n
+pub length-slots : (β s : List ℕ) (t : Typed) (n : ℕ) → length (slotsFrom β s t n) ≡ n
 unfolding slotsFrom
-length-slots s t zero = refl
-length-slots s t (suc n) = ap suc (length-slots s (moved s t) n)
+length-slots β s t zero = refl
+length-slots β s t (suc n) = ap suc (length-slots β s (moved β s t) n)
 
-pub alike-slots : (s : List ℕ) (t : SlotType) (infos n : ℕ) → slotsFrom s (alike t infos) n ≡ replicate n t
+pub alike-slots : (β s : List ℕ) (t : SlotType) (infos n : ℕ) → slotsFrom β s (alike t infos) n ≡ replicate n t
 unfolding slotsFrom
-alike-slots s t infos zero = refl
-alike-slots s t infos (suc n) = rw (moved-alike s (alike t infos) refl) (ap (λ (ts : List SlotType). t ∷ ts) (alike-slots s t infos n))
+alike-slots β s t infos zero = refl
+alike-slots β s t infos (suc n) = rw (moved-alike β s (alike t infos) refl) (ap (λ (ts : List SlotType). t ∷ ts) (alike-slots β s t infos n))
 
-pub told-slots : {s : List ℕ} {k at id count class : ℕ} {h : Head} {r : Rec} {ts : List SlotType} → Told s k at h r id count class ts → h .slots ≡ length ts
-told-slots {s} {h = h} t = sym (length-slots s (h .first) (h .slots)) ∙ ap length (t .slots-are)
+pub told-slots : {β s : List ℕ} {k at id count class : ℕ} {h : Head} {r : Rec} {ts : List SlotType} → Told β s k at h r id count class ts → h .slots ≡ length ts
+told-slots {β} {s} {h = h} t = sym (length-slots β s (h .first) (h .slots)) ∙ ap length (t .slots-are)
 
 -- ---- what is known after a record
 
-pub told-env : {s : List ℕ} {k at id count class : ℕ} {h : Head} {r : Rec} {ts : List SlotType} → Told s k at h r id count class ts
+pub told-env : {β s : List ℕ} {k at id count class : ℕ} {h : Head} {r : Rec} {ts : List SlotType} → Told β s k at h r id count class ts
     → (rows : List Row) (offset next owner slot : ℕ)
-    → envOf s (rows ++ (rowWith k h offset next owner slot ∷ [])) ≡ envOf s rows ++ entryFor (suc (length rows)) r
-told-env {s} {k = k} {h = h} t rows offset next owner slot =
-    env-more s rows (rowWith k h offset next owner slot)
-    ∙ ap (λ (es : List Entry). envOf s rows ++ es) (t .entry-is (suc (length rows)) offset next owner slot)
+    → envOf β s (rows ++ (rowWith k h offset next owner slot ∷ [])) ≡ envOf β s rows ++ entryFor (suc (length rows)) r
+told-env {β} {s} {k = k} {h = h} t rows offset next owner slot =
+    env-more β s rows (rowWith k h offset next owner slot)
+    ∙ ap (λ (es : List Entry). envOf β s rows ++ es) (t .entry-is (suc (length rows)) offset next owner slot)
 
 -- ---- where a record ends
 
-pub told-end : {s : List ℕ} {k at id count class : ℕ} {h : Head} {r : Rec} {ts : List SlotType} → Told s k at h r id count class ts → h .end ≡ at + size r
+pub told-end : {β s : List ℕ} {k at id count class : ℕ} {h : Head} {r : Rec} {ts : List SlotType} → Told β s k at h r id count class ts → h .end ≡ at + size r
 told-end t = stand-size (t .stands)
 
 -- ---- records without slots
@@ -153,42 +153,41 @@ told-end t = stand-size (t .stands)
 abbrev pub plainHead : ℕ → ℕ → ℕ → Head
 plainHead id after count = record { id = id; end = after; count = count; slots = 0; first = alike S.Object 0; link = 0 }
 
-pub plain-told : (s : List ℕ) (k at : ℕ) (r : Rec) (id after count : ℕ) → Stand s (enc r) at after → at < length s → getD s at 0 ≡ k
-    → isClass k ≡ false → ((row offset next owner slot : ℕ) → entryOf s row (rowWith k (plainHead id after count) offset next owner slot) ≡ entryFor row r)
-    → Told s k at (plainHead id after count) r id count 0 []
+pub plain-told : (β s : List ℕ) (k at : ℕ) (r : Rec) (id after count : ℕ) → Stand s (enc r) at after → at < length s → getD s at 0 ≡ k
+    → isClass k ≡ false → ((row offset next owner slot : ℕ) → entryOf β s row (rowWith k (plainHead id after count) offset next owner slot) ≡ entryFor row r)
+    → Told β s k at (plainHead id after count) r id count 0 []
 unfolding slotsFrom
-plain-told s k at r id after count w i b c f =
+plain-told β s k at r id after count w i b c f =
     record { stands = w; inside = i; kind-byte = b; id-is = refl; count-is = refl; link-is = rw c; slots-are = refl; entry-is = f }
 
 -- ---- classes
 
-module _ (s : List ℕ) where
+module _ (β s : List ℕ) where
   -- the fields of a class's record
   abbrev pub classHead : ℕ → ℕ → ℕ → ℕ → ℕ → Head
   classHead id n types infos after = record { id = id; end = after; count = n; slots = n; first = typedAt s types infos; link = types }
 
   pub class-head-told : (k at : ℕ) (r : Rec) (id n types infos after : ℕ) (ms : List (Member Prefixed ℕ)) → Stand s (enc r) at after → at < length s → getD s at 0 ≡ k
-      → isClass k ≡ true → length ms ≡ n → slotsFrom s (typedAt s types infos) n ≡ typesOf ms
-      → ((row offset next owner slot : ℕ) → entryOf s row (rowWith k (classHead id n types infos after) offset next owner slot) ≡ entryFor row r)
-      → Told s k at (classHead id n types infos after) r id (length ms) 0 (typesOf ms)
+      → isClass k ≡ true → length ms ≡ n → slotsFrom β s (typedAt s types infos) n ≡ typesOf ms
+      → ((row offset next owner slot : ℕ) → entryOf β s row (rowWith k (classHead id n types infos after) offset next owner slot) ≡ entryFor row r)
+      → Told β s k at (classHead id n types infos after) r id (length ms) 0 (typesOf ms)
   class-head-told k at r id n types infos after ms w i b c l z f =
       record { stands = w; inside = i; kind-byte = b; id-is = refl; count-is = sym l; link-is = rw c; slots-are = z; entry-is = f }
 
   -- the fields of an object of the class in this row
   abbrev pub byIdHead : ℕ → ℕ → ℕ → Row → Head
   byIdHead id after row c =
-      record { id = id; end = after; count = c .count; slots = c .count; first = typedAt s (c .link) (within (length s) (c .link + c .count)); link = row }
+      record { id = id; end = after; count = c .count; slots = c .count; first = firstType β s c; link = row }
 
   pub by-id-told : (at id k after row : ℕ) (c : Row) → Stand s (enc (classById id k)) at after → at < length s → getD s at 0 ≡ 1
-      → Told s 1 at (byIdHead id after row c) (classById id k) id (length (classSlots s c)) row (classSlots s c)
-  unfolding typesAt
+      → Told β s 1 at (byIdHead id after row c) (classById id k) id (length (classSlots β s c)) row (classSlots β s c)
   by-id-told at id k after row c w i b =
       record {
         stands = w;
         inside = i;
         kind-byte = b;
         id-is = refl;
-        count-is = sym (length-slots s (typedAt s (c .link) (within (length s) (c .link + c .count))) (c .count));
+        count-is = sym (length-slots β s (firstType β s c) (c .count));
         link-is = refl;
         slots-are = refl;
         entry-is = λ row offset next owner slot. refl;
@@ -201,8 +200,8 @@ module _ (s : List ℕ) where
   slottedHead id after n t infos = record { id = id; end = after; count = n; slots = n; first = alike t infos; link = 0 }
 
   pub slotted-told : (k at : ℕ) (r : Rec) (id after n : ℕ) (t : SlotType) (infos : ℕ) → Stand s (enc r) at after → at < length s → getD s at 0 ≡ k
-      → isClass k ≡ false → ((row offset next owner slot : ℕ) → entryOf s row (rowWith k (slottedHead id after n t infos) offset next owner slot) ≡ entryFor row r)
-      → Told s k at (slottedHead id after n t infos) r id n 0 (replicate n t)
+      → isClass k ≡ false → ((row offset next owner slot : ℕ) → entryOf β s row (rowWith k (slottedHead id after n t infos) offset next owner slot) ≡ entryFor row r)
+      → Told β s k at (slottedHead id after n t infos) r id n 0 (replicate n t)
   slotted-told k at r id after n t infos w i b c f =
       record {
         stands = w;
@@ -211,6 +210,6 @@ module _ (s : List ℕ) where
         id-is = refl;
         count-is = refl;
         link-is = rw c;
-        slots-are = alike-slots s t infos n;
+        slots-are = alike-slots β s t infos n;
         entry-is = f;
       }

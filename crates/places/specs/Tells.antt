@@ -62,11 +62,11 @@ module _ (P : Head → Type 0) where
 -- ---- records without slots
 
 module _ (τ : Terms) (s : List ℕ) (rows : List Row) (at : ℕ) (byte : Bytes s) (i : at < length s) where
-  pub plain-back : (k : ℕ) (r : Rec) (id after count : ℕ) → getD s at 0 ≡ k → Good τ (envOf s rows) k r id count 0 [] → Stand s (enc r) at after
-      → isClass k ≡ false → ((row offset next owner slot : ℕ) → entryOf s row (rowWith k (plainHead id after count) offset next owner slot) ≡ entryFor row r)
+  pub plain-back : (k : ℕ) (r : Rec) (id after count : ℕ) → getD s at 0 ≡ k → Good τ (envOf (τ .book) s rows) k r id count 0 [] → Stand s (enc r) at after
+      → isClass k ≡ false → ((row offset next owner slot : ℕ) → entryOf (τ .book) s row (rowWith k (plainHead id after count) offset next owner slot) ≡ entryFor row r)
       → Back τ s rows k at (plainHead id after count)
   plain-back k r id after count g x w c f =
-      record { rec = r; id = id; count = count; class = 0; types = []; good = x; told = plain-told s k at r id after count w i g c f }
+      record { rec = r; id = id; count = count; class = 0; types = []; good = x; told = plain-told (τ .book) s k at r id after count w i g c f }
 
   pub header-back : getD s at 0 ≡ 0 → Said (Back τ s rows 0 at) (headerAt s at)
   unfolding headerAt enc
@@ -88,7 +88,7 @@ module _ (τ : Terms) (s : List ℕ) (rows : List Row) (at : ℕ) (byte : Bytes 
       (λ t. tt)))
       (λ t. tt))))
 
-  pub string-back : getD s at 0 ≡ 6 → Said (Back τ s rows 6 at) (stringRecordAt τ s rows at)
+  pub string-back : getD s at 0 ≡ 6 → Said (Back τ s rows 6 at) (stringRecordAt (τ .setting) s rows at)
   unfolding stringRecordAt enc
   string-back g =
       said-number (Back τ s rows 6 at) _ (u32At s (at + 1)) (λ id p q.
@@ -96,11 +96,11 @@ module _ (τ : Terms) (s : List ℕ) (rows : List Row) (at : ℕ) (byte : Bytes 
       said-if (Back τ s rows 6 at) (goodId rows id) _ _ (λ t.
       said-field (Back τ s rows 6 at) _ (nameAt (τ .setting) s p) (λ e u.
       let x = name-back τ s p e byte u in
-      plain-back 6 (string id (prefixedAt s p)) id e 0 g (is-string (object-id s rows id t) (x .0))
+      plain-back 6 (string id (prefixedAt s p)) id e 0 g (is-string (object-id (τ .book) s rows id t) (x .0))
       (stand-then (stand-is 6 i g) (stand-then (n .stands) (x .1))) refl (λ row offset next owner slot. refl)))
       (λ t. tt))
 
-  pub typed-primitive-back : getD s at 0 ≡ 8 → Said (Back τ s rows 8 at) (typedPrimitiveAt τ s at)
+  pub typed-primitive-back : getD s at 0 ≡ 8 → Said (Back τ s rows 8 at) (typedPrimitiveAt (τ .setting) s at)
   unfolding typedPrimitiveAt enc
   typed-primitive-back g =
       said-field (Back τ s rows 8 at) _ (codeAt s (at + 1)) (λ p q.
@@ -126,7 +126,7 @@ module _ (τ : Terms) (s : List ℕ) (rows : List Row) (at : ℕ) (byte : Bytes 
   unfolding enc
   end-back g = plain-back 11 end 0 (at + 1) 0 g is-end (stand-is 11 i g) refl (λ row offset next owner slot. refl)
 
-  pub library-back : getD s at 0 ≡ 12 → Said (Back τ s rows 12 at) (libraryAt τ s rows at)
+  pub library-back : getD s at 0 ≡ 12 → Said (Back τ s rows 12 at) (libraryAt (τ .setting) s rows at)
   unfolding libraryAt enc
   library-back g =
       said-number (Back τ s rows 12 at) _ (u32At s (at + 1)) (λ id p q.
@@ -134,7 +134,7 @@ module _ (τ : Terms) (s : List ℕ) (rows : List Row) (at : ℕ) (byte : Bytes 
       said-if (Back τ s rows 12 at) (positive id && eqb (libraryRow id rows) 0) _ _ (λ t.
       said-field (Back τ s rows 12 at) _ (nameAt (τ .setting) s p) (λ e u.
       let x = name-back τ s p e byte u in
-      let l = library-new s rows id t in
+      let l = library-new (τ .book) s rows id t in
       plain-back 12 (library id (prefixedAt s p)) id e 0 g (is-library (l .0) (l .1) (x .0))
       (stand-then (stand-is 12 i g) (stand-then (n .stands) (x .1))) refl (λ row offset next owner slot. refl)))
       (λ t. tt))

@@ -15,8 +15,10 @@ use Rattle.format.specs.declared.Row.{Row}
 use Rattle.format.specs.declared.Reader.{Reader}
 use Rattle.format.specs.declared.Where.the-variants as W
 use Rattle.format.specs.Bytes.{pick}
+use Rattle.format.specs.Entries.{badEntry}
 use Rattle.format.specs.Rows.{blank, roomOf, rowsOf, words, objectRow, findFrom, isLost, linked, bound}
-use Rattle.format.specs.Machine.{State, Next, go, ended, Outcome, accepted, refused, finish, begin, start, topLevel, recordStep, rawOf, withLinks, readOf, readAnswer, tableWords}
+use Rattle.format.specs.Machine.{State, Next, go, ended, Outcome, accepted, refused, finish, begin, start, topLevel, recordStep, streamOf, rawOf, withLinks, readOf, readAnswer, tableWords}
+use Rattle.format.specs.Promises.{ReadPromise, read-promised}
 use Rattle.table.specs.Rows.{length-rowsOf}
 use Rattle.frames.specs.Frames.{saved}
 use Rattle.adding.specs.declared.Step.{Step}
@@ -80,25 +82,33 @@ module _ (s : List ℕ) (rows : List Row) (at : ℕ) where
       whole l g y =
           rw (le-ltb at (length s) h, ne-eqb (objectRow (getD rows 0 blank .id) rows) 0 there, ← g, eq-eqb l 0 y)
 
--- ---- the header, and the limit
+-- ---- the limit, the book, and the header
 
-pub too-large : (τ : Terms) (s : List ℕ) (room : ℕ) → 16777216 < length s → refused R.TooLarge 0 ≡ rawOf τ s room
-unfolding rawOf
-too-large τ s room h = rw (lt-ltb 16777216 (length s) h)
+module _ (τ : Terms) (s : List ℕ) (room : ℕ) where
+  pub too-large : 16777216 < length s → refused R.TooLarge 0 ≡ rawOf τ s room
+  unfolding rawOf
+  too-large h = rw (lt-ltb 16777216 (length s) h)
+
+  pub bad-book : length s ≤ 16777216 → (bad : ℕ) → bad ≡ badEntry (τ .book) → (bad ≡ 0 → ⊥) → refused R.BadBook (bad - 1) ≡ rawOf τ s room
+  unfolding rawOf
+  bad-book h bad e z = rw (le-ltb 16777216 (length s) h, ← e, ne-eqb bad 0 z)
+
+  pub good-book : length s ≤ 16777216 → badEntry (τ .book) ≡ 0 → streamOf τ s room ≡ rawOf τ s room
+  unfolding rawOf
+  good-book h e = rw (le-ltb 16777216 (length s) h, eq-eqb (badEntry (τ .book)) 0 e)
 
 -- the reader at the start holds the machine's start
 pub fresh-start : (t f : List ℕ) (m : Reader) → m ≡ record { at = 0; rows = 0; depth = 0; top = topLevel } → stateOf t f m ≡ start
 unfolding rowsOf saved
 fresh-start t f m e = rw e
 
-module _ (τ : Terms) (s t u f g : List ℕ) (m : Reader) (l : length s ≤ 16777216) (z : m ≡ record { at = 0; rows = 0; depth = 0; top = topLevel }) (q : Step) (e : after u g q ≡ recordStep τ s (roomOf t) (stateOf t f m) W.Start) where
+module _ (τ : Terms) (s t u f g : List ℕ) (m : Reader) (z : m ≡ record { at = 0; rows = 0; depth = 0; top = topLevel }) (q : Step) (e : after u g q ≡ recordStep τ s (roomOf t) (stateOf t f m) W.Start) where
   -- what the header's step says of the whole
-  told : begin τ s (roomOf t) (after u g q) ≡ rawOf τ s (roomOf t)
-  unfolding rawOf
-  told =
-      rw (le-ltb 16777216 (length s) l) (ap (begin τ s (roomOf t)) (e ∙ ap (λ (st : State). recordStep τ s (roomOf t) st W.Start) (fresh-start t f m z)))
+  told : begin τ s (roomOf t) (after u g q) ≡ streamOf τ s (roomOf t)
+  unfolding streamOf
+  told = ap (begin τ s (roomOf t)) (e ∙ ap (λ (st : State). recordStep τ s (roomOf t) st W.Start) (fresh-start t f m z))
 
-  begun : begin τ s (roomOf t) (after u g q) ≡ rawOf τ s (roomOf t) → (x : Step) → q ≡ x → begin τ s (roomOf t) (after u g x) ≡ rawOf τ s (roomOf t)
+  begun : begin τ s (roomOf t) (after u g q) ≡ streamOf τ s (roomOf t) → (x : Step) → q ≡ x → begin τ s (roomOf t) (after u g x) ≡ streamOf τ s (roomOf t)
   begun k x c = ap (λ (y : Step). begin τ s (roomOf t) (after u g y)) (sym c) ∙ k
 
   fine₀ : Fine s (roomOf t) start
@@ -109,12 +119,12 @@ module _ (τ : Terms) (s t u f g : List ℕ) (m : Reader) (l : length s ≤ 1677
       subst (λ (x : Next). NextFine s (roomOf t) 0 x) (sym (e ∙ ap (λ (st : State). recordStep τ s (roomOf t) st W.Start) (fresh-start t f m z)))
       (record-fine τ s (roomOf t) start fine₀ W.Start)
 
-  pub head-on : (n : Reader) → q ≡ Q.Go n → length g ≡ 384 → Runs τ s (roomOf t) (rawOf τ s (roomOf t)) u g n
+  pub head-on : (n : Reader) → q ≡ Q.Go n → length g ≡ 384 → Runs τ s (roomOf t) (streamOf τ s (roomOf t)) u g n
   head-on n c d =
       let w : NextFine s (roomOf t) 0 (go (stateOf u g n)) = subst (λ (x : Step). NextFine s (roomOf t) 0 (after u g x)) c headed in
       record { framed = d; fine = w .0; fuel = length s; enough = omega arith; same = begun told (Q.Go n) c }
 
-  pub head-end : (n p : ℕ) → q ≡ Q.Ended n p → finish s (rowsOf n u) p ≡ rawOf τ s (roomOf t)
+  pub head-end : (n p : ℕ) → q ≡ Q.Ended n p → finish s (rowsOf n u) p ≡ streamOf τ s (roomOf t)
   head-end n p c = begun told (Q.Ended n p) c
 
   pub head-roomy : (n p : ℕ) → q ≡ Q.Ended n p → (n ≤ roomOf t) × (n ≤ length s)
@@ -125,38 +135,50 @@ module _ (τ : Terms) (s t u f g : List ℕ) (m : Reader) (l : length s ≤ 1677
       let b = w .1 in
       (omega arith, omega arith)
 
-  pub head-bad : (r : Refusal) (p : ℕ) → q ≡ Q.Refuse r p → refused r p ≡ rawOf τ s (roomOf t)
+  pub head-bad : (r : Refusal) (p : ℕ) → q ≡ Q.Refuse r p → refused r p ≡ streamOf τ s (roomOf t)
   head-bad r p c = begun told (Q.Refuse r p) c
 
 -- the same, said of the room that the table has now
-pub runs-room : (τ : Terms) (s t u g : List ℕ) (n : Reader) → length u ≡ length t → Runs τ s (roomOf t) (rawOf τ s (roomOf t)) u g n → Runs τ s (roomOf u) (rawOf τ s (roomOf u)) u g n
-runs-room τ s t u g n l w = subst (λ (k : ℕ). Runs τ s (k / 8) (rawOf τ s (k / 8)) u g n) (sym l) w
+pub runs-room : (τ : Terms) (s t u g : List ℕ) (n : Reader) → length u ≡ length t → Runs τ s (roomOf t) (streamOf τ s (roomOf t)) u g n → Runs τ s (roomOf u) (streamOf τ s (roomOf u)) u g n
+runs-room τ s t u g n l w = subst (λ (k : ℕ). Runs τ s (k / 8) (streamOf τ s (k / 8)) u g n) (sym l) w
 
 pub fresh-held : (room : ℕ) (m : Reader) → m ≡ record { at = 0; rows = 0; depth = 0; top = topLevel } → Held room m
 fresh-held room m e = rw e (record { inside = omega arith; counted = omega arith; roomy = omega arith; shallow = omega arith })
 
-pub answered-room : (τ : Terms) (keep : Bool) (s t u v : List ℕ) (r : ReadAnswer) → length u ≡ length t → (outcomeOf v r ≡ endBy keep (rawOf τ s (roomOf u))) × Within (roomOf u) r
-    → (outcomeOf v r ≡ endBy keep (rawOf τ s (roomOf t))) × Within (roomOf t) r
-answered-room τ keep s t u v r l w = subst (λ (k : ℕ). (outcomeOf v r ≡ endBy keep (rawOf τ s (k / 8))) × Within (k / 8) r) l w
+pub answered-room : (τ : Terms) (keep : Bool) (s t u v : List ℕ) (r : ReadAnswer) → length u ≡ length t → (outcomeOf v r ≡ endBy keep (streamOf τ s (roomOf u))) × Within (roomOf u) r
+    → (outcomeOf v r ≡ endBy keep (streamOf τ s (roomOf t))) × Within (roomOf t) r
+answered-room τ keep s t u v r l w = subst (λ (k : ℕ). (outcomeOf v r ≡ endBy keep (streamOf τ s (k / 8))) × Within (k / 8) r) l w
 
 -- ---- the answer and the words
 
-pub accepted-room : (t u : List ℕ) (a : ReadAnswer) (k : ℕ) → length u ≡ length t → a ≡ A.Accepted k → Within (roomOf t) a → k ≤ roomOf u
-accepted-room t u a k l c w =
-    let h : k ≤ roomOf t = subst (λ (x : ReadAnswer). Within (roomOf t) x) c w in
-    omega arith
+-- the words that are left of a table that held t
+abbrev pub leftBy : List ℕ → ReadAnswer → List ℕ
+leftBy t (A.Accepted k) = words (rowsOf k t) ++ replicate (length t - 8 * k) 0
+leftBy t (A.Refused r p) = replicate (length t) 0
 
-module _ (n : ℕ) (t u : List ℕ) (a : ReadAnswer) (v : Outcome) (l : length t ≡ n) (e : outcomeOf t a ≡ v) where
-  pub left-rows : (k : ℕ) → a ≡ A.Accepted k → u ≡ words (rowsOf k t) ++ replicate (length t - 8 * k) 0
-      → (A.Accepted k ≡ readAnswer v) × (u ≡ tableWords n v)
-  unfolding readAnswer tableWords
-  left-rows k c w =
-      let x : v ≡ accepted (rowsOf k t) = sym e ∙ ap (outcomeOf t) c in
-      let r : length (rowsOf k t) ≡ k = length-rowsOf k t in
-      (rw (x, r), w ∙ rw (x, r, l))
+pub left-words : (n : ℕ) (t u : List ℕ) (a : ReadAnswer) (v : Outcome) → length t ≡ n → outcomeOf t a ≡ v → u ≡ leftBy t a → (a ≡ readAnswer v) × (u ≡ tableWords n v)
+unfolding readAnswer tableWords
+left-words n t u (A.Accepted k) v l e w =
+    let x : v ≡ accepted (rowsOf k t) = sym e in
+    let r : length (rowsOf k t) ≡ k = length-rowsOf k t in
+    (rw (x, r), w ∙ rw (x, r, l))
+left-words n t u (A.Refused r p) v l e w =
+    let x : v ≡ refused r p = sym e in
+    (rw x, w ∙ rw (x, l))
 
-  pub left-zeros : (r : Refusal) (p : ℕ) → a ≡ A.Refused r p → u ≡ replicate (length t) 0 → (A.Refused r p ≡ readAnswer v) × (u ≡ tableWords n v)
-  unfolding readAnswer tableWords
-  left-zeros r p c w =
-      let x : v ≡ refused r p = sym e ∙ ap (outcomeOf t) c in
-      (rw x, w ∙ rw (x, l))
+-- a reading by what is judged and what is left
+pub read-left : (τ : Terms) (s t t₁ u : List ℕ) (a : ReadAnswer) → length t₁ ≡ length t → outcomeOf t₁ a ≡ endBy false (rawOf τ s (roomOf t)) → u ≡ leftBy t₁ a → ReadPromise τ s t a u
+read-left τ s t t₁ u a l e w =
+    let x = left-words (length t) t₁ u a (readOf τ s (roomOf t)) l (e ∙ linked-end τ s (roomOf t)) w in
+    read-promised τ s t a u (x .0) (x .1)
+
+-- for the code that leaves it: one law for each answer
+module _ (t u : List ℕ) (a : ReadAnswer) where
+  pub left-rows : (k : ℕ) → a ≡ A.Accepted k → u ≡ words (rowsOf k t) ++ replicate (length t - 8 * k) 0 → u ≡ leftBy t a
+  left-rows k c w = w ∙ sym (ap (leftBy t) c)
+
+  pub left-zeros : (r : Refusal) (p : ℕ) → a ≡ A.Refused r p → u ≡ replicate (length t) 0 → u ≡ leftBy t a
+  left-zeros r p c w = w ∙ sym (ap (leftBy t) c)
+
+  pub within-rows : (room k : ℕ) → a ≡ A.Accepted k → Within room a → k ≤ room
+  within-rows room k c w = subst (λ (x : ReadAnswer). Within room x) c w

@@ -92,11 +92,11 @@ module _ (τ : Terms) (s : List ℕ) (room : ℕ) (st : State) (w : Fine s room 
     over-fine (O.Over t) = slots-fine (h .count) t
     over-fine O.Crossed = tt
 
-    run-fine : NextFine s room (st .at) (nullRun s room st kind h)
+    run-fine : NextFine s room (st .at) (nullRun (τ .book) s room st kind h)
     unfolding nullRun
     run-fine =
         picked (NextFine s room (st .at)) (ltb (st .stack .cur .left) (h .count)) (λ t. tt)
-        (λ t. over-fine (passedOf s (st .stack .cur .typed) (h .count)))
+        (λ t. over-fine (passedOf (τ .book) s (st .stack .cur .typed) (h .count)))
 
     end-fine : NextFine s room (st .at) (ending room st h)
     unfolding ending
@@ -108,14 +108,14 @@ module _ (τ : Terms) (s : List ℕ) (room : ℕ) (st : State) (w : Fine s room 
         (omega arith, omega arith))
         (λ t. tt)
 
-  act-fine : (kind : ℕ) (x : Heading) → EndsIn (st .at) (length s) x → NextFine s room (st .at) (act s room st kind x)
+  act-fine : (kind : ℕ) (x : Heading) → EndsIn (st .at) (length s) x → NextFine s room (st .at) (act (τ .book) s room st kind x)
   unfolding act
   act-fine kind (H.Fields h) e =
-      picked (NextFine s room (st .at)) (isObject kind) (λ t. object-fine kind h (e .0) (e .1) (moved s (st .stack .cur .typed)))
+      picked (NextFine s room (st .at)) (isObject kind) (λ t. object-fine kind h (e .0) (e .1) (moved (τ .book) s (st .stack .cur .typed)))
       (λ t. picked (NextFine s room (st .at)) (eqb kind 13 || eqb kind 14) (λ u. run-fine kind h (e .0) (e .1))
       (λ u. picked (NextFine s room (st .at)) (eqb kind 12) (λ v. add-fine (rowApart st kind h) (st .stack) (e .0) (e .1) (w .shallow))
       (λ v. picked (NextFine s room (st .at)) (eqb kind 11) (λ x. end-fine kind h (e .0) (e .1))
-      (λ x. slots-fine kind h (e .0) (e .1) 1 (moved s (st .stack .cur .typed))))))
+      (λ x. slots-fine kind h (e .0) (e .1) 1 (moved (τ .book) s (st .stack .cur .typed))))))
   act-fine kind (H.Bad f) e = tt
 
   kind-fine : (k : Kind) → st .at < length s → NextFine s room (st .at) (onKind τ s room st k)
@@ -129,10 +129,10 @@ module _ (τ : Terms) (s : List ℕ) (room : ℕ) (st : State) (w : Fine s room 
       (λ t. kind-fine (kindOf v (getD s (st .at) 0)) (ltb-true (st .at) (length s) t))
       (λ t. tt)
 
-  value-fine : (c : PrimitiveCode) (v : Field) → valueAt (τ .setting) s c (st .at) ≡ v → NextFine s room (st .at) (onValue s room st c v)
+  value-fine : (c : PrimitiveCode) (v : Field) → valueAt (τ .setting) s c (st .at) ≡ v → NextFine s room (st .at) (onValue (τ .book) s room st c v)
   value-fine c (F.End end) e =
       let m = value-moves (τ .setting) s c (st .at) end e in
-      slots-fine 32 (valueHead c end) (m .0) (m .1) 1 (moved s (st .stack .cur .typed))
+      slots-fine 32 (valueHead c end) (m .0) (m .1) 1 (moved (τ .book) s (st .stack .cur .typed))
   value-fine c (F.Fault f) e = tt
 
   slot-fine : (t : SlotType) → NextFine s room (st .at) (bySlot τ s room st t)

@@ -30,7 +30,7 @@ use Rattle.readings.specs.Fills.{after, top-object, slot-object, top-lib
 module _ (τ : Terms) (s : List ℕ) (f : Frame) (at row : ℕ) (rs : List Rec) (is : List Row) {es : List Entry} where
   pub object-rest : (gs : List Frame) {k id count class : ℕ} {r : Rec} {ts : List SlotType} (c : Cur) → Good τ es k r id count class ts → isObject k ≡ true
       → allowed (whereIn gs (whereOf (f .typed .slot))) k ≡ true → Tight f gs → Based f gs → Body τ (64 - length gs) (suc row) ts (after at row es r rs is) c
-      → Rest τ s (spent s f) gs c → Rest τ s f gs (cur at row es (r ∷ rs) (rowOf k at r id (f .owner) (f .count - f .left) class count ∷ is))
+      → Rest τ s (spent (τ .book) s f) gs c → Rest τ s f gs (cur at row es (r ∷ rs) (rowOf k at r id (f .owner) (f .count - f .left) class count ∷ is))
   object-rest [] {k} {id} {count} {class} {r} c g o w t b d q =
       subst (λ (x : Frame). Objects τ (cur at row es (r ∷ rs) (rowOf k at r id (x .owner) (x .count - x .left) class count ∷ is))) (sym b) (top-object τ g o d q)
   object-rest (h ∷ gs) c g o w t b d q = fill-one τ s f h gs (b .0) t _ c (λ us c₂ x. slot-object τ (f .typed .slot) us g o w d x) q
@@ -43,14 +43,14 @@ module _ (τ : Terms) (s : List ℕ) (f : Frame) (at row : ℕ) (rs : List Rec) 
   pub plain-rest : (gs : List Frame) {k id count class : ℕ} {r : Rec} {ts : List SlotType} → Good τ es k r id count class ts
       → isObject k ≡ false → (eqb k 13 || eqb k 14) ≡ false → eqb k 12 ≡ false → eqb k 11 ≡ false
       → allowed (whereIn gs (whereOf (f .typed .slot))) k ≡ true → isPrimitive (f .typed .slot) ≡ false
-      → Tight f gs → Based f gs → Rest τ s (spent s f) gs (after at row es r rs is)
+      → Tight f gs → Based f gs → Rest τ s (spent (τ .book) s f) gs (after at row es r rs is)
       → Rest τ s f gs (cur at row es (r ∷ rs) (rowOf k at r id (f .owner) (f .count - f .left) class count ∷ is))
   plain-rest [] g o n l e w p t b q = absurd (top-plain τ g o l e w)
   plain-rest (h ∷ gs) g o n l e w p t b q = fill-one τ s f h gs (b .0) t _ _ (λ us c₂ x. slot-plain τ (f .typed .slot) us g o n l e w p x) q
 
   -- a null run
   pub run-rest : (h : Frame) (gs : List Frame) (u : Typed) {k id count class : ℕ} {r : Rec} {ts : List SlotType} → Good τ es k r id count class ts
-      → (eqb k 13 || eqb k 14) ≡ true → isPrimitive (f .typed .slot) ≡ false → 0 < f .left → Sound f → count ≤ f .left → Ran s (f .typed) u count (f .left)
+      → (eqb k 13 || eqb k 14) ≡ true → isPrimitive (f .typed .slot) ≡ false → 0 < f .left → Sound f → count ≤ f .left → Ran (τ .book) s (f .typed) u count (f .left)
       → Rest τ s (filledBy f count u) (h ∷ gs) (after at row es r rs is)
       → Rest τ s f (h ∷ gs) (cur at row es (r ∷ rs) (rowOf k at r id (f .owner) (f .count - f .left) class count ∷ is))
   run-rest h gs u {k} {id} {count} {class} {r} {ts} g e p t b l n q = by-kind (eqb k 13) refl (eqb k 14) refl e

@@ -22,9 +22,10 @@ use Rattle.format.specs.declared.Row.{Row}
 use Rattle.format.specs.declared.Frame.{Frame}
 use Rattle.format.specs.Rows.{blank, objectRow, findFrom, isLost, linked}
 use Rattle.format.specs.Records.{allowed, kindAt, headingAt}
-use Rattle.format.specs.Contents.{Rec, header, enc}
-use Rattle.format.specs.Grammar.{Reading, Entry, cur, rowOf, Objects, Links, idsOf, refsOf, among}
-use Rattle.format.specs.Machine.{State, Next, go, ended, refuse, close, filled, add, act, onKind, recordStep, topLevel, step, Outcome, accepted, refused, finish, onward, run, start, begin, rawOf, withLinks, readOf}
+use Rattle.format.specs.Contents.{Rec, header, enc, Class}
+use Rattle.format.specs.Entries.{badEntry}
+use Rattle.format.specs.Grammar.{Book, Reading, Entry, cur, rowOf, Objects, Links, idsOf, refsOf, among}
+use Rattle.format.specs.Machine.{State, Next, go, ended, refuse, close, filled, add, act, onKind, recordStep, topLevel, step, Outcome, accepted, refused, finish, onward, run, start, begin, streamOf, rawOf, withLinks, readOf}
 use Rattle.fields.specs.Judged.{picked}
 use Rattle.num.specs.Le.{Bytes}
 use Rattle.links.specs.Links.{length-linked}
@@ -36,6 +37,7 @@ use Rattle.kinds.specs.Kinds.{kind-byte}
 use Rattle.places.specs.Env.{envFrom}
 use Rattle.places.specs.Recs.{Good, is-header, Told, Back, rowWith, told-env, told-end}
 use Rattle.places.specs.Tell.{record-told}
+use Rattle.books.specs.Books.{book-judged}
 use Rattle.readings.specs.Steps.{stateAt}
 use Rattle.readings.specs.Frames.{openAt}
 use Rattle.readings.specs.Rows.{bare, row-bare, linked-bare, shown-bare, targets-back}
@@ -105,18 +107,18 @@ module _ (τ : Terms) (s : List ℕ) (byte : Bytes s) (room : ℕ) (rows : List 
   abbrev Begins : Next → Type 0
   Begins x = begin τ s room x ≡ accepted rows → Began
 
-  header-good : (h : Head) → Back τ s [] 0 0 h → Begins (act s room start 0 (H.Fields h))
+  header-good : (h : Head) → Back τ s [] 0 0 h → Begins (act (τ .book) s room start 0 (H.Fields h))
   unfolding act add filled close
   header-good h d =
       picked Begins (ltb 0 room)
       (λ t e. record {
         head = h;
         back = d;
-        ran = subst (λ (f : Frame). run τ (length s) s room (stateAt (h .end) (rowWith 0 h 0 (h .end) 0 0 ∷ []) (openAt f [])) ≡ accepted rows) (based-spent s topLevel [] refl) e;
+        ran = subst (λ (f : Frame). run τ (length s) s room (stateAt (h .end) (rowWith 0 h 0 (h .end) 0 0 ∷ []) (openAt f [])) ≡ accepted rows) (based-spent (τ .book) s topLevel [] refl) e;
       })
       (λ t e. no-accept R.NoRoom 0 rows e)
 
-  header-heading : kindAt s W.Start 0 ≡ K.Taken 0 → (x : Heading) → headingAt τ s [] 0 0 ≡ x → Begins (act s room start 0 x)
+  header-heading : kindAt s W.Start 0 ≡ K.Taken 0 → (x : Heading) → headingAt τ s [] 0 0 ≡ x → Begins (act (τ .book) s room start 0 x)
   unfolding act
   header-heading q (H.Fields h) e = header-good h (record-told τ s [] W.Start 0 0 h byte q e)
   header-heading q (H.Bad r) e = λ z. no-accept r 0 rows z
@@ -134,10 +136,10 @@ module _ (τ : Terms) (s : List ℕ) (byte : Bytes s) (room : ℕ) (rows : List 
 
   -- ---- the whole stream
 
-  reading-of : length s ≤ 16777216 → (h : Head) {es : List Entry} {id count class : ℕ} {r : Rec} {ts : List SlotType} → Good τ es 0 r id count class ts
-      → Told s 0 0 h r id count class ts → Comes τ s room (headed h) rows → Reading τ s (linked rows) × (length (linked rows) ≤ room)
+  reading-of : (cs : List Class) → Book (τ .book) cs → length s ≤ 16777216 → (h : Head) {es : List Entry} {id count class : ℕ} {r : Rec} {ts : List SlotType} → Good τ es 0 r id count class ts
+      → Told (τ .book) s 0 0 h r id count class ts → Comes τ s room (headed h) rows → Reading τ s (linked rows) × (length (linked rows) ≤ room)
   unfolding envFrom
-  reading-of small h (is-header {root = root} {h = other} x y) t c =
+  reading-of cs book small h (is-header {root = root} {h = other} x y) t c =
       let g = c .goal in
       let row = rowWith 0 h 0 (h .end) 0 0 in
       let first : bare row ≡ rowOf 0 0 (header root other) root 0 0 0 0 = row-bare t refl 0 0 in
@@ -155,6 +157,8 @@ module _ (τ : Terms) (s : List ℕ) (byte : Bytes s) (room : ℕ) (rows : List 
       λ i m. targets-back (header root other ∷ g .rs) (row ∷ g .later) shown (f .targets) i m in
       let l = c .roomy in (
         record {
+          classes = cs;
+          book-is = book;
           root = root;
           header-id = other;
           rs = g .rs;
@@ -175,22 +179,25 @@ module _ (τ : Terms) (s : List ℕ) (byte : Bytes s) (room : ℕ) (rows : List 
   begun h = record { later = (λ t. apart t, tt); shaped = record { tight = tt; based = refl } }
 
 -- a stream that is accepted has a reading with these rows, and they fit the table
-raw-reading : (τ : Terms) (s : List ℕ) → Bytes s → (room : ℕ) (raw : List Row) → rawOf τ s room ≡ accepted raw → Reading τ s (linked raw) × (length (linked raw) ≤ room)
-unfolding rawOf
-raw-reading τ s byte room raw =
+raw-reading : (τ : Terms) (s : List ℕ) → Bytes (τ .book) → Bytes s → (room : ℕ) (raw : List Row) → rawOf τ s room ≡ accepted raw → Reading τ s (linked raw) × (length (linked raw) ≤ room)
+unfolding rawOf streamOf
+raw-reading τ s booked byte room raw =
     let P : Outcome → Type 0 = λ (x : Outcome). x ≡ accepted raw → Reading τ s (linked raw) × (length (linked raw) ≤ room) in
     picked P (ltb 16777216 (length s)) (λ t e. no-accept R.TooLarge 0 raw e)
-    (λ t e.
+    (λ t. picked P (eqb (badEntry (τ .book)) 0)
+    (λ u e.
     let a = header-began τ s byte room raw e in
-    reading-of τ s byte room raw (ltb-false 16777216 (length s) t) (a .head) (a .back .good) (a .back .told)
+    let b = book-judged (τ .book) booked (eqb-true (badEntry (τ .book)) 0 u) in
+    reading-of τ s byte room raw (b .0) (b .1) (ltb-false 16777216 (length s) t) (a .head) (a .back .good) (a .back .told)
     (run-comes τ s byte room raw (length s) (headed τ s byte room raw (a .head)) (begun τ s byte room raw (a .head)) (a .ran)))
+    (λ u e. no-accept R.BadBook (badEntry (τ .book) - 1) raw e))
 
-pub accepted-reading : (τ : Terms) (s : List ℕ) → Bytes s → (room : ℕ) (rows : List Row) → readOf τ s room ≡ accepted rows → Reading τ s rows × (length rows ≤ room)
+pub accepted-reading : (τ : Terms) (s : List ℕ) → Bytes (τ .book) → Bytes s → (room : ℕ) (rows : List Row) → readOf τ s room ≡ accepted rows → Reading τ s rows × (length rows ≤ room)
 unfolding readOf
-accepted-reading τ s byte room rows = go (rawOf τ s room) refl
+accepted-reading τ s booked byte room rows = go (rawOf τ s room) refl
   where
     go : (o : Outcome) → rawOf τ s room ≡ o → withLinks o ≡ accepted rows → Reading τ s rows × (length rows ≤ room)
     go (accepted raw) q e =
         let same : linked raw ≡ rows = cc in
-        subst (λ (rows : List Row). Reading τ s rows × (length rows ≤ room)) same (raw-reading τ s byte room raw q)
+        subst (λ (rows : List Row). Reading τ s rows × (length rows ≤ room)) same (raw-reading τ s booked byte room raw q)
     go (refused r place) q e = no-accept r place rows e

@@ -10,17 +10,19 @@ use lib.Dec.{eqb}
 use borrow.Author.Tests.{eqb-false}
 use Rattle.format.specs.Terms.{Terms}
 use Rattle.format.specs.declared.SlotType.{SlotType}
+use Rattle.format.specs.declared.Typed.{Typed}
 use Rattle.format.specs.declared.Head.{Head}
 use Rattle.format.specs.declared.Heading.the-variants as H
 use Rattle.format.specs.declared.Row.{Row}
 use Rattle.format.specs.Numbers.{u32At, negative}
 use Rattle.format.specs.Values.{times}
 use Rattle.format.specs.Types.{typeByteAt, nameAt, typedAt, moved, isPrimitive}
-use Rattle.format.specs.Rows.{blank, isClass, classRow}
-use Rattle.format.specs.Records.{goodClassId, infosAt, afterInfos, membersAt, classAt, classByIdAt, headingAt}
+use Rattle.format.specs.Rows.{blank, isClass, isUntyped, classRow}
+use Rattle.format.specs.Records.{goodClassId, infosAt, afterInfos, membersAt, classAt, firstType, classByIdAt, headingAt}
 use Rattle.format.specs.Contents.{slotFor, Rec}
 use Rattle.format.specs.Grammar.{Entry, Array, of-objects, of-strings, of-primitives, of-any, of-values}
 use Rattle.format.specs.Own.{takes-exactly}
+use Rattle.fields.specs.Judged.{picked}
 use Rattle.lookups.specs.Find.{class-at}
 use Rattle.class_info.specs.Ends.{number-moves}
 use Rattle.class_info.specs.Moves.{names-there}
@@ -58,8 +60,13 @@ Walked h = 0 < h .first .types
 walked-free : (h : Head) → Walked h → Free (h .first)
 walked-free h w z = absurd (omega arith)
 
+-- those of an object of the class in a row, wherever they stand
+first-at : (β s : List ℕ) (c : Row) → firstType β s c .types ≡ c .link
+unfolding firstType typedAt
+first-at β s c = picked (λ (t : Typed). t .types ≡ c .link) (isUntyped (c .kind)) (λ u. refl) (λ u. refl)
+
 module _ (τ : Terms) (s : List ℕ) (rows : List Row) (at : ℕ) where
-  class-walked : (own : Bool) → Said (λ (h : Head). (0 < h .link) × Walked h) (classAt τ s rows own at)
+  class-walked : (own : Bool) → Said (λ (h : Head). (0 < h .link) × Walked h) (classAt (τ .setting) s rows own at)
   unfolding classAt membersAt typedAt
   class-walked own =
       let P : Head → Type 0 = λ (h : Head). (0 < h .link) × Walked h in
@@ -70,15 +77,15 @@ module _ (τ : Terms) (s : List ℕ) (rows : List Row) (at : ℕ) where
       said-if P (negative n) _ _ (λ f. tt) (λ f.
       said-field P _ (times (nameAt (τ .setting) s) n r) (λ types g.
       let m = number-moves s c n r e in
-      let k = names-there τ s n r types (m .1) g in
+      let k = names-there (τ .setting) s n r types (m .1) g in
       let z : 0 < types = omega (arith, m .0, k .0) in
       said-field P _ (times (typeByteAt s) n types) (λ infos i.
-      said-field P _ (infosAt τ s rows n types infos) (λ x j.
+      said-field P _ (infosAt (τ .setting) s rows n types infos) (λ x j.
       said-field P _ (afterInfos own s rows x) (λ end l. (z, z)))))))))
       (λ b. tt))
 
-  by-id-walked : AllLater rows → Said Walked (classByIdAt s rows at)
-  unfolding classByIdAt typedAt
+  by-id-walked : AllLater rows → Said Walked (classByIdAt (τ .book) s rows at)
+  unfolding classByIdAt
   by-id-walked w =
       said-number Walked _ (u32At s (at + 1)) (λ id p a.
       said-if Walked (goodClassId rows id) _ _ (λ b.
@@ -86,7 +93,7 @@ module _ (τ : Terms) (s : List ℕ) (rows : List Row) (at : ℕ) where
       said-if Walked (eqb (classRow class rows) 0) _ _ (λ d. tt) (λ d.
       let n = eqb-false (classRow class rows) 0 d in
       let f = class-at class rows (omega (arith, n)) in
-      later-at rows (classRow class rows - 1) w (f .inside) (f .kind))))
+      rw (first-at (τ .book) s (getD rows (classRow class rows - 1) blank)) (later-at rows (classRow class rows - 1) w (f .inside) (f .kind)))))
       (λ b. tt))
 
 -- ---- arrays
@@ -111,7 +118,7 @@ module _ (τ : Terms) (s : List ℕ) (rows : List Row) (at : ℕ) (h : Head) whe
   plain-first : (k : ℕ) → isClass k ≡ false → h .slots ≡ 0 → First k h
   plain-first k c e = (λ t. absurd (let f : true ≡ false = sym t ∙ c in let z : _≡_ {A = ℕ} 0 1 = cc in omega arith), λ l. absurd (omega arith))
 
-  class-first : (k : ℕ) (own : Bool) → headingAt τ s rows k at ≡ classAt τ s rows own at → headingAt τ s rows k at ≡ H.Fields h → First k h
+  class-first : (k : ℕ) (own : Bool) → headingAt τ s rows k at ≡ classAt (τ .setting) s rows own at → headingAt τ s rows k at ≡ H.Fields h → First k h
   class-first k own e f =
       let w = subst (Said (λ (h : Head). (0 < h .link) × Walked h)) (sym e ∙ f) (class-walked τ s rows at own) in
       (λ t. w .0, λ l. walked-free h (w .1))
@@ -124,7 +131,7 @@ module _ (τ : Terms) (s : List ℕ) (rows : List Row) (at : ℕ) (h : Head) whe
   array-class (of-values a b c) = refl
 
   first-of : (k : ℕ) (r : Rec) (id count class : ℕ) (ts : List SlotType) {es : List Entry} → AllLater rows → headingAt τ s rows k at ≡ H.Fields h
-      → h .slots ≡ length ts → slotsFrom s (h .first) (h .slots) ≡ ts → Good τ es k r id count class ts → First k h
+      → h .slots ≡ length ts → slotsFrom (τ .book) s (h .first) (h .slots) ≡ ts → Good τ es k r id count class ts → First k h
   first-of k r id count class ts w e l q (is-header a b) = plain-first 0 refl l
   first-of k r id count class ts w e l q (is-class-by-id a b c) =
       let x = subst (Said Walked) (sym (by-id-heading τ s rows 1 at refl) ∙ e) (by-id-walked τ s rows at w) in
@@ -141,7 +148,7 @@ module _ (τ : Terms) (s : List ℕ) (rows : List Row) (at : ℕ) (h : Head) whe
   first-of k r id count class ts w e l q (is-many-nulls a) = plain-first 14 refl l
   first-of k r id count class ts w e l q (is-array a b) = (
     λ t. absurd (let f : true ≡ false = sym t ∙ array-class b in let z : _≡_ {A = ℕ} 0 1 = cc in omega arith),
-    λ x z. array-first τ (h .first .slot) (slotsFrom s (moved s (h .first)) (h .slots - 1)) b (sym (slots-next s (h .first) (h .slots) x) ∙ q),
+    λ x z. array-first τ (h .first .slot) (slotsFrom (τ .book) s (moved (τ .book) s (h .first)) (h .slots - 1)) b (sym (slots-next (τ .book) s (h .first) (h .slots) x) ∙ q),
   )
 
   pub heading-first : (k : ℕ) → AllLater rows → headingAt τ s rows k at ≡ H.Fields h → Back τ s rows k at h → First k h

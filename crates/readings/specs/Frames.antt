@@ -58,97 +58,97 @@ abbrev pub frameOf : ℕ → Head → Frame
 frameOf row h = record { owner = row; count = h .slots; left = h .slots; typed = h .first }
 
 -- the slots that a frame has left
-module _ (s : List ℕ) (f : Frame) where
-  pub left-slots : (ts : List SlotType) → slotsFrom s (f .typed) (f .left) ≡ ts → f .left ≡ length ts
-  left-slots ts e = sym (length-slots s (f .typed) (f .left)) ∙ ap length e
+module _ (β s : List ℕ) (f : Frame) where
+  pub left-slots : (ts : List SlotType) → slotsFrom β s (f .typed) (f .left) ≡ ts → f .left ≡ length ts
+  left-slots ts e = sym (length-slots β s (f .typed) (f .left)) ∙ ap length e
 
-  first-slot : (t : SlotType) (ts : List SlotType) → slotsFrom s (f .typed) (f .left) ≡ t ∷ ts
-      → (f .typed .slot ≡ t) × (slotsFrom s (moved s (f .typed)) (f .left - 1) ≡ ts)
+  first-slot : (t : SlotType) (ts : List SlotType) → slotsFrom β s (f .typed) (f .left) ≡ t ∷ ts
+      → (f .typed .slot ≡ t) × (slotsFrom β s (moved β s (f .typed)) (f .left - 1) ≡ ts)
   unfolding slotsFrom
   first-slot t ts e = by-left (f .left) e
     where
-      by-left : (n : ℕ) → slotsFrom s (f .typed) n ≡ t ∷ ts → (f .typed .slot ≡ t) × (slotsFrom s (moved s (f .typed)) (n - 1) ≡ ts)
+      by-left : (n : ℕ) → slotsFrom β s (f .typed) n ≡ t ∷ ts → (f .typed .slot ≡ t) × (slotsFrom β s (moved β s (f .typed)) (n - 1) ≡ ts)
       by-left zero e = absurd (let z : 0 ≡ suc (length ts) = ap length e in omega arith)
       by-left (suc n) e =
           let z : suc n - 1 ≡ n = omega arith in
-          let q : slotsFrom s (moved s (f .typed)) n ≡ ts = cc in
-          (cc, ap (slotsFrom s (moved s (f .typed))) z ∙ q)
+          let q : slotsFrom β s (moved β s (f .typed)) n ≡ ts = cc in
+          (cc, ap (slotsFrom β s (moved β s (f .typed))) z ∙ q)
 
 -- ---- slots that a null run passes
 
-module _ (s : List ℕ) where
+module _ (β s : List ℕ) where
   -- what passes n of the m slots whose first has type t
   abbrev Passes : Typed → ℕ → ℕ → Passed → Type 0
-  Passes t n m p = (u : Typed) × (p ≡ O.Over u) × (slotsFrom s u (m - n) ≡ drop n (slotsFrom s t m))
+  Passes t n m p = (u : Typed) × (p ≡ O.Over u) × (slotsFrom β s u (m - n) ≡ drop n (slotsFrom β s t m))
 
-  alike-drop : (t : Typed) (n m : ℕ) → n ≤ m → moved s t ≡ t → slotsFrom s t (m - n) ≡ drop n (slotsFrom s t m)
+  alike-drop : (t : Typed) (n m : ℕ) → n ≤ m → moved β s t ≡ t → slotsFrom β s t (m - n) ≡ drop n (slotsFrom β s t m)
   unfolding slotsFrom
   alike-drop t zero m h e = let z : m - 0 ≡ m = omega arith in rw z
   alike-drop t (suc n) zero h e = absurd (omega arith)
   alike-drop t (suc n) (suc m) h e =
       let z : suc m - suc n ≡ m - n = omega arith in
-      rw z (alike-drop t n m (omega arith) e ∙ ap (λ (u : Typed). drop n (slotsFrom s u m)) (sym e))
+      rw z (alike-drop t n m (omega arith) e ∙ ap (λ (u : Typed). drop n (slotsFrom β s u m)) (sym e))
 
   split-some : (t : SlotType) (ts : List SlotType) → allTake (t ∷ ts) ≡ true → (isPrimitive t ≡ false) × (allTake ts ≡ true)
   split-some t ts e =
       let w = both-of (takesRecords t) (allTake ts) e in
       (takes-exactly t .1 (w .0), w .1)
 
-  walk-passes : (t : Typed) (n m : ℕ) → n ≤ m → allTake (take n (slotsFrom s t m)) ≡ true → Passes t n m (passed s t n)
+  walk-passes : (t : Typed) (n m : ℕ) → n ≤ m → allTake (take n (slotsFrom β s t m)) ≡ true → Passes t n m (passed β s t n)
   unfolding slotsFrom passed
   walk-passes t zero m h e = let z : m - 0 ≡ m = omega arith in (t, refl, rw z)
   walk-passes t (suc n) zero h e = absurd (omega arith)
   walk-passes t (suc n) (suc m) h e =
       let z : suc m - suc n ≡ m - n = omega arith in
-      let q = split-some (t .slot) (take n (slotsFrom s (moved s t) m)) e in
-      let w = walk-passes (moved s t) n m (omega arith) (q .1) in
-      (w .0, rw (q .0) (w .1), ap (slotsFrom s (w .0)) z ∙ w .2)
+      let q = split-some (t .slot) (take n (slotsFrom β s (moved β s t) m)) e in
+      let w = walk-passes (moved β s t) n m (omega arith) (q .1) in
+      (w .0, rw (q .0) (w .1), ap (slotsFrom β s (w .0)) z ∙ w .2)
 
-  run-passes : (t : Typed) (n m : ℕ) → n ≤ m → allTake (take n (slotsFrom s t m)) ≡ true → Passes t n m (passedOf s t n)
+  run-passes : (t : Typed) (n m : ℕ) → n ≤ m → allTake (take n (slotsFrom β s t m)) ≡ true → Passes t n m (passedOf β s t n)
   run-passes t n m h e = by-test (eqb (t .types) 0) refl
     where
-      by-test : (b : Bool) → eqb (t .types) 0 ≡ b → Passes t n m (passedOf s t n)
+      by-test : (b : Bool) → eqb (t .types) 0 ≡ b → Passes t n m (passedOf β s t n)
       by-test true q =
           let z : t .types ≡ 0 = eqb-true (t .types) 0 q in
-          (t, passed-alike s t n z, alike-drop t n m h (moved-alike s t z))
-      by-test false q = rw (passed-walk s t n (eqb-false (t .types) 0 q)) (walk-passes t n m h e)
+          (t, passed-alike β s t n z, alike-drop t n m h (moved-alike β s t z))
+      by-test false q = rw (passed-walk β s t n (eqb-false (t .types) 0 q)) (walk-passes t n m h e)
 
 -- ---- the slots of a frame
 
-module _ (s : List ℕ) where
+module _ (β s : List ℕ) where
   abbrev pub spent : Frame → Frame
-  spent f = filledBy f 1 (moved s (f .typed))
+  spent f = filledBy f 1 (moved β s (f .typed))
 
   -- the next slot of a frame has type t, and slots of types ts follow it
   pub record Nearest (f : Frame) (t : SlotType) (ts : List SlotType) : Type 0 where
     pub slot-is : f .typed .slot ≡ t
     pub some : 0 < f .left
-    pub rest : slotsFrom s (moved s (f .typed)) (f .left - 1) ≡ ts
+    pub rest : slotsFrom β s (moved β s (f .typed)) (f .left - 1) ≡ ts
 
-  pub next-slot : (f : Frame) (t : SlotType) (ts : List SlotType) → slotsFrom s (f .typed) (f .left) ≡ t ∷ ts → Nearest f t ts
+  pub next-slot : (f : Frame) (t : SlotType) (ts : List SlotType) → slotsFrom β s (f .typed) (f .left) ≡ t ∷ ts → Nearest f t ts
   next-slot f t ts e =
-      let a = first-slot s f t ts e in
-      let l : f .left ≡ suc (length ts) = left-slots s f (t ∷ ts) e in
+      let a = first-slot β s f t ts e in
+      let l : f .left ≡ suc (length ts) = left-slots β s f (t ∷ ts) e in
       record { slot-is = a .0; some = omega arith; rest = a .1 }
 
   -- n slots of a frame are passed, and slots of types us are left
   pub record Passing (f : Frame) (n : ℕ) (us : List SlotType) : Type 0 where
     pub type : Typed
     pub fits : n ≤ f .left
-    pub over : passedOf s (f .typed) n ≡ O.Over type
-    pub rest : slotsFrom s type (f .left - n) ≡ us
+    pub over : passedOf β s (f .typed) n ≡ O.Over type
+    pub rest : slotsFrom β s type (f .left - n) ≡ us
 
-  pub run-law : (f : Frame) (n : ℕ) (ts us : List SlotType) → slotsFrom s (f .typed) (f .left) ≡ ts → n ≤ length ts → allTake (take n ts) ≡ true → us ≡ drop n ts → Passing f n us
+  pub run-law : (f : Frame) (n : ℕ) (ts us : List SlotType) → slotsFrom β s (f .typed) (f .left) ≡ ts → n ≤ length ts → allTake (take n ts) ≡ true → us ≡ drop n ts → Passing f n us
   run-law f n ts us e h p q =
-      let l : f .left ≡ length ts = left-slots s f ts e in
-      let w = run-passes s (f .typed) n (f .left) (omega arith) (ap (λ (x : List SlotType). allTake (take n x)) e ∙ p) in
+      let l : f .left ≡ length ts = left-slots β s f ts e in
+      let w = run-passes β s (f .typed) n (f .left) (omega arith) (ap (λ (x : List SlotType). allTake (take n x)) e ∙ p) in
       record { type = w .0; fits = omega arith; over = w .1; rest = w .2 ∙ (ap (drop n) e ∙ sym q) }
 
-  pub opened-is : (o : Open) (row : ℕ) (h : Head) (u : Typed) (t : SlotType) (ts : List SlotType) → slotsFrom s (h .first) (h .slots) ≡ t ∷ ts
+  pub opened-is : (o : Open) (row : ℕ) (h : Head) (u : Typed) (t : SlotType) (ts : List SlotType) → slotsFrom β s (h .first) (h .slots) ≡ t ∷ ts
       → close (frameOf row h) (filledBy (o .cur) 1 u ∷ o .below) ≡ opened o row h u
   unfolding opened
   opened-is o row h u t ts e =
-      let l : h .slots ≡ suc (length ts) = left-slots s (frameOf row h) (t ∷ ts) e in
+      let l : h .slots ≡ suc (length ts) = left-slots β s (frameOf row h) (t ∷ ts) e in
       still-open (frameOf row h) (filledBy (o .cur) 1 u) (o .below) (omega arith)
 
 -- ---- what a slot's type takes

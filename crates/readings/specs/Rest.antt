@@ -25,7 +25,7 @@ use Rattle.readings.specs.Shape.{slots-next, no-slots, Ran, Sound}
 abbrev pub Rest : Terms → List ℕ → Frame → List Frame → Cur → Type 0
 Rest τ s f [] c = Objects τ c
 Rest τ s f (g ∷ gs) c =
-    (c₁ : Cur) × Slots τ (64 - suc (length gs)) (f .owner) (f .count - f .left) (slotsFrom s (f .typed) (f .left)) c c₁ × Rest τ s g gs c₁
+    (c₁ : Cur) × Slots τ (64 - suc (length gs)) (f .owner) (f .count - f .left) (slotsFrom (τ .book) s (f .typed) (f .left)) c c₁ × Rest τ s g gs c₁
 
 abbrev pub RestOf : Terms → List ℕ → Open → Cur → Type 0
 RestOf τ s o c = Rest τ s (o .cur) (o .below) c
@@ -40,7 +40,7 @@ rest-close τ s f (g ∷ gs) c r = go (eqb (f .left) 0) refl (rest-close τ s g 
     go true e again r = (
       c,
       subst (λ (ts : List SlotType). Slots τ (64 - suc (length gs)) (f .owner) (f .count - f .left) ts c c)
-          (sym (no-slots s (f .typed) (f .left) (eqb-true (f .left) 0 e))) full,
+          (sym (no-slots (τ .book) s (f .typed) (f .left) (eqb-true (f .left) 0 e))) full,
       again r,
     )
     go false e again r = r
@@ -55,33 +55,33 @@ module _ (τ : Terms) (s : List ℕ) (f g : Frame) (gs : List Frame) (w : Sound 
   slot = f .count - f .left
 
   pub fill-one : ((ts : List SlotType) (c₂ : Cur) → Slots τ room (f .owner) (slot + 1) ts c₁ c₂ → Slots τ room (f .owner) slot (f .typed .slot ∷ ts) c c₂)
-      → Rest τ s (spent s f) (g ∷ gs) c₁ → Rest τ s f (g ∷ gs) c
+      → Rest τ s (spent (τ .book) s f) (g ∷ gs) c₁ → Rest τ s f (g ∷ gs) c
   fill-one k r =
-      let ts : List SlotType = slotsFrom s (moved s (f .typed)) (f .left - 1) in
+      let ts : List SlotType = slotsFrom (τ .book) s (moved (τ .book) s (f .typed)) (f .left - 1) in
       let i = w .within in
       let e : f .count - (f .left - 1) ≡ slot + 1 = omega arith in
       let x : Slots τ room (f .owner) (slot + 1) ts c₁ (r .0) = subst (λ (n : ℕ). Slots τ room (f .owner) n ts c₁ (r .0)) e (r .1) in
-      (r .0, subst (λ (us : List SlotType). Slots τ room (f .owner) slot us c (r .0)) (sym (slots-next s (f .typed) (f .left) left)) (k ts (r .0) x), r .2)
+      (r .0, subst (λ (us : List SlotType). Slots τ room (f .owner) slot us c (r .0)) (sym (slots-next (τ .book) s (f .typed) (f .left) left)) (k ts (r .0) x), r .2)
 
   pub fill-none : ((ts : List SlotType) (c₂ : Cur) → Slots τ room (f .owner) slot (f .typed .slot ∷ ts) c₁ c₂ → Slots τ room (f .owner) slot (f .typed .slot ∷ ts) c c₂)
       → Rest τ s f (g ∷ gs) c₁ → Rest τ s f (g ∷ gs) c
   fill-none k r =
-      let e = slots-next s (f .typed) (f .left) left in
+      let e = slots-next (τ .book) s (f .typed) (f .left) left in
       let x = subst (λ (us : List SlotType). Slots τ room (f .owner) slot us c₁ (r .0)) e (r .1) in
-      (r .0, subst (λ (us : List SlotType). Slots τ room (f .owner) slot us c (r .0)) (sym e) (k (slotsFrom s (moved s (f .typed)) (f .left - 1)) (r .0) x), r .2)
+      (r .0, subst (λ (us : List SlotType). Slots τ room (f .owner) slot us c (r .0)) (sym e) (k (slotsFrom (τ .book) s (moved (τ .book) s (f .typed)) (f .left - 1)) (r .0) x), r .2)
 
-  pub fill-run : (n : ℕ) (u : Typed) → n ≤ f .left → Ran s (f .typed) u n (f .left)
+  pub fill-run : (n : ℕ) (u : Typed) → n ≤ f .left → Ran (τ .book) s (f .typed) u n (f .left)
       → ((ts us : List SlotType) (c₂ : Cur) → f .left ≡ length (f .typed .slot ∷ ts) → allTake (take n (f .typed .slot ∷ ts)) ≡ true → us ≡ drop n (f .typed .slot ∷ ts)
       → Slots τ room (f .owner) (slot + n) us c₁ c₂ → Slots τ room (f .owner) slot (f .typed .slot ∷ ts) c c₂)
       → Rest τ s (filledBy f n u) (g ∷ gs) c₁ → Rest τ s f (g ∷ gs) c
   fill-run n u h a k r =
-      let ts : List SlotType = slotsFrom s (moved s (f .typed)) (f .left - 1) in
-      let us : List SlotType = slotsFrom s u (f .left - n) in
-      let e = slots-next s (f .typed) (f .left) left in
+      let ts : List SlotType = slotsFrom (τ .book) s (moved (τ .book) s (f .typed)) (f .left - 1) in
+      let us : List SlotType = slotsFrom (τ .book) s u (f .left - n) in
+      let e = slots-next (τ .book) s (f .typed) (f .left) left in
       let i = w .within in
       let m : f .count - (f .left - n) ≡ slot + n = omega arith in
       let x : Slots τ room (f .owner) (slot + n) us c₁ (r .0) = subst (λ (n : ℕ). Slots τ room (f .owner) n us c₁ (r .0)) m (r .1) in
-      let l : f .left ≡ length (f .typed .slot ∷ ts) = sym (length-slots s (f .typed) (f .left)) ∙ ap length e in (
+      let l : f .left ≡ length (f .typed .slot ∷ ts) = sym (length-slots (τ .book) s (f .typed) (f .left)) ∙ ap length e in (
         r .0,
         subst (λ (us : List SlotType). Slots τ room (f .owner) slot us c (r .0)) (sym e)
             (k ts us (r .0) l (ap (λ (us : List SlotType). allTake (take n us)) (sym e) ∙ a .none) (a .rest ∙ ap (drop n) e) x),

@@ -79,7 +79,7 @@ same-row : {kind offset owner slot e e′ id id′ link link′ count count′ :
     (record { kind = kind; offset = offset; end = e′; id = id′; owner = owner; slot = slot; link = link′; count = count′ })
 same-row a b c d = cc
 
-pub row-bare : {s : List ℕ} {k at id count class : ℕ} {h : Head} {r : Rec} {ts : List SlotType} → Told s k at h r id count class ts → eqb k 32 ≡ false → (owner slot : ℕ)
+pub row-bare : {β s : List ℕ} {k at id count class : ℕ} {h : Head} {r : Rec} {ts : List SlotType} → Told β s k at h r id count class ts → eqb k 32 ≡ false → (owner slot : ℕ)
     → bare (rowWith k h at (h .end) owner slot) ≡ rowOf k at r id owner slot class count
 row-bare t low owner slot = same-row (told-end t) (t .id-is) (rw low (t .link-is)) (t .count-is)
 

@@ -72,36 +72,36 @@ module _ (τ : Terms) (s : List ℕ) (room at : ℕ) (rows : List Row) (f : Fram
 
   -- a record whose fields are good, of a kind that may stand there
   module _ (k : ℕ) (h : Head) (d : Back τ s rows k at h) (first : First k h) (w : allowed (whereIn gs (whereOf (f .typed .slot))) k ≡ true) (p : isPrimitive (f .typed .slot) ≡ false) where
-    pub object-said : isObject k ≡ true → NextSaid τ room s st (object room st k h (moved s (f .typed)))
+    pub object-said : isObject k ≡ true → NextSaid τ room s st (object room st k h (moved (τ .book) s (f .typed)))
     unfolding object filled opened
     object-said o =
         picked (NextSaid τ room s st) (eqb (h .slots) 0)
-        (λ z. add-said (rowIn st k h) (close (spent s f) gs) (first .0) (close-shaped (spent s f) gs (based-spent s f gs (b .shaped .based)))
-        (back-more τ s at rows f gs (close (spent s f) gs) k h d (f .owner) (f .count - f .left) (hollow z)))
+        (λ z. add-said (rowIn st k h) (close (spent (τ .book) s f) gs) (first .0) (close-shaped (spent (τ .book) s f) gs (based-spent (τ .book) s f gs (b .shaped .based)))
+        (back-more τ s at rows f gs (close (spent (τ .book) s f) gs) k h d (f .owner) (f .count - f .left) (hollow z)))
         (λ z. picked (NextSaid τ room s st) (ltb (length gs) 64)
-        (λ l. add-said (rowIn st k h) (opened (st .stack) (length rows + 1) h (moved s (f .typed))) (first .0) (open-shaped z)
-        (back-more τ s at rows f gs (opened (st .stack) (length rows + 1) h (moved s (f .typed))) k h d (f .owner) (f .count - f .left) (slotted z (ltb-true (length gs) 64 l))))
+        (λ l. add-said (rowIn st k h) (opened (st .stack) (length rows + 1) h (moved (τ .book) s (f .typed))) (first .0) (open-shaped z)
+        (back-more τ s at rows f gs (opened (st .stack) (length rows + 1) h (moved (τ .book) s (f .typed))) k h d (f .owner) (f .count - f .left) (slotted z (ltb-true (length gs) 64 l))))
         (λ l. tt))
       where
-        before : (rs : List Rec) (is : List Row) (c : Cur) → Body τ (64 - length gs) (suc (length rows)) (d .types) (after at (length rows) (envOf s rows) (d .rec) rs is) c
-            → Rest τ s (spent s f) gs c
-            → Rest τ s f gs (cur at (length rows) (envOf s rows) (d .rec ∷ rs) (rowOf k at (d .rec) (d .id) (f .owner) (f .count - f .left) (d .class) (d .count) ∷ is))
+        before : (rs : List Rec) (is : List Row) (c : Cur) → Body τ (64 - length gs) (suc (length rows)) (d .types) (after at (length rows) (envOf (τ .book) s rows) (d .rec) rs is) c
+            → Rest τ s (spent (τ .book) s f) gs c
+            → Rest τ s f gs (cur at (length rows) (envOf (τ .book) s rows) (d .rec ∷ rs) (rowOf k at (d .rec) (d .id) (f .owner) (f .count - f .left) (d .class) (d .count) ∷ is))
         before rs is c x y = object-rest τ s f at (length rows) rs is gs c (d .good) o w (b .shaped .tight) (b .shaped .based) x y
 
-        hollow : eqb (h .slots) 0 ≡ true → (rs : List Rec) (is : List Row) → RestOf τ s (close (spent s f) gs) (after at (length rows) (envOf s rows) (d .rec) rs is)
-            → Rest τ s f gs (cur at (length rows) (envOf s rows) (d .rec ∷ rs) (rowOf k at (d .rec) (d .id) (f .owner) (f .count - f .left) (d .class) (d .count) ∷ is))
+        hollow : eqb (h .slots) 0 ≡ true → (rs : List Rec) (is : List Row) → RestOf τ s (close (spent (τ .book) s f) gs) (after at (length rows) (envOf (τ .book) s rows) (d .rec) rs is)
+            → Rest τ s f gs (cur at (length rows) (envOf (τ .book) s rows) (d .rec ∷ rs) (rowOf k at (d .rec) (d .id) (f .owner) (f .count - f .left) (d .class) (d .count) ∷ is))
         hollow z rs is r =
-            let c = after at (length rows) (envOf s rows) (d .rec) rs is in
-            before rs is c (hollow-body τ (d .types) (sym (eqb-true (h .slots) 0 z) ∙ told-slots (d .told))) (rest-close τ s (spent s f) gs c r)
+            let c = after at (length rows) (envOf (τ .book) s rows) (d .rec) rs is in
+            before rs is c (hollow-body τ (d .types) (sym (eqb-true (h .slots) 0 z) ∙ told-slots (d .told))) (rest-close τ s (spent (τ .book) s f) gs c r)
 
-        open-shaped : eqb (h .slots) 0 ≡ false → Shaped (opened (st .stack) (length rows + 1) h (moved s (f .typed)))
+        open-shaped : eqb (h .slots) 0 ≡ false → Shaped (opened (st .stack) (length rows + 1) h (moved (τ .book) s (f .typed)))
         open-shaped z =
             let n = some (h .slots) z in
-            record { tight = n; based = (record { within = omega arith; free = first .1 n }, based-spent s f gs (b .shaped .based)) }
+            record { tight = n; based = (record { within = omega arith; free = first .1 n }, based-spent (τ .book) s f gs (b .shaped .based)) }
 
         slotted : eqb (h .slots) 0 ≡ false → length gs < 64 → (rs : List Rec) (is : List Row)
-            → RestOf τ s (opened (st .stack) (length rows + 1) h (moved s (f .typed))) (after at (length rows) (envOf s rows) (d .rec) rs is)
-            → Rest τ s f gs (cur at (length rows) (envOf s rows) (d .rec ∷ rs) (rowOf k at (d .rec) (d .id) (f .owner) (f .count - f .left) (d .class) (d .count) ∷ is))
+            → RestOf τ s (opened (st .stack) (length rows + 1) h (moved (τ .book) s (f .typed))) (after at (length rows) (envOf (τ .book) s rows) (d .rec) rs is)
+            → Rest τ s f gs (cur at (length rows) (envOf (τ .book) s rows) (d .rec ∷ rs) (rowOf k at (d .rec) (d .id) (f .owner) (f .count - f .left) (d .class) (d .count) ∷ is))
         slotted z l rs is r =
             let n = some (h .slots) z in
             let m = told-slots (d .told) in
@@ -110,13 +110,13 @@ module _ (τ : Terms) (s : List ℕ) (room at : ℕ) (rows : List Row) (f : Fram
             before rs is (r .0) (open-body τ (length gs) (d .types) (omega arith) l (same-slots τ x y (d .told .slots-are) (r .1))) (r .2)
 
     pub plain-said : isObject k ≡ false → (eqb k 13 || eqb k 14) ≡ false → eqb k 12 ≡ false → eqb k 11 ≡ false
-        → NextSaid τ room s st (add room st (rowIn st k h) (filled (st .stack) 1 (moved s (f .typed))))
+        → NextSaid τ room s st (add room st (rowIn st k h) (filled (st .stack) 1 (moved (τ .book) s (f .typed))))
     unfolding filled
     plain-said o n l e =
-        add-said (rowIn st k h) (close (spent s f) gs) (first .0) (close-shaped (spent s f) gs (based-spent s f gs (b .shaped .based)))
-        (back-more τ s at rows f gs (close (spent s f) gs) k h d (f .owner) (f .count - f .left) (λ rs is r.
+        add-said (rowIn st k h) (close (spent (τ .book) s f) gs) (first .0) (close-shaped (spent (τ .book) s f) gs (based-spent (τ .book) s f gs (b .shaped .based)))
+        (back-more τ s at rows f gs (close (spent (τ .book) s f) gs) k h d (f .owner) (f .count - f .left) (λ rs is r.
         plain-rest τ s f at (length rows) rs is gs (d .good) o n l e w p (b .shaped .tight) (b .shaped .based)
-        (rest-close τ s (spent s f) gs (after at (length rows) (envOf s rows) (d .rec) rs is) r)))
+        (rest-close τ s (spent (τ .book) s f) gs (after at (length rows) (envOf (τ .book) s rows) (d .rec) rs is) r)))
 
   -- a library
   pub library-said : (h : Head) → Back τ s rows 12 at h → isPrimitive (f .typed .slot) ≡ false → NextSaid τ room s st (add room st (rowApart st 12 h) (st .stack))
@@ -141,24 +141,24 @@ module _ (τ : Terms) (s : List ℕ) (room at : ℕ) (rows : List Row) (f : Fram
 
   pub run-said : (gs : List Frame) → Between (with-open gs) → (k : ℕ) (h : Head) (d : Back τ s rows k at h) → First k h
       → allowed (whereIn gs (whereOf (f .typed .slot))) k ≡ true → isPrimitive (f .typed .slot) ≡ false → isObject k ≡ false → (eqb k 13 || eqb k 14) ≡ true
-      → NextSaid τ room s (with-open gs) (nullRun s room (with-open gs) k h)
+      → NextSaid τ room s (with-open gs) (nullRun (τ .book) s room (with-open gs) k h)
   unfolding nullRun filled
   run-said [] b k h d first w p o e = absurd (top-plain τ (d .good) o (run-not k 12 refl refl e) (run-not k 11 refl refl e) w)
   run-said (g ∷ gs) b k h d first w p o e =
       picked (NextSaid τ room s (with-open (g ∷ gs))) (ltb (f .left) (h .count)) (λ t. tt)
-      (λ t. over (ltb-false (f .left) (h .count) t) (passedOf s (f .typed) (h .count)) refl)
+      (λ t. over (ltb-false (f .left) (h .count) t) (passedOf (τ .book) s (f .typed) (h .count)) refl)
     where
-      over : h .count ≤ f .left → (x : Passed) → passedOf s (f .typed) (h .count) ≡ x → NextSaid τ room s (with-open (g ∷ gs)) (runOver room (with-open (g ∷ gs)) k h x)
+      over : h .count ≤ f .left → (x : Passed) → passedOf (τ .book) s (f .typed) (h .count) ≡ x → NextSaid τ room s (with-open (g ∷ gs)) (runOver room (with-open (g ∷ gs)) k h x)
       over l (O.Over u) q =
-          let n = run-over s (f .typed) u (h .count) (f .left) (b .shaped .based .0 .free) q l in
+          let n = run-over (τ .book) s (f .typed) u (h .count) (f .left) (b .shaped .based .0 .free) q l in
           let c = d .told .count-is in
-          let m = subst (λ (x : ℕ). Ran s (f .typed) u x (f .left)) c n in
+          let m = subst (λ (x : ℕ). Ran (τ .book) s (f .typed) u x (f .left)) c n in
           add-said τ s room at rows f (g ∷ gs) b (rowIn (with-open (g ∷ gs)) k h) (close (filledBy f (h .count) u) (g ∷ gs)) (first .0)
           (close-shaped (filledBy f (h .count) u) (g ∷ gs) (based-run f g gs (h .count) u (n .free) (b .shaped .based)))
           (back-more τ s at rows f (g ∷ gs) (close (filledBy f (h .count) u) (g ∷ gs)) k h d (f .owner) (f .count - f .left) (λ rs is r.
           run-rest τ s f at (length rows) rs is g gs u (d .good) e p (b .shaped .tight) (b .shaped .based .0) (subst (λ (x : ℕ). x ≤ f .left) c l) m
-          (subst (λ (x : ℕ). Rest τ s (filledBy f x u) (g ∷ gs) (after at (length rows) (envOf s rows) (d .rec) rs is)) c
-          (rest-close τ s (filledBy f (h .count) u) (g ∷ gs) (after at (length rows) (envOf s rows) (d .rec) rs is) r))))
+          (subst (λ (x : ℕ). Rest τ s (filledBy f x u) (g ∷ gs) (after at (length rows) (envOf (τ .book) s rows) (d .rec) rs is)) c
+          (rest-close τ s (filledBy f (h .count) u) (g ∷ gs) (after at (length rows) (envOf (τ .book) s rows) (d .rec) rs is) r))))
       over l O.Crossed q = tt
 
   pub end-said : (gs : List Frame) → Between (with-open gs) → (h : Head) (d : Back τ s rows 11 at h) → allowed (whereIn gs (whereOf (f .typed .slot))) 11 ≡ true
@@ -175,7 +175,7 @@ module _ (τ : Terms) (s : List ℕ) (room at : ℕ) (rows : List Row) (f : Fram
           later = row ∷ [];
           rows-are = refl;
           bytes-are = d .told .stands .bytes ∙ ap (λ (l : List ℕ). enc (d .rec) ++ l) (drop-of-length-le s l);
-          rest = subst (λ (x : Row). Objects τ (cur at (length rows) (envOf s rows) (d .rec ∷ []) (x ∷ []))) (sym own-row) (top-end τ (d .good));
+          rest = subst (λ (x : Row). Objects τ (cur at (length rows) (envOf (τ .book) s rows) (d .rec ∷ []) (x ∷ []))) (sym own-row) (top-end τ (d .good));
         },
         omega arith,
       ))
@@ -198,19 +198,19 @@ module _ (τ : Terms) (s : List ℕ) (room at : ℕ) (rows : List Row) (f : Fram
           → bare (rowIn (with-open (g ∷ gs)) 32 (valueHead c end)) ≡ rowOf 32 at (value c v) 0 (f .owner) (f .count - f .left) 0 0
       value-row v z = rw z
 
-      by-value : (x : Field) → valueAt (τ .setting) s c at ≡ x → NextSaid τ room s (with-open (g ∷ gs)) (onValue s room (with-open (g ∷ gs)) c x)
+      by-value : (x : Field) → valueAt (τ .setting) s c at ≡ x → NextSaid τ room s (with-open (g ∷ gs)) (onValue (τ .book) s room (with-open (g ∷ gs)) c x)
       by-value (F.End end) q =
           let v = valueIn s c at in
           let m = member-told τ s c at end byte q in
           let row = rowIn (with-open (g ∷ gs)) 32 (valueHead c end) in
           let it = rowOf 32 at (value c v) 0 (f .owner) (f .count - f .left) 0 0 in
-          add-said τ s room at rows f (g ∷ gs) b row (close (spent s f) (g ∷ gs)) (λ t. apart t)
-          (close-shaped (spent s f) (g ∷ gs) (based-spent s f (g ∷ gs) (b .shaped .based)))
-          (goal-more τ s at rows f (g ∷ gs) (close (spent s f) (g ∷ gs)) end row it (value c v) (envOf s rows) (value-row v (stand-size (m .1))) (m .1)
-          (env-same s rows row refl) (λ rs is r.
-          let c₁ = cur (at + size (value c v)) (suc (length rows)) (envOf s rows) rs is in
-          let c₀ = cur at (length rows) (envOf s rows) (value c v ∷ rs) (it ∷ is) in
+          add-said τ s room at rows f (g ∷ gs) b row (close (spent (τ .book) s f) (g ∷ gs)) (λ t. apart t)
+          (close-shaped (spent (τ .book) s f) (g ∷ gs) (based-spent (τ .book) s f (g ∷ gs) (b .shaped .based)))
+          (goal-more τ s at rows f (g ∷ gs) (close (spent (τ .book) s f) (g ∷ gs)) end row it (value c v) (envOf (τ .book) s rows) (value-row v (stand-size (m .1))) (m .1)
+          (env-same (τ .book) s rows row refl) (λ rs is r.
+          let c₁ = cur (at + size (value c v)) (suc (length rows)) (envOf (τ .book) s rows) rs is in
+          let c₀ = cur at (length rows) (envOf (τ .book) s rows) (value c v ∷ rs) (it ∷ is) in
           fill-one τ s f g gs (b .shaped .based .0) (b .shaped .tight) c₀ c₁ (λ us c₂ x.
           subst (λ (t : SlotType). Slots τ (64 - suc (length gs)) (f .owner) (f .count - f .left) (t ∷ us) c₀ c₂) (sym e) (member-value (m .0) refl x))
-          (rest-close τ s (spent s f) (g ∷ gs) c₁ r)))
+          (rest-close τ s (spent (τ .book) s f) (g ∷ gs) c₁ r)))
       by-value (F.Fault x) q = tt

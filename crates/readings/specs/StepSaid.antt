@@ -45,7 +45,7 @@ module _ (τ : Terms) (s : List ℕ) (byte : Bytes s) (room at : ℕ) (rows : Li
   as-kind k n h e d = subst (λ (m : ℕ). Back τ s rows m at h) (eqb-true k n e) d
 
   good-said : isPrimitive next ≡ false → (k : ℕ) (h : Head) → Back τ s rows k at h → First k h → allowed (whereIn gs (whereOf next)) k ≡ true
-      → P (act s room st k (H.Fields h))
+      → P (act (τ .book) s room st k (H.Fields h))
   unfolding act
   good-said p k h d first w =
       picked P (isObject k) (λ o. object-said τ s room at rows f gs b k h d first w p o)
@@ -57,7 +57,7 @@ module _ (τ : Terms) (s : List ℕ) (byte : Bytes s) (room at : ℕ) (rows : Li
       (λ e. plain-said τ s room at rows f gs b k h d first w p o n l e))))
 
   act-said : isPrimitive next ≡ false → (k : ℕ) → kindAt s (whereIn gs (whereOf next)) at ≡ K.Taken k → (x : Heading) → headingAt τ s rows k at ≡ x
-      → P (act s room st k x)
+      → P (act (τ .book) s room st k x)
   unfolding act
   act-said p k q (H.Fields h) e =
       let d = record-told τ s rows (whereIn gs (whereOf next)) at k h byte q e in

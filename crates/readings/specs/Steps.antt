@@ -60,13 +60,13 @@ pub record Allows (o : Open) (k : ℕ) : Type 0 where
 pub record Taken (τ : Terms) (s : List ℕ) (rows : List Row) (at e k : ℕ) (r : Rec) (id count class : ℕ) (ts : List SlotType) : Type 0 where
   pub head : Head
   pub fields : headingAt τ s rows k at ≡ H.Fields head
-  pub told : Told s k at head r id count class ts
+  pub told : Told (τ .book) s k at head r id count class ts
   pub known : isKind k ≡ true
   pub free : notTaken k ≡ false
   pub ends : head .end ≡ e
   pub onward : at < e
 
-pub record-taken : (τ : Terms) (s : List ℕ) (rows : List Row) (at e k : ℕ) (r : Rec) (id count class : ℕ) (ts : List SlotType) → Good τ (envOf s rows) k r id count class ts
+pub record-taken : (τ : Terms) (s : List ℕ) (rows : List Row) (at e k : ℕ) (r : Rec) (id count class : ℕ) (ts : List SlotType) → Good τ (envOf (τ .book) s rows) k r id count class ts
     → Stand s (enc r) at e → Taken τ s rows at e k r id count class ts
 record-taken τ s rows at e k r id count class ts g w =
     let x = record-read τ s rows at e k r id count class ts g w in
@@ -120,21 +120,21 @@ module _ (τ : Terms) (s : List ℕ) (room at : ℕ) (rows : List Row) (o : Open
 
   -- a member value
   pub value-goes : (c : PrimitiveCode) (v : Prefixed) (e : ℕ) → o .cur .typed .slot ≡ S.Primitive c → Value τ c v → Stand s (enc (value c v)) at e → length rows < room
-      → step τ s room (stateAt at rows o) ≡ go (stateAt e (rows ++ (rowIn (stateAt at rows o) 32 (valueHead c e) ∷ [])) (filled o 1 (moved s (o .cur .typed))))
+      → step τ s room (stateAt at rows o) ≡ go (stateAt e (rows ++ (rowIn (stateAt at rows o) 32 (valueHead c e) ∷ [])) (filled o 1 (moved (τ .book) s (o .cur .typed))))
   unfolding step valueStep
   value-goes c v e slot g w h =
-      ap (bySlot τ s room (stateAt at rows o)) slot ∙ ap (onValue s room (stateAt at rows o) c) (member-read τ s c v at e g w)
-      ∙ adds (rowIn (stateAt at rows o) 32 (valueHead c e)) (filled o 1 (moved s (o .cur .typed))) e h refl
+      ap (bySlot τ s room (stateAt at rows o)) slot ∙ ap (onValue (τ .book) s room (stateAt at rows o) c) (member-read τ s c v at e g w)
+      ∙ adds (rowIn (stateAt at rows o) 32 (valueHead c e)) (filled o 1 (moved (τ .book) s (o .cur .typed))) e h refl
 
   module _ (e k : ℕ) (r : Rec) (id count class : ℕ) (ts : List SlotType) (w : Taken τ s rows at e k r id count class ts) where
-    record-acts : (v : Where) → allowed v k ≡ true → recordStep τ s room (stateAt at rows o) v ≡ act s room (stateAt at rows o) k (H.Fields (w .head))
+    record-acts : (v : Where) → allowed v k ≡ true → recordStep τ s room (stateAt at rows o) v ≡ act (τ .book) s room (stateAt at rows o) k (H.Fields (w .head))
     unfolding recordStep
     record-acts v a =
         let q : kindAt s v at ≡ K.Taken k = kind-there s v at (w .told .inside) ∙ (ap (kindOf v) (w .told .kind-byte) ∙ kind-taken k v (w .known) (w .free) a) in
-        ap (onKind τ s room (stateAt at rows o)) q ∙ ap (act s room (stateAt at rows o) k) (w .fields)
+        ap (onKind τ s room (stateAt at rows o)) q ∙ ap (act (τ .book) s room (stateAt at rows o) k) (w .fields)
 
     slot-acts : (t : SlotType) → isPrimitive t ≡ false → allowed (whereIn (o .below) (whereOf t)) k ≡ true
-        → bySlot τ s room (stateAt at rows o) t ≡ act s room (stateAt at rows o) k (H.Fields (w .head))
+        → bySlot τ s room (stateAt at rows o) t ≡ act (τ .book) s room (stateAt at rows o) k (H.Fields (w .head))
     slot-acts (S.Primitive c) n a = absurd (let z : _≡_ {A = ℕ} 0 1 = cc in omega arith)
     slot-acts S.Text n a = record-acts _ a
     slot-acts S.Object n a = record-acts _ a
@@ -144,51 +144,51 @@ module _ (τ : Terms) (s : List ℕ) (room at : ℕ) (rows : List Row) (o : Open
     slot-acts S.StringArray n a = record-acts _ a
     slot-acts (S.PrimitiveArray c) n a = record-acts _ a
 
-    step-acts : Allows o k → step τ s room (stateAt at rows o) ≡ act s room (stateAt at rows o) k (H.Fields (w .head))
+    step-acts : Allows o k → step τ s room (stateAt at rows o) ≡ act (τ .book) s room (stateAt at rows o) k (H.Fields (w .head))
     unfolding step
     step-acts a = slot-acts (o .cur .typed .slot) (a .by-record) (a .fits)
 
     -- an object without slots fills its own slot
     pub hollow-goes : Allows o k → isObject k ≡ true → length rows < room → ts ≡ []
-        → step τ s room (stateAt at rows o) ≡ go (stateAt e (rows ++ (rowIn (stateAt at rows o) k (w .head) ∷ [])) (filled o 1 (moved s (o .cur .typed))))
+        → step τ s room (stateAt at rows o) ≡ go (stateAt e (rows ++ (rowIn (stateAt at rows o) k (w .head) ∷ [])) (filled o 1 (moved (τ .book) s (o .cur .typed))))
     unfolding act object
     hollow-goes a i h n =
         let z : w .head .slots ≡ 0 = told-slots (w .told) ∙ ap length n in
-        step-acts a ∙ rw (i, eq-eqb (w .head .slots) 0 z) (adds (rowIn (stateAt at rows o) k (w .head)) (filled o 1 (moved s (o .cur .typed))) e h (w .ends))
+        step-acts a ∙ rw (i, eq-eqb (w .head .slots) 0 z) (adds (rowIn (stateAt at rows o) k (w .head)) (filled o 1 (moved (τ .book) s (o .cur .typed))) e h (w .ends))
 
     -- an object with slots is open
     pub object-goes : Allows o k → isObject k ≡ true → length rows < room → (ts ≡ [] → ⊥) → length (o .below) < 64
         → step τ s room (stateAt at rows o)
-        ≡ go (stateAt e (rows ++ (rowIn (stateAt at rows o) k (w .head) ∷ [])) (opened o (length rows + 1) (w .head) (moved s (o .cur .typed))))
+        ≡ go (stateAt e (rows ++ (rowIn (stateAt at rows o) k (w .head) ∷ [])) (opened o (length rows + 1) (w .head) (moved (τ .book) s (o .cur .typed))))
     unfolding act object
     object-goes a i h n d =
         step-acts a
         ∙ rw (i, ne-eqb (w .head .slots) 0 (λ z. n (none ts (sym (told-slots (w .told)) ∙ z))), lt-ltb (length (o .below)) 64 d)
-        (adds (rowIn (stateAt at rows o) k (w .head)) (opened o (length rows + 1) (w .head) (moved s (o .cur .typed))) e h (w .ends))
+        (adds (rowIn (stateAt at rows o) k (w .head)) (opened o (length rows + 1) (w .head) (moved (τ .book) s (o .cur .typed))) e h (w .ends))
       where
         none : (ts : List SlotType) → length ts ≡ 0 → ts ≡ []
         none [] z = refl
         none (t ∷ ts) z = absurd (omega arith)
 
-    act-fills : Plain k → length rows < room → act s room (stateAt at rows o) k (H.Fields (w .head))
-        ≡ go (stateAt e (rows ++ (rowIn (stateAt at rows o) k (w .head) ∷ [])) (filled o 1 (moved s (o .cur .typed))))
+    act-fills : Plain k → length rows < room → act (τ .book) s room (stateAt at rows o) k (H.Fields (w .head))
+        ≡ go (stateAt e (rows ++ (rowIn (stateAt at rows o) k (w .head) ∷ [])) (filled o 1 (moved (τ .book) s (o .cur .typed))))
     unfolding act
     act-fills p h =
         rw (p .no-object, p .no-run, p .no-library, p .no-end)
-        (adds (rowIn (stateAt at rows o) k (w .head)) (filled o 1 (moved s (o .cur .typed))) e h (w .ends))
+        (adds (rowIn (stateAt at rows o) k (w .head)) (filled o 1 (moved (τ .book) s (o .cur .typed))) e h (w .ends))
 
     -- a typed primitive, a reference or a null
     pub fills-goes : Allows o k → fillsOne k ≡ true → length rows < room
-        → step τ s room (stateAt at rows o) ≡ go (stateAt e (rows ++ (rowIn (stateAt at rows o) k (w .head) ∷ [])) (filled o 1 (moved s (o .cur .typed))))
+        → step τ s room (stateAt at rows o) ≡ go (stateAt e (rows ++ (rowIn (stateAt at rows o) k (w .head) ∷ [])) (filled o 1 (moved (τ .book) s (o .cur .typed))))
     fills-goes a f h = step-acts a ∙ act-fills (fills-plain k f) h
 
     -- a null run, over slots that are passed
-    pub run-goes : Allows o k → isRun k ≡ true → length rows < room → count ≤ o .cur .left → (t : Typed) → passedOf s (o .cur .typed) count ≡ O.Over t
+    pub run-goes : Allows o k → isRun k ≡ true → length rows < room → count ≤ o .cur .left → (t : Typed) → passedOf (τ .book) s (o .cur .typed) count ≡ O.Over t
         → step τ s room (stateAt at rows o) ≡ go (stateAt e (rows ++ (rowIn (stateAt at rows o) k (w .head) ∷ [])) (filled o count t))
     unfolding act nullRun
     run-goes a f h l t p =
         let c : w .head .count ≡ count = w .told .count-is in
-        let q : passedOf s (o .cur .typed) (w .head .count) ≡ O.Over t = ap (passedOf s (o .cur .typed)) c ∙ p in
+        let q : passedOf (τ .book) s (o .cur .typed) (w .head .count) ≡ O.Over t = ap (passedOf (τ .book) s (o .cur .typed)) c ∙ p in
         step-acts a
         ∙ rw (run-no-object k f, f, le-ltb (o .cur .left) (w .head .count) (omega arith), q)
         (adds (rowIn (stateAt at rows o) k (w .head)) (filled o (w .head .count) t) e h (w .ends)
@@ -200,7 +200,7 @@ module _ (τ : Terms) (s : List ℕ) (room at : ℕ) (rows : List Row) (o : Open
     unfolding act
     library-goes a f h = step-acts a ∙ by-kind k f
       where
-        by-kind : (k : ℕ) → k ≡ 12 → act s room (stateAt at rows o) k (H.Fields (w .head)) ≡ go (stateAt e (rows ++ (rowApart (stateAt at rows o) k (w .head) ∷ [])) o)
+        by-kind : (k : ℕ) → k ≡ 12 → act (τ .book) s room (stateAt at rows o) k (H.Fields (w .head)) ≡ go (stateAt e (rows ++ (rowApart (stateAt at rows o) k (w .head) ∷ [])) o)
         by-kind k f = rw f (adds (rowApart (stateAt at rows o) 12 (w .head)) o e h (w .ends))
 
     -- the end record
@@ -209,14 +209,14 @@ module _ (τ : Terms) (s : List ℕ) (room at : ℕ) (rows : List Row) (o : Open
     unfolding act ending
     end-goes a f h = step-acts a ∙ by-kind k f
       where
-        by-kind : (k : ℕ) → k ≡ 11 → act s room (stateAt at rows o) k (H.Fields (w .head)) ≡ ended (rows ++ (rowIn (stateAt at rows o) k (w .head) ∷ [])) e
+        by-kind : (k : ℕ) → k ≡ 11 → act (τ .book) s room (stateAt at rows o) k (H.Fields (w .head)) ≡ ended (rows ++ (rowIn (stateAt at rows o) k (w .head) ∷ [])) e
         by-kind k f =
             rw (f, lt-ltb (length rows) room h) (ap (λ (p : ℕ). ended (rows ++ (rowIn (stateAt at rows o) 11 (w .head) ∷ [])) p) (w .ends))
 
 -- at the top level no slot is filled
-pub top-filled : (s : List ℕ) → filled (start .stack) 1 (moved s (start .stack .cur .typed)) ≡ start .stack
+pub top-filled : (β s : List ℕ) → filled (start .stack) 1 (moved β s (start .stack .cur .typed)) ≡ start .stack
 unfolding filled close
-top-filled s = rw (moved-alike s (alike S.Object 0) refl)
+top-filled β s = rw (moved-alike β s (alike S.Object 0) refl)
 
 -- the header stands first
 pub header-goes : (τ : Terms) (s : List ℕ) (room e : ℕ) (r : Rec) (id count class : ℕ) (ts : List SlotType) (w : Taken τ s [] 0 e 0 r id count class ts) → 0 < room
@@ -225,4 +225,4 @@ unfolding allowed
 header-goes τ s room e r id count class ts w h =
     record-acts τ s room 0 [] (start .stack) e 0 r id count class ts w W.Start refl
     ∙ (act-fills τ s room 0 [] (start .stack) e 0 r id count class ts w (record { no-object = refl; no-run = refl; no-library = refl; no-end = refl }) h
-    ∙ ap (λ (o : Open). go (stateAt e (rowIn start 0 (w .head) ∷ []) o)) (top-filled s))
+    ∙ ap (λ (o : Open). go (stateAt e (rowIn start 0 (w .head) ∷ []) o)) (top-filled (τ .book) s))

@@ -6,7 +6,7 @@ use mathlib.Core.List.{List}
 use lib.ListN.{length, getD}
 use lib.Dec.{eqb}
 use borrow.Author.Tests.{lt-ltb, le-ltb, ne-eqb}
-use Rattle.format.specs.Terms.{Terms}
+use Rattle.format.specs.declared.Setting.{Setting}
 use Rattle.format.specs.declared.Refusal.{Refusal}
 use Rattle.format.specs.declared.Refusal.the-variants as R
 use Rattle.format.specs.declared.PrimitiveCode.{PrimitiveCode}
@@ -32,12 +32,12 @@ module _ (rows : List Row) (id : ℕ) where
 
 -- ---- the text that ends a record
 
-module _ (τ : Terms) (s : List ℕ) (id at : ℕ) where
-  pub named-end : (e : ℕ) → nameAt (τ .setting) s at ≡ F.End e → namedAt τ s id at ≡ plain id e 0
+module _ (σ : Setting) (s : List ℕ) (id at : ℕ) where
+  pub named-end : (e : ℕ) → nameAt σ s at ≡ F.End e → namedAt σ s id at ≡ plain id e 0
   unfolding namedAt
   named-end e h = rw h
 
-  pub named-bad : (f : Refusal) → nameAt (τ .setting) s at ≡ F.Fault f → namedAt τ s id at ≡ H.Bad f
+  pub named-bad : (f : Refusal) → nameAt σ s at ≡ F.Fault f → namedAt σ s id at ≡ H.Bad f
   unfolding namedAt
   named-bad f h = rw h
 
@@ -83,19 +83,19 @@ module _ (s : List ℕ) (at : ℕ) where
     unfolding headerAt versionAt
     header-version header q g = rw (h, g)
 
-module _ (τ : Terms) (s : List ℕ) (at : ℕ) where
+module _ (σ : Setting) (s : List ℕ) (at : ℕ) where
   -- ---- a typed primitive
 
-  pub code-bad : (f : Refusal) → codeAt s (at + 1) ≡ F.Fault f → typedPrimitiveAt τ s at ≡ H.Bad f
+  pub code-bad : (f : Refusal) → codeAt s (at + 1) ≡ F.Fault f → typedPrimitiveAt σ s at ≡ H.Bad f
   unfolding typedPrimitiveAt
   code-bad f h = rw h
 
   module _ (p : ℕ) (h : codeAt s (at + 1) ≡ F.End p) (code : PrimitiveCode) (c : code ≡ coded (primitiveOf (getD s (at + 1) 0))) where
-    pub value-bad : (f : Refusal) → valueAt (τ .setting) s code p ≡ F.Fault f → typedPrimitiveAt τ s at ≡ H.Bad f
+    pub value-bad : (f : Refusal) → valueAt σ s code p ≡ F.Fault f → typedPrimitiveAt σ s at ≡ H.Bad f
     unfolding typedPrimitiveAt
     value-bad f g = rw (h, ← c, g)
 
-    pub value-end : (e : ℕ) → valueAt (τ .setting) s code p ≡ F.End e → typedPrimitiveAt τ s at ≡ plain 0 e 0
+    pub value-end : (e : ℕ) → valueAt σ s code p ≡ F.End e → typedPrimitiveAt σ s at ≡ plain 0 e 0
     unfolding typedPrimitiveAt
     value-end e g = rw (h, ← c, g)
 

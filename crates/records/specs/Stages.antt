@@ -4,7 +4,7 @@ use mathlib.Core.Path.{_≡_, refl}
 use mathlib.Core.Bool.{Bool, true, false, _&&_}
 use mathlib.Core.List.{List}
 use lib.Dec.{eqb}
-use Rattle.format.specs.Terms.{Terms}
+use Rattle.format.specs.declared.Setting.{Setting}
 use Rattle.format.specs.declared.Refusal.{Refusal}
 use Rattle.format.specs.declared.Refusal.the-variants as R
 use Rattle.format.specs.declared.Number32.{Number32}
@@ -28,8 +28,8 @@ versionAt s root at =
     (u32At s at)
 
 -- the text that ends a record of this id
-unfoldable pub namedAt : Terms → List ℕ → ℕ → ℕ → Heading
-namedAt τ s id at = onField (λ end. plain id end 0) (nameAt (τ .setting) s at)
+unfoldable pub namedAt : Setting → List ℕ → ℕ → ℕ → Heading
+namedAt σ s id at = onField (λ end. plain id end 0) (nameAt σ s at)
 
 -- the LibraryId of a library is positive, and is used once
 abbrev pub freeLibrary : List Row → ℕ → Bool
@@ -66,12 +66,12 @@ module _ (s : List ℕ) (at : ℕ) where
   unfolding longNullsAt onJudged
   nulls-parts = refl
 
-module _ (τ : Terms) (s : List ℕ) (at : ℕ) where
+module _ (σ : Setting) (s : List ℕ) (at : ℕ) where
   module _ (rows : List Row) where
-    pub string-parts : stringRecordAt τ s rows at ≡ onJudged (goodId rows) R.BadId (namedAt τ s) (u32At s (at + 1))
+    pub string-parts : stringRecordAt σ s rows at ≡ onJudged (goodId rows) R.BadId (namedAt σ s) (u32At s (at + 1))
     unfolding stringRecordAt onJudged namedAt
     string-parts = refl
 
-    pub library-parts : libraryAt τ s rows at ≡ onJudged (freeLibrary rows) R.BadId (namedAt τ s) (u32At s (at + 1))
+    pub library-parts : libraryAt σ s rows at ≡ onJudged (freeLibrary rows) R.BadId (namedAt σ s) (u32At s (at + 1))
     unfolding libraryAt onJudged namedAt
     library-parts = refl

@@ -13,7 +13,6 @@ ghost use lib.ListN.{length};
 ghost use Rattle.format.specs.Rows.{roomOf, rowsOf};
 ghost use Rattle.format.specs.Records.{headerAt, stringRecordAt, typedPrimitiveAt, referenceAt, nullsAt, longNullsAt, libraryAt};
 ghost use Rattle.records.specs.Stages.{versionAt, namedAt, freeLibrary};
-ghost use Rattle.format.specs.Terms.{terms};
 
 // ---- parts of records
 
@@ -30,7 +29,7 @@ fn is_free_library(table: &[u32], n: usize, id: LibraryNo) -> bool
 
 // The text that ends a record of this id.
 fn named_at(s: &[u8], id: u32, at: usize, setting: Setting) -> Heading
-    ensures { λ r. ⌜ r ≡ namedAt (terms setting) (now (s .entry)) id at ⌝ }
+    ensures { λ r. ⌜ r ≡ namedAt setting (now (s .entry)) id at ⌝ }
 {
     match types::name_at(s, at, setting) {
         Field::End(end) => arrays::plain_head(id, end, 0),
@@ -76,7 +75,7 @@ pub fn header_at(s: &[u8], at: usize) -> Heading
 // 6, BinaryObjectString (2.5.7): ObjectId, text.
 pub fn string_record_at(s: &[u8], table: &[u32], n: usize, at: usize, setting: Setting) -> Heading
     requires { ⌜ (n ≤ roomOf (now table)) × (at < length (now s)) ⌝ }
-    ensures { λ r. ⌜ r ≡ stringRecordAt (terms setting) (now (s .entry)) (rowsOf n (now (table .entry))) at ⌝ }
+    ensures { λ r. ⌜ r ≡ stringRecordAt setting (now (s .entry)) (rowsOf n (now (table .entry))) at ⌝ }
 {
     let Number32::Value(id, p) = num::u32_at(s, at + 1) else {
         return Heading::Bad(Refusal::CutShort);
@@ -90,7 +89,7 @@ pub fn string_record_at(s: &[u8], table: &[u32], n: usize, at: usize, setting: S
 // 8, MemberPrimitiveTyped (2.5.1): a primitive code, then a value of it.
 pub fn typed_primitive_at(s: &[u8], at: usize, setting: Setting) -> Heading
     requires { ⌜ at < length (now s) ⌝ }
-    ensures { λ r. ⌜ r ≡ typedPrimitiveAt (terms setting) (now (s .entry)) at ⌝ }
+    ensures { λ r. ⌜ r ≡ typedPrimitiveAt setting (now (s .entry)) at ⌝ }
 {
     match codes::code_at(s, at + 1) {
         Field::End(p) => {
@@ -146,7 +145,7 @@ pub fn long_nulls_at(s: &[u8], at: usize) -> Heading
 // 12, BinaryLibrary (2.6.2): LibraryId, name. A second library of one number is refused, also where the names are equal.
 pub fn library_at(s: &[u8], table: &[u32], n: usize, at: usize, setting: Setting) -> Heading
     requires { ⌜ (n ≤ roomOf (now table)) × (at < length (now s)) ⌝ }
-    ensures { λ r. ⌜ r ≡ libraryAt (terms setting) (now (s .entry)) (rowsOf n (now (table .entry))) at ⌝ }
+    ensures { λ r. ⌜ r ≡ libraryAt setting (now (s .entry)) (rowsOf n (now (table .entry))) at ⌝ }
 {
     let Number32::Value(id, p) = num::u32_at(s, at + 1) else {
         return Heading::Bad(Refusal::CutShort);

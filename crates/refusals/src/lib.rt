@@ -28,6 +28,7 @@ fn name(r: Refusal) {
         Refusal::NoObject => say(b"NO OBJECT"),
         Refusal::OutFull => say(b"OUT FULL"),
         Refusal::NoSuchRow => say(b"NO SUCH ROW"),
+        Refusal::BadBook => say(b"BAD BOOK"),
     }
 }
 
@@ -55,6 +56,17 @@ fn reason(r: Refusal) {
         Refusal::NoObject => say(b"a reference names no object"),
         Refusal::OutFull => say(b"the tidy copy is longer than its output"),
         Refusal::NoSuchRow => say(b"the row has no text"),
+        Refusal::BadBook => say(
+            b"an entry that is cut short or has a bad first byte, prefix, text, type or code",
+        ),
+    }
+}
+
+// Where a place is counted: in the list or, of a bad book, in the book.
+fn counted(r: Refusal) {
+    match r {
+        Refusal::BadBook => say(b" of the book"),
+        _ => say(b""),
     }
 }
 
@@ -65,6 +77,7 @@ pub fn refusal(r: Refusal, place: usize) {
     name(r);
     say(b" at byte ");
     number(place as u64);
+    counted(r);
     say(b": ");
     reason(r);
     say(b"\n");

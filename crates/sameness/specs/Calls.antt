@@ -41,7 +41,7 @@ module _ (τ υ : Terms) (a b t c d : List ℕ) (q : Sameness) (u e f : List ℕ
       let h = as-long υ v in
       let x = tidy-written τ a t c rows w i (omega arith) (omega arith) _ _ _ (tidy-promised τ a t c _ _ _ refl refl refl) .0 in
       let y = tidy-written υ b t d others v j (omega arith) (omega arith) _ _ _ (tidy-promised υ b t d _ _ _ refl refl refl) .0 in
-      let same : Bool = sameBytes (copied a (readOf τ a (roomOf t))) (copied b (readOf υ b (roomOf t))) in
+      let same : Bool = sameBytes (copied (τ .book) a (readOf τ a (roomOf t))) (copied (υ .book) b (readOf υ b (roomOf t))) in
       ap isCompared (p .answer ∙ ap₂ (λ (x y : TidyAnswer). answerOf x y same) x y) ∙ either same
     where
       either : (z : Bool) → isCompared (pick z S.Same S.Different) ≡ true

@@ -48,23 +48,23 @@ is-same false e = absurd (let z : _≡_ {A = ℕ} 0 1 = cc in omega arith)
 
 -- ---- one tidying
 
--- the list s with this outcome has its tidy copy in an output that held d
-record Copy (s d : List ℕ) (o : Outcome) : Type 0 where
+-- the list s with this book and this outcome has its tidy copy in an output that held d
+record Copy (β s d : List ℕ) (o : Outcome) : Type 0 where
   pub rows : List Row
   pub reads : o ≡ accepted rows
-  pub roomy : length (copied s o) ≤ length d
-  pub small : length (tidyOf (says s rows)) ≤ 16777216
-  pub answer : tidyAnswer s d o ≡ Q.Written (length (copied s o))
-  pub output : tidyOutput s d o ≡ laid (copied s o) d
+  pub roomy : length (copied β s o) ≤ length d
+  pub small : length (tidyOf (says β s rows)) ≤ 16777216
+  pub answer : tidyAnswer β s d o ≡ Q.Written (length (copied β s o))
+  pub output : tidyOutput β s d o ≡ laid (copied β s o) d
 
 fitting : (f : Bool) (n : ℕ) → isWritten (pick f (Q.Written n) (Q.OutFull n)) ≡ true → f ≡ true
 fitting true n h = refl
 fitting false n h = apart h
 
-copy-of : (s d : List ℕ) (o : Outcome) → isWritten (tidyAnswer s d o) ≡ true → Copy s d o
+copy-of : (β s d : List ℕ) (o : Outcome) → isWritten (tidyAnswer β s d o) ≡ true → Copy β s d o
 unfolding tidyAnswer tidyOutput
-copy-of s d (accepted rows) h =
-    let c = tidyOf (says s rows) in
+copy-of β s d (accepted rows) h =
+    let c = tidyOf (says β s rows) in
     let f = fitting (fits c d) (length c) h in
     let b = both-of (leb (length c) (length d)) (leb (length c) 16777216) f in
     record {
@@ -75,37 +75,37 @@ copy-of s d (accepted rows) h =
       answer = ap (λ (x : Bool). pick x (Q.Written (length c)) (Q.OutFull (length c))) f;
       output = ap (λ (x : Bool). pick x (laid c d) d) f;
     }
-copy-of s d (refused r p) h = apart h
+copy-of β s d (refused r p) h = apart h
 
 module _ (τ : Terms) (s t d u e : List ℕ) (p : TidyAnswer) (w : TidyPromise τ s t d p u e) (n : ℕ) (h : p ≡ Q.Written n) where
-  copy-in : Copy s d (readOf τ s (roomOf t))
-  copy-in = copy-of s d (readOf τ s (roomOf t)) (sym (ap isWritten (w .answer)) ∙ ap isWritten h)
+  copy-in : Copy (τ .book) s d (readOf τ s (roomOf t))
+  copy-in = copy-of (τ .book) s d (readOf τ s (roomOf t)) (sym (ap isWritten (w .answer)) ∙ ap isWritten h)
 
-  long : n ≡ length (copied s (readOf τ s (roomOf t)))
+  long : n ≡ length (copied (τ .book) s (readOf τ s (roomOf t)))
   long = let k = copy-in .answer in cc
 
   pub copy-within : length e ≡ length d → n ≤ length e
   copy-within l = omega (arith, long, copy-in .roomy, l)
 
   -- the front of the output, as the code has it, is the copy
-  front : take (n - 0) (drop 0 e) ≡ copied s (readOf τ s (roomOf t))
+  front : take (n - 0) (drop 0 e) ≡ copied (τ .book) s (readOf τ s (roomOf t))
   unfolding laid
   front =
-      let m : n - 0 ≡ length (copied s (readOf τ s (roomOf t))) = omega (arith, long) in
-      ap₂ (λ (j : ℕ) (x : List ℕ). take j x) m (w .output ∙ copy-in .output) ∙ take-append-seam (copied s (readOf τ s (roomOf t))) _
+      let m : n - 0 ≡ length (copied (τ .book) s (readOf τ s (roomOf t))) = omega (arith, long) in
+      ap₂ (λ (j : ℕ) (x : List ℕ). take j x) m (w .output ∙ copy-in .output) ∙ take-append-seam (copied (τ .book) s (readOf τ s (roomOf t))) _
 
 -- ---- the second list against a copy of the first
 
 -- a list b is tidied with a table that held t into an output that held d, which hold u and f afterwards, and its copy is compared with this one
 pub record Against (τ : Terms) (copy b t d u f : List ℕ) (q : Sameness) : Type 0 where
   pub answer : q
-      ≡ answerOf (Q.Written (length copy)) (tidyAnswer b d (readOf τ b (roomOf t))) (sameBytes copy (copied b (readOf τ b (roomOf t))))
-  pub table : u ≡ tidyTable (length t) b d (readOf τ b (roomOf t))
-  pub second : f ≡ tidyOutput b d (readOf τ b (roomOf t))
+      ≡ answerOf (Q.Written (length copy)) (tidyAnswer (τ .book) b d (readOf τ b (roomOf t))) (sameBytes copy (copied (τ .book) b (readOf τ b (roomOf t))))
+  pub table : u ≡ tidyTable (length t) (τ .book) b d (readOf τ b (roomOf t))
+  pub second : f ≡ tidyOutput (τ .book) b d (readOf τ b (roomOf t))
 
 module _ (τ : Terms) (copy b t d u f : List ℕ) (p : TidyAnswer) (w : TidyPromise τ b t d p u f) where
   abbrev answers : TidyAnswer → Sameness
-  answers x = answerOf (Q.Written (length copy)) x (sameBytes copy (copied b (readOf τ b (roomOf t))))
+  answers x = answerOf (Q.Written (length copy)) x (sameBytes copy (copied (τ .book) b (readOf τ b (roomOf t))))
 
   ends : (x : TidyAnswer) → p ≡ x → (q : Sameness) → q ≡ answers x → Against τ copy b t d u f q
   ends x h q e = record { answer = e ∙ ap answers (sym h ∙ w .answer); table = w .table; second = w .output }
@@ -144,6 +144,7 @@ number-not-0 R.NoRoot = refl
 number-not-0 R.NoObject = refl
 number-not-0 R.OutFull = refl
 number-not-0 R.NoSuchRow = refl
+number-not-0 R.BadBook = refl
 
 -- the reply of an answer is that of the tidying that ends it
 ended-by : (p q : TidyAnswer) (z : Bool) → sameReply (answerOf p q z) ≡ ofComparing (tidyReply p) (tidyReply q)
@@ -167,32 +168,32 @@ both-written (Q.OutFull m) q z h = apart h
 module _ (τ υ : Terms) (a b t c d : List ℕ) where
   -- the answer by what came of the first list, where the second is tidied with a table of k words
   abbrev answerBy : ℕ → TidyAnswer → Sameness
-  answerBy k x = answerOf x (tidyAnswer b d (readOf υ b (k / 8))) (sameBytes (copied a (readOf τ a (roomOf t))) (copied b (readOf υ b (k / 8))))
+  answerBy k x = answerOf x (tidyAnswer (υ .book) b d (readOf υ b (k / 8))) (sameBytes (copied (τ .book) a (readOf τ a (roomOf t))) (copied (υ .book) b (readOf υ b (k / 8))))
 
   abbrev Answer : Sameness → Type 0
-  Answer q = q ≡ answerBy (length t) (tidyAnswer a c (readOf τ a (roomOf t)))
+  Answer q = q ≡ answerBy (length t) (tidyAnswer (τ .book) a c (readOf τ a (roomOf t)))
 
   -- and its reply
-  numbered : sameReply (answerBy (length t) (tidyAnswer a c (readOf τ a (roomOf t)))) ≡ ofComparing (ofTidying a c (readOf τ a (roomOf t))) (ofTidying b d (readOf υ b (roomOf t)))
+  numbered : sameReply (answerBy (length t) (tidyAnswer (τ .book) a c (readOf τ a (roomOf t)))) ≡ ofComparing (ofTidying (τ .book) a c (readOf τ a (roomOf t))) (ofTidying (υ .book) b d (readOf υ b (roomOf t)))
   numbered =
-      ended-by (tidyAnswer a c (readOf τ a (roomOf t))) (tidyAnswer b d (readOf υ b (roomOf t))) _
+      ended-by (tidyAnswer (τ .book) a c (readOf τ a (roomOf t))) (tidyAnswer (υ .book) b d (readOf υ b (roomOf t))) _
       ∙ ap₂ ofComparing (tidy-promised τ a t c _ _ _ refl refl refl .numbers) (tidy-promised υ b t d _ _ _ refl refl refl .numbers)
 
   -- an answer that compares is right about what the lists mean
-  right : Bytes a → Bytes b → (q : Sameness) → Answer q → isCompared q ≡ true → Exact τ υ a b (roomOf t) q
-  right byte octet q e h =
+  right : Bytes (τ .book) → Bytes a → Bytes (υ .book) → Bytes b → (q : Sameness) → Answer q → isCompared q ≡ true → Exact τ υ a b (roomOf t) q
+  right booked byte other octet q e h =
       let o = readOf τ a (roomOf t) in
       let r = readOf υ b (roomOf t) in
-      let equal = sameBytes (copied a o) (copied b r) in
-      let w = both-written (tidyAnswer a c o) (tidyAnswer b d r) equal (sym (ap isCompared e) ∙ h) in
-      let x = copy-of a c o (w .0) in
-      let y = copy-of b d r (w .1) in
-      let one = accepted-exactly τ a byte (roomOf t) (x .rows) .0 (x .reads) in
-      let two = accepted-exactly υ b octet (roomOf t) (y .rows) .0 (y .reads) in
+      let equal = sameBytes (copied (τ .book) a o) (copied (υ .book) b r) in
+      let w = both-written (tidyAnswer (τ .book) a c o) (tidyAnswer (υ .book) b d r) equal (sym (ap isCompared e) ∙ h) in
+      let x = copy-of (τ .book) a c o (w .0) in
+      let y = copy-of (υ .book) b d r (w .1) in
+      let one = accepted-exactly τ a booked byte (roomOf t) (x .rows) .0 (x .reads) in
+      let two = accepted-exactly υ b other octet (roomOf t) (y .rows) .0 (y .reads) in
       let say = same-exactly τ a (x .rows) (one .0) (x .small) υ b (y .rows) (two .0) (y .small) in
       let mean = same-meant τ υ (one .0) (two .0) in
-      let k = ap (copied a) (x .reads) in
-      let l = ap (copied b) (y .reads) in
+      let k = ap (copied (τ .book) a) (x .reads) in
+      let l = ap (copied (υ .book) b) (y .reads) in
       let z : q ≡ pick equal S.Same S.Different = e ∙ ap₂ (λ (i j : TidyAnswer). answerOf i j equal) (x .answer) (y .answer) in
       record {
         rows = x .rows;
@@ -202,22 +203,22 @@ module _ (τ υ : Terms) (a b t c d : List ℕ) where
         first-fits = one .1;
         second-fits = two .1;
         exactly = (
-          λ i. mean .0 (say .1 (sym k ∙ (same-eq (copied a o) (copied b r) (is-same equal (sym z ∙ i)) ∙ l))),
-          λ i. z ∙ ap (λ (j : Bool). pick j S.Same S.Different) (true-same (copied a o) (copied b r) (k ∙ (say .0 (mean .1 i) ∙ sym l))),
+          λ i. mean .0 (say .1 (sym k ∙ (same-eq (copied (τ .book) a o) (copied (υ .book) b r) (is-same equal (sym z ∙ i)) ∙ l))),
+          λ i. z ∙ ap (λ (j : Bool). pick j S.Same S.Different) (true-same (copied (τ .book) a o) (copied (υ .book) b r) (k ∙ (say .0 (mean .1 i) ∙ sym l))),
         );
       }
 
   module _ (u e : List ℕ) (p : TidyAnswer) (w : TidyPromise τ a t c p u e) where
     abbrev tableBy : ℕ → TidyAnswer → List ℕ
-    tableBy k x = pick (isWritten x) (tidyTable k b d (readOf υ b (k / 8))) (tidyTable (length t) a c (readOf τ a (roomOf t)))
+    tableBy k x = pick (isWritten x) (tidyTable k (υ .book) b d (readOf υ b (k / 8))) (tidyTable (length t) (τ .book) a c (readOf τ a (roomOf t)))
 
     abbrev secondBy : ℕ → TidyAnswer → List ℕ
-    secondBy k x = pick (isWritten x) (tidyOutput b d (readOf υ b (k / 8))) d
+    secondBy k x = pick (isWritten x) (tidyOutput (υ .book) b d (readOf υ b (k / 8))) d
 
     answered : (x : TidyAnswer) → p ≡ x → (v f : List ℕ) (q : Sameness) → q ≡ answerBy (length t) x
         → (Answer q → isCompared q ≡ true → Exact τ υ a b (roomOf t) q) → v ≡ tableBy (length t) x → f ≡ secondBy (length t) x → ComparePromise τ υ a b t c d q v e f
     answered x h v f q y g i j =
-        let k : x ≡ tidyAnswer a c (readOf τ a (roomOf t)) = sym h ∙ w .answer in
+        let k : x ≡ tidyAnswer (τ .book) a c (readOf τ a (roomOf t)) = sym h ∙ w .answer in
         let z : Answer q = y ∙ ap (answerBy (length t)) k in
         record {
           answer = z;
@@ -229,17 +230,17 @@ module _ (τ υ : Terms) (a b t c d : List ℕ) where
         }
 
     -- the table is as long as it was, so the second reading has the same room
-    pub first-written : Bytes a → Bytes b → length u ≡ length t → (m : ℕ) → p ≡ Q.Written m → (v f : List ℕ) (q : Sameness)
+    pub first-written : Bytes (τ .book) → Bytes a → Bytes (υ .book) → Bytes b → length u ≡ length t → (m : ℕ) → p ≡ Q.Written m → (v f : List ℕ) (q : Sameness)
         → Against υ (take (m - 0) (drop 0 e)) b u d v f q → ComparePromise τ υ a b t c d q v e f
-    first-written byte octet l m h v f q g =
+    first-written booked byte other octet l m h v f q g =
         let r = readOf υ b (roomOf u) in
         let i = front τ a t c u e p w m h in
         let n = ap Q.Written (sym (long τ a t c u e p w m h)) in
         answered (Q.Written m) h v f q
         (g .answer
-        ∙ (ap (λ (x : List ℕ). answerOf (Q.Written (length x)) (tidyAnswer b d r) (sameBytes x (copied b r))) i
+        ∙ (ap (λ (x : List ℕ). answerOf (Q.Written (length x)) (tidyAnswer (υ .book) b d r) (sameBytes x (copied (υ .book) b r))) i
         ∙ ap₂ answerBy l n))
-        (right byte octet q) (g .table ∙ ap (λ (k : ℕ). tableBy k (Q.Written m)) l) (g .second ∙ ap (λ (k : ℕ). secondBy k (Q.Written m)) l)
+        (right booked byte other octet q) (g .table ∙ ap (λ (k : ℕ). tableBy k (Q.Written m)) l) (g .second ∙ ap (λ (k : ℕ). secondBy k (Q.Written m)) l)
 
     -- where the first list has no copy, the second is not tidied
     pub first-refused : (r : Refusal) (x : ℕ) → p ≡ Q.Refused r x → ComparePromise τ υ a b t c d (S.FirstRefused r x) u e d

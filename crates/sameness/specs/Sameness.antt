@@ -21,10 +21,10 @@ use Rattle.format.specs.Replies.{sameReply, ofTidying, ofComparing}
 use Rattle.format.specs.declared.Sameness.{Sameness}
 use Rattle.format.specs.declared.Sameness.the-variants as S
 
--- the tidy copy of a stream with this outcome; a refused one has none
-abbrev pub copied : List ℕ → Outcome → List ℕ
-copied s (accepted rows) = tidyOf (says s rows)
-copied s (refused r p) = []
+-- the tidy copy of a stream with this book and this outcome; a refused one has none
+abbrev pub copied : (β s : List ℕ) → Outcome → List ℕ
+copied β s (accepted rows) = tidyOf (says β s rows)
+copied β s (refused r p) = []
 
 -- the answer from both tidyings and whether the copies are the same; the first list's trouble goes before the second's
 abbrev pub answerOf : TidyAnswer → TidyAnswer → Bool → Sameness
@@ -62,12 +62,12 @@ pub record Exact (τ υ : Terms) (a b : List ℕ) (room : ℕ) (q : Sameness) : 
 -- second list is tidied where the first has its copy
 pub record ComparePromise (τ υ : Terms) (a b t c d : List ℕ) (q : Sameness) (w e f : List ℕ) : Type 0 where
   pub answer : q
-      ≡ answerOf (tidyAnswer a c (readOf τ a (roomOf t))) (tidyAnswer b d (readOf υ b (roomOf t)))
-      (sameBytes (copied a (readOf τ a (roomOf t))) (copied b (readOf υ b (roomOf t))))
-  pub numbers : sameReply q ≡ ofComparing (ofTidying a c (readOf τ a (roomOf t))) (ofTidying b d (readOf υ b (roomOf t)))
+      ≡ answerOf (tidyAnswer (τ .book) a c (readOf τ a (roomOf t))) (tidyAnswer (υ .book) b d (readOf υ b (roomOf t)))
+      (sameBytes (copied (τ .book) a (readOf τ a (roomOf t))) (copied (υ .book) b (readOf υ b (roomOf t))))
+  pub numbers : sameReply q ≡ ofComparing (ofTidying (τ .book) a c (readOf τ a (roomOf t))) (ofTidying (υ .book) b d (readOf υ b (roomOf t)))
   pub exact : isCompared q ≡ true → Exact τ υ a b (roomOf t) q
   pub table : w
-      ≡ pick (isWritten (tidyAnswer a c (readOf τ a (roomOf t)))) (tidyTable (length t) b d (readOf υ b (roomOf t)))
-      (tidyTable (length t) a c (readOf τ a (roomOf t)))
-  pub first : e ≡ tidyOutput a c (readOf τ a (roomOf t))
-  pub second : f ≡ pick (isWritten (tidyAnswer a c (readOf τ a (roomOf t)))) (tidyOutput b d (readOf υ b (roomOf t))) d
+      ≡ pick (isWritten (tidyAnswer (τ .book) a c (readOf τ a (roomOf t)))) (tidyTable (length t) (υ .book) b d (readOf υ b (roomOf t)))
+      (tidyTable (length t) (τ .book) a c (readOf τ a (roomOf t)))
+  pub first : e ≡ tidyOutput (τ .book) a c (readOf τ a (roomOf t))
+  pub second : f ≡ pick (isWritten (tidyAnswer (τ .book) a c (readOf τ a (roomOf t)))) (tidyOutput (υ .book) b d (readOf υ b (roomOf t))) d

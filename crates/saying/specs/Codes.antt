@@ -12,9 +12,9 @@ use Rattle.format.specs.declared.SlotType.{SlotType}
 use Rattle.format.specs.declared.SlotType.the-variants as S
 use Rattle.format.specs.declared.Row.{Row}
 use Rattle.format.specs.Rows.{blank}
-use Rattle.format.specs.Contents.{Detail, primitive, text, object, system, class, objects, texts, primitives, Member, slotFor, Rec}
+use Rattle.format.specs.Contents.{Detail, primitive, text, object, system, class, objects, texts, primitives, Member, slotFor, Rec, Class}
 use Rattle.format.specs.Grammar.{takesRecords, Entry, Array, of-objects, of-strings, of-primitives, of-any, of-values}
-use Rattle.format.specs.Says.{Class, classFrom, classRowOf, codeOf, codeIn, valueCode}
+use Rattle.format.specs.Says.{classFrom, classRowOf, codeOf, codeIn, valueCode}
 use Rattle.laws.specs.Tests.{apart}
 use Rattle.saying.specs.Good.{slotsOf}
 use Rattle.saying.specs.Order.{item-there}
@@ -85,16 +85,16 @@ codes-members ms = codes-from (codeIn ms) 0 ms (λ k. ap (codeIn ms) (omega arit
 
 -- ---- by the row of the object
 
-module _ (τ : Terms) (s : List ℕ) (rows : List Row) where
+module _ (τ : Terms) (β s : List ℕ) (rows : List Row) where
   -- the class of the object in the row before this number
   abbrev pub ownerClass : ℕ → Class
-  ownerClass own = classFrom s rows (classRowOf rows (getD rows (own - 1) blank))
+  ownerClass own = classFrom β s rows (classRowOf rows (getD rows (own - 1) blank))
 
   -- the slots of the object in the row before this number that are left have the codes of its class
   abbrev pub Codes : ℕ → ℕ → List SlotType → Type 0
   Codes own slot ts = CodesAre (codeIn (ownerClass own .members)) slot ts
 
-  pub value-code : (w : Row) (c : PrimitiveCode) → codeIn (ownerClass (w .owner) .members) (w .slot) ≡ c → valueCode s rows w ≡ c
+  pub value-code : (w : Row) (c : PrimitiveCode) → codeIn (ownerClass (w .owner) .members) (w .slot) ≡ c → valueCode β s rows w ≡ c
   unfolding valueCode
   value-code w c e = e
 
@@ -119,5 +119,5 @@ module _ (τ : Terms) (s : List ℕ) (rows : List Row) where
     own-row : getD rows (suc row - 1) blank ≡ w
     own-row = let z : suc row - 1 ≡ row = omega arith in ap (λ (k : ℕ). getD rows k blank) z ∙ item-there rows is w row e blank
 
-    pub row-class : ownerClass (suc row) ≡ classFrom s rows (classRowOf rows w)
-    row-class = ap (λ (r : Row). classFrom s rows (classRowOf rows r)) own-row
+    pub row-class : ownerClass (suc row) ≡ classFrom β s rows (classRowOf rows w)
+    row-class = ap (λ (r : Row). classFrom β s rows (classRowOf rows r)) own-row

@@ -9,9 +9,8 @@ use lib.Dec.{eqb}
 use borrow.Author.Tests.{eqb-false, eq-eqb, ne-eqb}
 use Rattle.format.specs.declared.SlotType.{SlotType}
 use Rattle.format.specs.Bytes.{pick}
-use Rattle.format.specs.Contents.{Rec, header, classById, systemClass, libraryClass, string, array, typedPrimitive, reference, null, nulls, manyNulls, end, library, primitiveArray, objectArray, stringArray, value}
+use Rattle.format.specs.Contents.{Rec, header, classById, systemClass, libraryClass, string, array, typedPrimitive, reference, null, nulls, manyNulls, end, library, primitiveArray, objectArray, stringArray, value, Class}
 use Rattle.format.specs.Grammar.{Entry, aClass, another, aLibrary, used, known, classed, classOf, typesOf}
-use Rattle.format.specs.Says.{Class}
 use Rattle.format.specs.Tidy.{sameClass, numberIn}
 use Rattle.laws.specs.Tests.{class-eq}
 use Rattle.laws.specs.Numbers.{number-more, number-none}

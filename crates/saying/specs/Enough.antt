@@ -12,9 +12,9 @@ use Rattle.format.specs.Terms.{Terms}
 use Rattle.format.specs.declared.SlotType.{SlotType}
 use Rattle.format.specs.Bytes.{pick}
 use Rattle.format.specs.Rows.{isObject}
-use Rattle.format.specs.Contents.{Rec, array, end}
+use Rattle.format.specs.Contents.{Rec, array, end, Class}
 use Rattle.format.specs.Grammar.{Positive, Entry, Array, of-objects, of-strings, of-primitives, of-any, of-values, idOf, refOf, idsOf, refsOf, among}
-use Rattle.format.specs.Says.{Class, What, anObject, aString, anArray, aPrimitive, aReference, aNull, aPrimitiveArray, anObjectArray, aStringArray, aValue, Node, codeOf}
+use Rattle.format.specs.Says.{What, anObject, aString, anArray, aPrimitive, aReference, aNull, aPrimitiveArray, anObjectArray, aStringArray, aValue, Node, codeOf}
 use Rattle.format.specs.Tidy.{valuesBy, sameClass, numberIn, Progress, nothing, Libraries, libraryRecords, allEntered, detailNeeds, classNeeds, detailBy, classBy, objectBy, afterObject, recordsOf, afterWhat}
 use Rattle.laws.specs.Tests.{apart}
 use Rattle.laws.specs.Numbers.{afterNodes}

@@ -13,8 +13,8 @@ use Rattle.format.specs.declared.SlotType.{SlotType}
 use Rattle.format.specs.declared.Row.{Row}
 use Rattle.format.specs.Bytes.{pick}
 use Rattle.format.specs.Rows.{blank, findFrom, libraryRow}
-use Rattle.format.specs.Contents.{Prefixed, Detail, primitive, text, object, system, class, objects, texts, primitives, Member}
-use Rattle.format.specs.Says.{From, Class, textFrom, libraryName, classFrom}
+use Rattle.format.specs.Contents.{Prefixed, Detail, primitive, text, object, system, class, objects, texts, primitives, Member, From, Class}
+use Rattle.format.specs.Says.{textFrom, libraryName, classFrom}
 use Rattle.format.specs.Grammar.{Characters, Entry, aClass, another, aLibrary, known, classed, classOf, GoodDetail, Members, no-more, member, ClassInfo}
 use Rattle.format.specs.Meant.{named, namedAll, classOfAll}
 use Rattle.saying.specs.Good.{GoodType, GoodMembers, GoodFrom, GoodClass, slotsOf}
@@ -38,7 +38,7 @@ unknown-both i (aLibrary j ∷ es) fs e = go (eqb j i) e (unknown-both i es fs)
 module _ (τ : Terms) (s : List ℕ) (rows : List Row) where
   -- the class in the row before this number
   abbrev pub classAt : ℕ → Class
-  classAt row = classFrom s rows (getD rows (row - 1) blank)
+  classAt row = classFrom (τ .book) s rows (getD rows (row - 1) blank)
 
   pub record ClassAt (row : ℕ) (ts : List SlotType) : Type 0 where
     pub good : GoodClass (classAt row)

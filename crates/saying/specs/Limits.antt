@@ -11,10 +11,10 @@ use Rattle.format.specs.Terms.{Terms}
 use Rattle.format.specs.declared.SlotType.{SlotType}
 use Rattle.format.specs.declared.SlotType.the-variants as S
 use Rattle.format.specs.Bytes.{pick, sameBytes}
-use Rattle.format.specs.Contents.{shortest, Detail, primitive, text, object, system, class, objects, texts, primitives, Member, slotFor}
+use Rattle.format.specs.Contents.{shortest, Detail, primitive, text, object, system, class, objects, texts, primitives, Member, slotFor, From, theSystem, theLibrary, Class}
 use Rattle.format.specs.Grammar.{Positive, Entry, LibraryId, GoodDetail, Members, Characters, ClassInfo, typesOf, product, takesRecords}
 use Rattle.format.specs.Grammar as G
-use Rattle.format.specs.Says.{From, theSystem, theLibrary, Class, What, anObject, aString, anArray, aPrimitive, aReference, aNull, aPrimitiveArray, anObjectArray, aStringArray, aValue, Node}
+use Rattle.format.specs.Says.{What, anObject, aString, anArray, aPrimitive, aReference, aNull, aPrimitiveArray, anObjectArray, aStringArray, aValue, Node}
 use Rattle.format.specs.Tidy.{sameClass, numberIn, Progress, Libraries, entered, allEntered, detailNeeds, membersNeed, fromNeeds, classNeeds, detailBy, membersBy, afterObject, afterWhat}
 use Rattle.laws.specs.Numbers.{afterNodes}
 use Rattle.saying.specs.Good.{GoodType, GoodMembers, no-more, member, GoodFrom, of-library, GoodClass, slotsOf, Place, place, shutBy, shut, filledOne, openedIn, Allowed, top-object, top-string, top-objects, top-strings, top-primitives, top-array, top-values, in-object, in-string, in-primitive, in-reference, in-null, in-value, countOf, itemSlots, openAfter, Fits, the-end, a-node}

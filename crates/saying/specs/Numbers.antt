@@ -9,7 +9,8 @@ use lib.ListN.{length, length-append}
 use lib.Dec.{eqb}
 use borrow.Author.Tests.{eq-eqb, ne-eqb}
 use Rattle.format.specs.Bytes.{pick, sameBytes}
-use Rattle.format.specs.Says.{theSystem, Class, What, anObject, aString, anArray, aPrimitive, aReference, aNull, aPrimitiveArray, anObjectArray, aStringArray, aValue, Node}
+use Rattle.format.specs.Contents.{theSystem, Class}
+use Rattle.format.specs.Says.{What, anObject, aString, anArray, aPrimitive, aReference, aNull, aPrimitiveArray, anObjectArray, aStringArray, aValue, Node}
 use Rattle.format.specs.Tidy.{sameClass, numberIn, Progress, nothing, Libraries, entered, allEntered, detailNeeds, classNeeds, afterObject, counted, afterWhat}
 use Rattle.same.specs.Laws.{same-eq}
 use Rattle.laws.specs.Tests.{class-eq}

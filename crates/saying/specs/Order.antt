@@ -50,14 +50,14 @@ module _ (rows is : List Row) (w : Row) (row : ℕ) (e : drop row rows ≡ w ∷
       order-next rows row (place-inside rows is w row e)
       ∙ ap (λ (y : Row). orderOf rows row + pick (isObject (y .kind)) 1 0) (item-there rows is w row e blank)
 
-  pub nodes-more : (s : List ℕ) → nodesFrom s rows (drop row rows) ≡ nodesOf s rows w ++ nodesFrom s rows (drop (suc row) rows)
+  pub nodes-more : (β s : List ℕ) → nodesFrom β s rows (drop row rows) ≡ nodesOf β s rows w ++ nodesFrom β s rows (drop (suc row) rows)
   unfolding nodesFrom
-  nodes-more s = rw (e, items-after rows is w row e)
+  nodes-more β s = rw (e, items-after rows is w row e)
 
 -- no row is left
-pub order-end : (rows : List Row) (n : ℕ) → drop n rows ≡ [] → (s : List ℕ) → (orderOf rows n ≡ objectsIn rows) × (nodesFrom s rows (drop n rows) ≡ [])
+pub order-end : (rows : List Row) (n : ℕ) → drop n rows ≡ [] → (β s : List ℕ) → (orderOf rows n ≡ objectsIn rows) × (nodesFrom β s rows (drop n rows) ≡ [])
 unfolding orderOf nodesFrom
-order-end rows n e s =
+order-end rows n e β s =
     let l : length rows ≤ n = omega (arith, simp length-drop at (ap length e)) in
     (rw (take-all n rows l), rw e)
 

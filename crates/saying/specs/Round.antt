@@ -10,8 +10,8 @@ use lib.Dec.{eqb, leb}
 use borrow.Author.Tests.{eqb-true}
 use Rattle.format.specs.declared.SlotType.{SlotType}
 use Rattle.format.specs.Bytes.{pick, sameBytes}
-use Rattle.format.specs.Contents.{shortest, textsOf, Detail, primitive, text, object, system, class, objects, texts, primitives, Member, Rec, null, library}
-use Rattle.format.specs.Says.{From, theSystem, theLibrary, Class, What, anObject, aString, anArray, aPrimitive, aReference, aNull, aPrimitiveArray, anObjectArray, aStringArray, aValue, Node, node, codeOf, spread}
+use Rattle.format.specs.Contents.{shortest, textsOf, Detail, primitive, text, object, system, class, objects, texts, primitives, Member, Rec, null, library, From, theSystem, theLibrary, Class}
+use Rattle.format.specs.Says.{What, anObject, aString, anArray, aPrimitive, aReference, aNull, aPrimitiveArray, anObjectArray, aStringArray, aValue, Node, node, codeOf, spread}
 use Rattle.format.specs.Tidy.{valuesBy, sameClass, numberIn, Progress, nothing, Libraries, libraryRecords, allEntered, entered, detailNeeds, membersNeed, fromNeeds, classNeeds, detailBy, membersBy, classBy, objectBy, afterObject, recordsOf, afterWhat, runOf}
 use Rattle.fields.specs.Judged.{picked}
 use Rattle.laws.specs.Tests.{class-of}

@@ -7,9 +7,9 @@ use Rattle.format.specs.Terms.{Terms}
 use Rattle.format.specs.declared.SlotType.{SlotType}
 use Rattle.format.specs.declared.Row.{Row}
 use Rattle.format.specs.Bytes.{pick}
-use Rattle.format.specs.Contents.{Rec, header, classById, systemClass, libraryClass, string, array, typedPrimitive, reference, null, nulls, manyNulls, end, library, primitiveArray, objectArray, stringArray, value, enc}
+use Rattle.format.specs.Contents.{Rec, header, classById, systemClass, libraryClass, string, array, typedPrimitive, reference, null, nulls, manyNulls, end, library, primitiveArray, objectArray, stringArray, value, enc, Class}
 use Rattle.format.specs.Grammar.{Entry}
-use Rattle.format.specs.Says.{Class, libraryName, orderOf, spread, isNulls, nodesOf}
+use Rattle.format.specs.Says.{libraryName, orderOf, spread, isNulls, nodesOf}
 use Rattle.laws.specs.Fields.{positive-bits}
 use Rattle.saying.specs.There.{own-members, own-array, kindOf, CountIs, RowOf, GoodRec, LinkIs, nodes-there}
 use Rattle.saying.specs.Shown.{shown, saidIn, saidAt, saidNodes}
@@ -52,7 +52,7 @@ module _ (name : ℕ → List ℕ) (of : ℕ → Class) (order : ℕ → ℕ) (o
   said-row (stringArray i m) c = refl
   said-row (value b v) c = refl
 
-pub row-said : (τ : Terms) (s : List ℕ) (rows : List Row) (w : Row) (of : ℕ → Class) (order : ℕ → ℕ) (q : List ℕ) (at : ℕ) (r : Rec) → drop at s ≡ enc r ++ q → RowOf r at w
-    → GoodRec τ r → LinkIs s rows of order r w → nodesOf s rows w ≡ saidNodes (libraryName s rows) of order (shown r (orderOf rows (w .owner)) (w .slot))
-row-said τ s rows w of order q at r d g h l =
-    nodes-there τ s rows w of order q at r d g h l ∙ said-row (libraryName s rows) of order (orderOf rows (w .owner)) (w .slot) (w .count) r (g .count-is)
+pub row-said : (τ : Terms) (β s : List ℕ) (rows : List Row) (w : Row) (of : ℕ → Class) (order : ℕ → ℕ) (q : List ℕ) (at : ℕ) (r : Rec) → drop at s ≡ enc r ++ q → RowOf r at w
+    → GoodRec τ r → LinkIs β s rows of order r w → nodesOf β s rows w ≡ saidNodes (libraryName s rows) of order (shown r (orderOf rows (w .owner)) (w .slot))
+row-said τ β s rows w of order q at r d g h l =
+    nodes-there τ β s rows w of order q at r d g h l ∙ said-row (libraryName s rows) of order (orderOf rows (w .owner)) (w .slot) (w .count) r (g .count-is)

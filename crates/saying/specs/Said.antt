@@ -1,8 +1,8 @@
 -- What a record says by itself, given the names of libraries, the classes of objects and the order of objects by their numbers.
 use Prim.Native.Nat.{ℕ}
 use mathlib.Core.List.{List, [], _∷_}
-use Rattle.format.specs.Contents.{Rec}
-use Rattle.format.specs.Says.{Class, What}
+use Rattle.format.specs.Contents.{Rec, Class}
+use Rattle.format.specs.Says.{What}
 use Rattle.format.specs.Meant.{Sense, silent, opens, item, empties, senseOf}
 
 abbrev pub whatsBy : Sense → List What

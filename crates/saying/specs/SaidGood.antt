@@ -14,9 +14,9 @@ use Rattle.format.specs.declared.SlotType.the-variants as S
 use Rattle.format.specs.declared.Row.{Row}
 use Rattle.format.specs.Bytes.{pick}
 use Rattle.format.specs.Rows.{blank, isObject, findFrom, objectRow, withLink, linkOf, linked}
-use Rattle.format.specs.Contents.{Prefixed, textsOf, Detail, primitive, text, object, system, class, objects, texts, primitives, Member, slotFor, Rec, header, classById, systemClass, libraryClass, string, typedPrimitive, reference, null, nulls, manyNulls, end, library, value, enc, encs}
+use Rattle.format.specs.Contents.{Prefixed, textsOf, Detail, primitive, text, object, system, class, objects, texts, primitives, Member, slotFor, Rec, header, classById, systemClass, libraryClass, string, typedPrimitive, reference, null, nulls, manyNulls, end, library, value, enc, encs, theSystem, theLibrary, Class}
 use Rattle.format.specs.Grammar.{Characters, Name, Value, Values, ClassInfo, LibraryId, typesOf, classed, classOf, product, Array, of-objects, of-strings, of-primitives, of-any, of-values, Object, system-class, library-class, class-by-id, Body, hollow, filled, Slots, full, member-value, an-object, a-string, a-typed-primitive, a-reference, a-null, a-run, a-long-run, a-library, Objects, the-end, one-object, one-string, one-array, one-library, Entry, aClass, another, aLibrary, known, Cur, cur, size, rowOf, refOf, refsOf, idsOf, among, Reading, takesRecords, allTake}
-use Rattle.format.specs.Says.{theSystem, theLibrary, Class, What, anObject, aString, anArray, aPrimitive, aReference, aNull, aPrimitiveArray, anObjectArray, aStringArray, aValue, Node, node, libraryName, classFrom, objectsIn, orderOf, spread, isNulls, codeIn, classRowOf, nodesOf, nodesFrom, says}
+use Rattle.format.specs.Says.{What, anObject, aString, anArray, aPrimitive, aReference, aNull, aPrimitiveArray, anObjectArray, aStringArray, aValue, Node, node, libraryName, classFrom, objectsIn, orderOf, spread, isNulls, codeIn, classRowOf, nodesOf, nodesFrom, says}
 use Rattle.laws.specs.Fields.{size-header, positive-bits}
 use Rattle.laws.specs.Ids.{among-right, shown-more, objects-shown, id-there}
 use Rattle.laws.specs.Links.{rows-are}
@@ -84,7 +84,7 @@ module _ (τ : Terms) (s : List ℕ) (raw : List Row) where
 
   -- what the rows from a cursor on say fits these open objects
   pub record Ok (fs : List Place) (at row : ℕ) (es : List Entry) (rs : List Rec) (is : List Row) : Type 0 where
-    pub leads : At at row es rs is → Fits total (orderOf table row) fs (nodesFrom s table (drop row table))
+    pub leads : At at row es rs is → Fits total (orderOf table row) fs (nodesFrom (τ .book) s table (drop row table))
 
   abbrev OkIn : List Place → Cur → Type 0
   OkIn fs (cur at row es rs is) = Ok fs at row es rs is
@@ -103,8 +103,8 @@ module _ (τ : Terms) (s : List ℕ) (raw : List Row) where
           knows = k;
         }
 
-    nodes-are : nodesFrom s table (drop row table) ≡ nodesOf s table (withOwn x) ++ nodesFrom s table (drop (suc row) table)
-    nodes-are = nodes-more table (map withOwn is) (withOwn x) row (w .rows-there) s
+    nodes-are : nodesFrom (τ .book) s table (drop row table) ≡ nodesOf (τ .book) s table (withOwn x) ++ nodesFrom (τ .book) s table (drop (suc row) table)
+    nodes-are = nodes-more table (map withOwn is) (withOwn x) row (w .rows-there) (τ .book) s
 
     order-is : orderOf table (suc row) ≡ orderOf table row + pick (isObject (x .kind)) 1 0
     order-is = order-more table (map withOwn is) (withOwn x) row (w .rows-there)
@@ -121,7 +121,7 @@ module _ (τ : Terms) (s : List ℕ) (raw : List Row) where
     pub what : What
     pub of : ℕ → Class
     pub order : ℕ → ℕ
-    pub link-is : LinkIs s table of order r (withOwn x)
+    pub link-is : LinkIs (τ .book) s table of order r (withOwn x)
     pub said : saidBy (libraryName s table) of order r ≡ what ∷ []
     pub allowed : Allowed total fs what
     pub counts : countOf what ≡ pick (isObject (kindOf r)) 1 0
@@ -131,21 +131,21 @@ module _ (τ : Terms) (s : List ℕ) (raw : List Row) where
   module _ {at row : ℕ} {es es₁ : List Entry} {r : Rec} {rs : List Rec} {is : List Row} (id own slot link count : ℕ) where
     nodes-said : {fs gs : List Place} → Stands fs own slot → CountIs r count → GoodRec τ r → isNulls (kindOf r) ≡ false
         → At at row es (r ∷ rs) (rowFor at r id own slot link count ∷ is) → (t : Step fs gs row r (rowFor at r id own slot link count) es₁)
-        → nodesOf s table (withOwn (rowFor at r id own slot link count)) ≡ node (t .what) (ownerOf fs) (slotOf fs) ∷ []
+        → nodesOf (τ .book) s table (withOwn (rowFor at r id own slot link count)) ≡ node (t .what) (ownerOf fs) (slotOf fs) ∷ []
     nodes-said {fs} p c g n w t =
         let x = rowFor at r id own slot link count in
         let y = withOwn x in
         let f = row-linked (linkOf raw x) (row-of r at id own slot link count c) in
-        nodes-there τ s table y (t .of) (t .order) (encs rs) at r (first-bytes w) f g (t .link-is)
+        nodes-there τ (τ .book) s table y (t .of) (t .order) (encs rs) at r (first-bytes w) f g (t .link-is)
         ∙ (ap (λ (b : Bool). pick b (run s table y) (map (inSlot s table y) (saidBy (libraryName s table) (t .of) (t .order) r))) n
         ∙ (ap (map (inSlot s table y)) (t .said)
         ∙ (ap (λ (o : ℕ). node (t .what) o slot ∷ []) (p .owner-is) ∙ ap (λ (m : ℕ). node (t .what) (ownerOf fs) m ∷ []) (p .slot-is))))
 
     record-fits : {at₁ : ℕ} {fs gs : List Place} → Stands fs own slot → CountIs r count → GoodRec τ r → isNulls (kindOf r) ≡ false → at₁ ≡ at + size r
         → At at row es (r ∷ rs) (rowFor at r id own slot link count ∷ is) → Step fs gs row r (rowFor at r id own slot link count) es₁
-        → Ok gs at₁ (suc row) es₁ rs is → Fits total (orderOf table row) fs (nodesFrom s table (drop row table))
+        → Ok gs at₁ (suc row) es₁ rs is → Fits total (orderOf table row) fs (nodesFrom (τ .book) s table (drop row table))
     record-fits {fs = fs} {gs = gs} p c g n e w t k =
-        let ns = nodesFrom s table (drop (suc row) table) in
+        let ns = nodesFrom (τ .book) s table (drop (suc row) table) in
         let f : Fits total (orderOf table (suc row)) gs ns = k .leads (after w e (t .knows)) in
         let m : orderOf table (suc row) ≡ orderOf table row + countOf (t .what) = order-is w ∙ ap (λ (j : ℕ). orderOf table row + j) (sym (t .counts)) in
         let h = subst (λ (l : List Place). Fits total (orderOf table (suc row)) l ns) (sym (t .opens)) f in
@@ -176,19 +176,19 @@ module _ (τ : Terms) (s : List ℕ) (raw : List Row) where
     known-another : (i : ℕ) → eqb (x .kind) 12 ≡ false → Knows τ s table (suc row) (es ++ (another i ∷ []))
     known-another i n = knows-another τ s table (map withOwn is) (withOwn x) row (w .rows-there) i n (w .knows)
 
-    known-class : (i : ℕ) (ts : List SlotType) (c : Class) → eqb (x .kind) 12 ≡ false → classFrom s table (withOwn x) ≡ c → GoodClass c
+    known-class : (i : ℕ) (ts : List SlotType) (c : Class) → eqb (x .kind) 12 ≡ false → classFrom (τ .book) s table (withOwn x) ≡ c → GoodClass c
         → slotsOf (c .members) ≡ ts → Knows τ s table (suc row) (es ++ (aClass i (suc row) ts ∷ []))
     known-class i ts c n e g h =
         let z : suc row - 1 ≡ row = omega arith in
         let a : classAt τ s table (suc row) ≡ c =
-        ap (λ (j : ℕ). classFrom s table (getD table j blank)) z
-        ∙ (ap (classFrom s table) (item-there table (map withOwn is) (withOwn x) row (w .rows-there) blank) ∙ e) in
+        ap (λ (j : ℕ). classFrom (τ .book) s table (getD table j blank)) z
+        ∙ (ap (classFrom (τ .book) s table) (item-there table (map withOwn is) (withOwn x) row (w .rows-there) blank) ∙ e) in
         knows-class τ s table (map withOwn is) (withOwn x) row (w .rows-there) i (suc row) ts n
         (record { good = subst GoodClass (sym a) g; slots = ap (λ (d : Class). slotsOf (d .members)) a ∙ h }) (w .knows)
 
     -- an object of this class has the codes of its slots
-    row-codes : (c : Class) (ts : List SlotType) → classFrom s table (classRowOf table (withOwn x)) ≡ c → slotsOf (c .members) ≡ ts → Codes τ s table (suc row) 0 ts
-    row-codes c ts e f = class-codes τ s table (suc row) c ts (row-class τ s table (map withOwn is) (withOwn x) row (w .rows-there) ∙ e) f
+    row-codes : (c : Class) (ts : List SlotType) → classFrom (τ .book) s table (classRowOf table (withOwn x)) ≡ c → slotsOf (c .members) ≡ ts → Codes τ (τ .book) s table (suc row) 0 ts
+    row-codes c ts e f = class-codes τ (τ .book) s table (suc row) c ts (row-class τ (τ .book) s table (map withOwn is) (withOwn x) row (w .rows-there) ∙ e) f
 
     -- the order of an object
     order-next : isObject (x .kind) ≡ true → suc (orderOf table row) ≡ orderOf table (suc row)
@@ -205,7 +205,7 @@ module _ (τ : Terms) (s : List ℕ) (raw : List Row) where
   -- ---- records that open nothing
 
   -- a record whose link says nothing
-  plain-step : {fs gs : List Place} {row : ℕ} {r : Rec} {x : Row} {es₁ : List Entry} (what : What) → LinkIs s table (classAt τ s table) (orderOf table) r (withOwn x)
+  plain-step : {fs gs : List Place} {row : ℕ} {r : Rec} {x : Row} {es₁ : List Entry} (what : What) → LinkIs (τ .book) s table (classAt τ s table) (orderOf table) r (withOwn x)
       → saidBy (libraryName s table) (classAt τ s table) (orderOf table) r ≡ what ∷ [] → countOf what ≡ pick (isObject (kindOf r)) 1 0
       → openAfter (orderOf table row) fs what ≡ gs → Allowed total fs what → Knows τ s table (suc row) es₁ → Step fs gs row r x es₁
   plain-step what l e c o a k =
@@ -226,12 +226,12 @@ module _ (τ : Terms) (s : List ℕ) (raw : List Row) where
         (λ w. plain-step (aString (x .text)) tt refl refl refl a (known-another w i refl)) k
 
     -- of the code that its owner's class has for its slot
-    value-ok : {b : PrimitiveCode} {v : Prefixed} → Allowed total fs (aValue b (v .text)) → Value τ b v → codeIn (ownerClass τ s table own .members) slot ≡ b
+    value-ok : {b : PrimitiveCode} {v : Prefixed} → Allowed total fs (aValue b (v .text)) → Value τ b v → codeIn (ownerClass τ (τ .book) s table own .members) slot ≡ b
         → it ≡ rowOf 32 at (value b v) 0 own slot 0 0
         → Ok (shut (filledOne fs)) (at + size (value b v)) (suc row) es rs is → Ok fs at row es (value b v ∷ rs) (it ∷ is)
     value-ok {b} {v} a g e q k =
         record-ok 0 own slot 0 0 q p tt g refl refl
-        (λ w. plain-step (aValue b (v .text)) (value-code τ s table (withOwn (rowOf 32 at (value b v) 0 own slot 0 0)) b e) refl refl refl a (known-same w refl)) k
+        (λ w. plain-step (aValue b (v .text)) (value-code τ (τ .book) s table (withOwn (rowOf 32 at (value b v) 0 own slot 0 0)) b e) refl refl refl a (known-same w refl)) k
 
     typed-primitive-ok : {b : PrimitiveCode} {v : Prefixed} → Allowed total fs (aPrimitive b (v .text)) → Value τ b v → it ≡ rowOf 8 at (typedPrimitive b v) 0 own slot 0 0
         → Ok (shut (filledOne fs)) (at + size (typedPrimitive b v)) (suc row) es rs is → Ok fs at row es (typedPrimitive b v ∷ rs) (it ∷ is)
@@ -260,12 +260,12 @@ module _ (τ : Terms) (s : List ℕ) (raw : List Row) where
 
   -- what is no object and says these nodes
   fits-same : {at row : ℕ} {es : List Entry} {r : Rec} {rs : List Rec} {x : Row} {is : List Row} {fs : List Place} (ns : List Node)
-      → At at row es (r ∷ rs) (x ∷ is) → isObject (x .kind) ≡ false → nodesOf s table (withOwn x) ≡ ns
-      → Fits total (orderOf table (suc row)) fs (ns ++ nodesFrom s table (drop (suc row) table))
-      → Fits total (orderOf table row) fs (nodesFrom s table (drop row table))
+      → At at row es (r ∷ rs) (x ∷ is) → isObject (x .kind) ≡ false → nodesOf (τ .book) s table (withOwn x) ≡ ns
+      → Fits total (orderOf table (suc row)) fs (ns ++ nodesFrom (τ .book) s table (drop (suc row) table))
+      → Fits total (orderOf table row) fs (nodesFrom (τ .book) s table (drop row table))
   fits-same {row = row} {fs = fs} ns w o e f =
-      subst (Fits total (orderOf table row) fs) (sym (nodes-are w ∙ ap (λ (l : List Node). l ++ nodesFrom s table (drop (suc row) table)) e))
-      (subst (λ (n : ℕ). Fits total n fs (ns ++ nodesFrom s table (drop (suc row) table))) (order-same w o) f)
+      subst (Fits total (orderOf table row) fs) (sym (nodes-are w ∙ ap (λ (l : List Node). l ++ nodesFrom (τ .book) s table (drop (suc row) table)) e))
+      (subst (λ (n : ℕ). Fits total n fs (ns ++ nodesFrom (τ .book) s table (drop (suc row) table))) (order-same w o) f)
 
   module _ {at row : ℕ} {es : List Entry} {rs : List Rec} {it : Row} {is : List Row} where
     library-ok : {i : ℕ} {n : Prefixed} {fs : List Place} → known i es ≡ false → Name τ n → it ≡ rowOf 12 at (library i n) i 0 0 0 0
@@ -275,11 +275,11 @@ module _ (τ : Terms) (s : List ℕ) (raw : List Row) where
         x : Row
         x = rowOf 12 at (library i n) i 0 0 0 0
 
-        leads : At at row es (library i n ∷ rs) (x ∷ is) → Fits total (orderOf table row) fs (nodesFrom s table (drop row table))
+        leads : At at row es (library i n ∷ rs) (x ∷ is) → Fits total (orderOf table row) fs (nodesFrom (τ .book) s table (drop row table))
         leads w =
             let y = withOwn x in
             let h = row-linked (linkOf raw x) (row-of (library i n) at i 0 0 0 0 tt) in
-            let e = nodes-there τ s table y (classAt τ s table) (orderOf table) (encs rs) at (library i n) (first-bytes w) h g tt in
+            let e = nodes-there τ (τ .book) s table y (classAt τ s table) (orderOf table) (encs rs) at (library i n) (first-bytes w) h g tt in
             let m = subst Characters (sym (library-said τ s table y at (encs rs) i n g (first-bytes w) refl)) (g .characters) in
             let u = knows-library τ s table (map withOwn is) y row (w .rows-there) i refl refl f (w .knows) m in
             fits-same [] w refl e (k .leads (after w refl u))
@@ -287,7 +287,7 @@ module _ (τ : Terms) (s : List ℕ) (raw : List Row) where
     -- a null, or a run of them, in slots that all take records
     nulls-ok : {at₁ own slot : ℕ} {us : List SlotType} (ts : List SlotType) (fs : List Place) (r : Rec) (n : ℕ) → isNulls (kindOf r) ≡ true
         → isObject (kindOf r) ≡ false → eqb (kindOf r) 12 ≡ false → CountIs r n → GoodRec τ r
-        → LinkIs s table (classAt τ s table) (orderOf table) r (withOwn (rowFor at r 0 own slot 0 n))
+        → LinkIs (τ .book) s table (classAt τ s table) (orderOf table) r (withOwn (rowFor at r 0 own slot 0 n))
         → at₁ ≡ at + size r → n ≤ length ts → allTake (take n ts) ≡ true → us ≡ drop n ts → it ≡ rowFor at r 0 own slot 0 n
         → Ok (shut (place (orderOf table own) (slot + n) us ∷ fs)) at₁ (suc row) es rs is
         → Ok (shut (place (orderOf table own) slot ts ∷ fs)) at row es (r ∷ rs) (it ∷ is)
@@ -301,14 +301,14 @@ module _ (τ : Terms) (s : List ℕ) (raw : List Row) where
         x = rowFor at r 0 own slot 0 n
 
         rest : List Node
-        rest = nodesFrom s table (drop (suc row) table)
+        rest = nodesFrom (τ .book) s table (drop (suc row) table)
 
-        leads : At at row es (r ∷ rs) (x ∷ is) → Fits total (orderOf table row) (shut (place o slot ts ∷ fs)) (nodesFrom s table (drop row table))
+        leads : At at row es (r ∷ rs) (x ∷ is) → Fits total (orderOf table row) (shut (place o slot ts ∷ fs)) (nodesFrom (τ .book) s table (drop row table))
         leads w =
             let y = withOwn x in
             let v = row-linked (linkOf raw x) (row-of r at 0 own slot 0 n c) in
-            let e = nodes-there τ s table y (classAt τ s table) (orderOf table) (encs rs) at r (first-bytes w) v g z in
-            let d : nodesOf s table y ≡ spread n o slot =
+            let e = nodes-there τ (τ .book) s table y (classAt τ s table) (orderOf table) (encs rs) at r (first-bytes w) v g z in
+            let d : nodesOf (τ .book) s table y ≡ spread n o slot =
             e ∙ ap (λ (b : Bool). pick b (run s table y) (map (inSlot s table y) (saidBy (libraryName s table) (classAt τ s table) (orderOf table) r))) a in
             let f = k .leads (after w p (known-same w l)) in
             let f₁ = subst (λ (us : List SlotType). Fits total (orderOf table (suc row)) (shut (place o (slot + n) us ∷ fs)) rest) u f in
@@ -320,12 +320,12 @@ module _ (τ : Terms) (s : List ℕ) (raw : List Row) where
         x : Row
         x = rowOf 11 at end 0 0 0 0 0
 
-        leads : At at row es (end ∷ rs) (x ∷ is) → Fits total (orderOf table row) [] (nodesFrom s table (drop row table))
+        leads : At at row es (end ∷ rs) (x ∷ is) → Fits total (orderOf table row) [] (nodesFrom (τ .book) s table (drop row table))
         leads w =
             let h = row-linked (linkOf raw x) (row-of end at 0 0 0 0 0 tt) in
-            let e = nodes-there τ s table (withOwn x) (classAt τ s table) (orderOf table) (encs rs) at end (first-bytes w) h tt tt in
+            let e = nodes-there τ (τ .book) s table (withOwn x) (classAt τ s table) (orderOf table) (encs rs) at end (first-bytes w) h tt tt in
             let d : drop (suc row) table ≡ [] = items-after table (map withOwn is) (withOwn x) row (w .rows-there) ∙ ap (map withOwn) z in
-            let f = order-end table (suc row) d s in
+            let f = order-end table (suc row) d (τ .book) s in
             fits-same [] w refl e (subst (Fits total (orderOf table (suc row)) []) (sym (f .1)) (G.the-end (f .0)))
 
   -- ---- objects of classes
@@ -339,7 +339,7 @@ module _ (τ : Terms) (s : List ℕ) (raw : List Row) where
 
   class-step : {at row : ℕ} {es es₁ : List Entry} {r : Rec} {rs : List Rec} {x : Row} {is : List Row} {fs : List Place} {ts : List SlotType} (c : Class)
       → At at row es (r ∷ rs) (x ∷ is) → isObject (x .kind) ≡ true → isObject (kindOf r) ≡ true → Takes fs → Deep ts fs → GoodClass c
-      → slotsOf (c .members) ≡ ts → LinkIs s table (λ k. c) (orderOf table) r (withOwn x)
+      → slotsOf (c .members) ≡ ts → LinkIs (τ .book) s table (λ k. c) (orderOf table) r (withOwn x)
       → saidBy (libraryName s table) (λ k. c) (orderOf table) r ≡ anObject c ∷ []
       → Knows τ s table (suc row) es₁ → Step fs (openedIn (orderOf table (suc row)) ts fs) row r x es₁
   class-step {fs = fs} c w o p a d g e l h k =
@@ -358,7 +358,7 @@ module _ (τ : Terms) (s : List ℕ) (raw : List Row) where
   module _ {at row own slot : ℕ} {es : List Entry} {rs : List Rec} {it : Row} {is : List Row} {fs : List Place} (p : Stands fs own slot) (a : Takes fs) where
     system-class-ok : {i : ℕ} {n : Prefixed} {ms : List (Member Prefixed ℕ)} → ClassInfo τ es n ms → it ≡ rowOf 4 at (systemClass i n ms) i own slot 0 (length ms)
         → Deep (typesOf ms) fs
-        → (Codes τ s table (suc row) 0 (typesOf ms)
+        → (Codes τ (τ .book) s table (suc row) 0 (typesOf ms)
         → Ok (openedIn (orderOf table (suc row)) (typesOf ms) fs) (at + size (systemClass i n ms)) (suc row) (es ++ (aClass i (suc row) (typesOf ms) ∷ [])) rs is)
         → Ok fs at row es (systemClass i n ms ∷ rs) (it ∷ is)
     system-class-ok {i} {n} {ms} g q d k =
@@ -371,10 +371,10 @@ module _ (τ : Terms) (s : List ℕ) (raw : List Row) where
         c : Class
         c = classOfAll (libraryName s table) (n .text) theSystem ms
 
-        from : At at row es (systemClass i n ms ∷ rs) (x ∷ is) → classFrom s table (withOwn x) ≡ c
+        from : At at row es (systemClass i n ms ∷ rs) (x ∷ is) → classFrom (τ .book) s table (withOwn x) ≡ c
         from w =
             let h = row-linked (linkOf raw x) (row-of (systemClass i n ms) at i own slot 0 (length ms) refl) in
-            system-class-from τ s table (withOwn x) at (encs rs) i n ms (g .named) (own-members τ (g .members)) (first-bytes w) h
+            system-class-from τ (τ .book) s table (withOwn x) at (encs rs) i n ms (g .named) (own-members τ (g .members)) (first-bytes w) h
 
         step : At at row es (systemClass i n ms ∷ rs) (x ∷ is)
             → Step fs (openedIn (orderOf table (suc row)) (typesOf ms) fs) row (systemClass i n ms) x (es ++ (aClass i (suc row) (typesOf ms) ∷ []))
@@ -385,7 +385,7 @@ module _ (τ : Terms) (s : List ℕ) (raw : List Row) where
 
     library-class-ok : {i l : ℕ} {n : Prefixed} {ms : List (Member Prefixed ℕ)} → ClassInfo τ es n ms → LibraryId l es
         → it ≡ rowOf 5 at (libraryClass i n ms l) i own slot 0 (length ms) → Deep (typesOf ms) fs
-        → (Codes τ s table (suc row) 0 (typesOf ms)
+        → (Codes τ (τ .book) s table (suc row) 0 (typesOf ms)
         → Ok (openedIn (orderOf table (suc row)) (typesOf ms) fs) (at + size (libraryClass i n ms l)) (suc row) (es ++ (aClass i (suc row) (typesOf ms) ∷ [])) rs is)
         → Ok fs at row es (libraryClass i n ms l ∷ rs) (it ∷ is)
     library-class-ok {i} {l} {n} {ms} g y q d k =
@@ -398,10 +398,10 @@ module _ (τ : Terms) (s : List ℕ) (raw : List Row) where
         c : Class
         c = classOfAll (libraryName s table) (n .text) (theLibrary (libraryName s table l)) ms
 
-        from : At at row es (libraryClass i n ms l ∷ rs) (x ∷ is) → classFrom s table (withOwn x) ≡ c
+        from : At at row es (libraryClass i n ms l ∷ rs) (x ∷ is) → classFrom (τ .book) s table (withOwn x) ≡ c
         from w =
             let h = row-linked (linkOf raw x) (row-of (libraryClass i n ms l) at i own slot 0 (length ms) refl) in
-            library-class-from τ s table (withOwn x) at (encs rs) i n ms (g .named) (own-members τ (g .members)) l (positive-bits l (y .sign)) (first-bytes w) h
+            library-class-from τ (τ .book) s table (withOwn x) at (encs rs) i n ms (g .named) (own-members τ (g .members)) l (positive-bits l (y .sign)) (first-bytes w) h
 
         step : At at row es (libraryClass i n ms l ∷ rs) (x ∷ is)
             → Step fs (openedIn (orderOf table (suc row)) (typesOf ms) fs) row (libraryClass i n ms l) x (es ++ (aClass i (suc row) (typesOf ms) ∷ []))
@@ -412,7 +412,7 @@ module _ (τ : Terms) (s : List ℕ) (raw : List Row) where
             class-step c w refl refl a d u v tt refl (known-class w i (typesOf ms) c refl (from w) u v)
 
     class-by-id-ok : {i j r : ℕ} {ts : List SlotType} → classOf j es ≡ classed r ts → it ≡ rowOf 1 at (classById i j) i own slot r (length ts) → Deep ts fs
-        → (Codes τ s table (suc row) 0 ts → Ok (openedIn (orderOf table (suc row)) ts fs) (at + size (classById i j)) (suc row) (es ++ (another i ∷ [])) rs is)
+        → (Codes τ (τ .book) s table (suc row) 0 ts → Ok (openedIn (orderOf table (suc row)) ts fs) (at + size (classById i j)) (suc row) (es ++ (another i ∷ [])) rs is)
         → Ok fs at row es (classById i j ∷ rs) (it ∷ is)
     unfolding linkOf
     class-by-id-ok {i} {j} {r} {ts} f q d k =
@@ -484,14 +484,14 @@ module _ (τ : Terms) (s : List ℕ) (raw : List Row) where
     object-ok fs (class-by-id a b f q d) p t h k = class-by-id-ok p t f q (body-deep fs d h) (λ g. body-ok fs d h g k)
 
     body-ok : {room row : ℕ} {ts : List SlotType} {c c₁ : Cur} (fs : List Place) → Body τ room row ts c c₁ → room + length fs ≡ 64
-        → Codes τ s table row 0 ts → OkIn (shut (filledOne fs)) c₁ → OkIn (openedIn (orderOf table row) ts fs) c
+        → Codes τ (τ .book) s table row 0 ts → OkIn (shut (filledOne fs)) c₁ → OkIn (openedIn (orderOf table row) ts fs) c
     body-ok fs hollow h g k = k
     body-ok fs (filled d) h g k =
         let l : length (filledOne fs) ≡ length fs = length-filled fs in
         slots-ok (filledOne fs) d (omega arith) g k
 
     slots-ok : {room own slot : ℕ} {ts : List SlotType} {c c₁ : Cur} (fs : List Place) → Slots τ room own slot ts c c₁ → room + length fs ≡ 63
-        → Codes τ s table own slot ts → OkIn (shut fs) c₁ → OkIn (shut (place (orderOf table own) slot ts ∷ fs)) c
+        → Codes τ (τ .book) s table own slot ts → OkIn (shut fs) c₁ → OkIn (shut (place (orderOf table own) slot ts ∷ fs)) c
     slots-ok fs full h g k = k
     slots-ok fs (member-value a q d) h g k = value-ok slot-stands (G.in-value (a .content)) a (g .0) q (slots-ok fs d h (g .1) k)
     slots-ok fs (an-object {own = own} {slot = slot} {t = t} {ts = ts} o a d) h g k =
@@ -502,9 +502,9 @@ module _ (τ : Terms) (s : List ℕ) (raw : List Row) where
     slots-ok fs (a-null {t = t} {ts = ts} e q d) h g k =
         nulls-ok (t ∷ ts) fs null 1 refl refl refl refl tt tt (null-end _) (omega arith) (rw e) refl q (slots-ok fs d h (g .1) k)
     slots-ok fs (a-run {own = own} {slot = slot} {k = n} {t = t} {ts = ts} e a b f u q d) h g k =
-        nulls-ok (t ∷ ts) fs (nulls n) n refl refl refl refl tt tt (nulls-end _ n) b f u q (slots-ok fs d h (run-codes τ s table own slot n (t ∷ ts) u g) k)
+        nulls-ok (t ∷ ts) fs (nulls n) n refl refl refl refl tt tt (nulls-end _ n) b f u q (slots-ok fs d h (run-codes τ (τ .book) s table own slot n (t ∷ ts) u g) k)
     slots-ok fs (a-long-run {own = own} {slot = slot} {k = n} {t = t} {ts = ts} e a b f u q d) h g k =
-        nulls-ok (t ∷ ts) fs (manyNulls n) n refl refl refl refl tt tt refl b f u q (slots-ok fs d h (run-codes τ s table own slot n (t ∷ ts) u g) k)
+        nulls-ok (t ∷ ts) fs (manyNulls n) n refl refl refl refl tt tt refl b f u q (slots-ok fs d h (run-codes τ (τ .book) s table own slot n (t ∷ ts) u g) k)
     slots-ok fs (a-library t a b n q d) h g k = library-ok b n q (slots-ok fs d h g k)
 
   objects-ok : {c : Cur} → Objects τ c → OkIn [] c
@@ -512,7 +512,7 @@ module _ (τ : Terms) (s : List ℕ) (raw : List Row) where
   objects-ok (the-end q) = end-ok q refl
   objects-ok (one-object a d) = object-ok [] a top-stands (λ c g e. G.top-object g) refl (objects-ok d)
   objects-ok (one-string a b q d) = string-ok top-stands (G.top-string (b .characters)) b q (objects-ok d)
-  objects-ok (one-array a b q d f) = array-ok b q (body-ok [] d refl (array-codes τ s table _ b) (objects-ok f))
+  objects-ok (one-array a b q d f) = array-ok b q (body-ok [] d refl (array-codes τ (τ .book) s table _ b) (objects-ok f))
   objects-ok (one-library a b n q d) = library-ok b n q (objects-ok d)
 
 -- ---- the whole stream
@@ -535,7 +535,7 @@ module _ (τ : Terms) (s : List ℕ) (root h : ℕ) (rs : List Rec) (is : List R
         knows = record { good = no-entry; fresh = λ i n. refl };
       }
 
-  first-says : (f : List Node → Type 0) → f (nodesFrom s (linked raw) (drop 1 (linked raw))) → f (nodesFrom s (linked raw) (linked raw))
+  first-says : (f : List Node → Type 0) → f (nodesFrom (τ .book) s (linked raw) (drop 1 (linked raw))) → f (nodesFrom (τ .book) s (linked raw) (linked raw))
   unfolding linked nodesFrom nodesOf
   first-says f w = w
 
@@ -543,30 +543,30 @@ module _ (τ : Terms) (s : List ℕ) (root h : ℕ) (rs : List Rec) (is : List R
   unfolding linked orderOf objectsIn
   none-before = refl
 
-  root-is : says s (linked raw) .root ≡ orderOf (linked raw) (objectRow root raw)
+  root-is : says (τ .book) s (linked raw) .root ≡ orderOf (linked raw) (objectRow root raw)
   unfolding says linked linkOf
   root-is = refl
 
   good-linked : Ordered (objectsIn (linked raw)) (orderOf (linked raw) (objectRow root raw)) → At τ s raw 17 1 [] rs is → Objects τ (cur 17 1 [] rs is)
-      → Good (says s (linked raw))
+      → Good (says (τ .book) s (linked raw))
   unfolding says
   good-linked o w d =
       record {
         total = objectsIn (linked raw);
         rooted = subst (λ (k : ℕ). 0 < k) (sym root-is) (o .some);
         root-in = subst (λ (k : ℕ). k ≤ objectsIn (linked raw)) (sym root-is) (o .inside);
-        nodes-fit = subst (λ (k : ℕ). Fits (objectsIn (linked raw)) k [] (nodesFrom s (linked raw) (linked raw))) none-before
+        nodes-fit = subst (λ (k : ℕ). Fits (objectsIn (linked raw)) k [] (nodesFrom (τ .book) s (linked raw) (linked raw))) none-before
             (first-says (Fits (objectsIn (linked raw)) (orderOf (linked raw) 1) []) (objects-ok τ s raw d .leads w));
       }
 
 -- what an accepted list says is good
-pub said-good : (τ : Terms) (s : List ℕ) (rows : List Row) → Reading τ s rows → Good (says s rows)
+pub said-good : (τ : Terms) (s : List ℕ) (rows : List Row) → Reading τ s rows → Good (says (τ .book) s rows)
 said-good τ s rows r =
     let all = raw τ s (r .root) (r .header-id) (r .rs) (r .is) in
     let it = first τ s (r .root) (r .header-id) (r .rs) (r .is) in
     let w = shown-more it (header (r .root) (r .header-id)) 0 0 (r .root) 0 0 0 0 refl refl refl (objects-shown τ (r .objects-are)) in
     let there : (i : ℕ) → among i (idsOf (r .rs)) ≡ true → eqb (objectRow i all) 0 ≡ false =
     id-there (header (r .root) (r .header-id) ∷ r .rs) all w in
-    subst (λ (x : List Row). Good (says s x)) (sym (rows-are τ r))
+    subst (λ (x : List Row). Good (says (τ .book) s x)) (sym (rows-are τ r))
     (good-linked τ s (r .root) (r .header-id) (r .rs) (r .is) (target-ordered all (r .root) (there (r .root) (r .rooted)))
     (begins τ s (r .root) (r .header-id) (r .rs) (r .is) (r .bytes-are) (λ i m. there i (r .targets i m))) (r .objects-are))

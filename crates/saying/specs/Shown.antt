@@ -6,8 +6,8 @@ use mathlib.Core.Bool.{Bool, true, false}
 use mathlib.Core.List.{List, [], _∷_, _++_, map, append-assoc}
 use lib.Dec.{eqb}
 use Rattle.format.specs.Bytes.{pick}
-use Rattle.format.specs.Contents.{Rec, null}
-use Rattle.format.specs.Says.{Class, What, Node, node}
+use Rattle.format.specs.Contents.{Rec, null, Class}
+use Rattle.format.specs.Says.{What, Node, node}
 use Rattle.format.specs.Meant.{senseOf, nodesBy}
 use Rattle.format.specs.Tidy.{Progress, recordsOf, afterWhat, Standing, ownedBy, pack, runOf, isNull, Run, noRun, written, waiting, squeeze}
 use Rattle.laws.specs.Runs.{Plain, just, more, Sort, a-null, plain, sort-of, squeeze-records}

@@ -2,7 +2,7 @@
 -- record of each kind. Its bytes are those of the encoder, and nothing is asked of the stream after them.
 use Prim.Native.Nat.{ℕ, suc, _+_, _-_, _*_, _≤_, _<_}
 use mathlib.Core.Path.{_≡_, refl, sym, ap, subst, _∙_}
-use mathlib.Core.Bool.{true}
+use mathlib.Core.Bool.{true, false, _||_}
 use mathlib.Core.List.{List, [], _∷_, _++_, map, append-assoc}
 use native.Mathlib.Omega.{arith}
 use lib.ListN.{length, getD, drop, length-drop, length-append}
@@ -23,10 +23,10 @@ use Rattle.format.specs.Prefix.{prefixOf}
 use Rattle.format.specs.Text.{needOf, spanAt}
 use Rattle.format.specs.Types.{codeNumber, primitiveOf, past, afterText, afterNumber, afterInfo}
 use Rattle.format.specs.Values.{sizeFrom, valueSpan}
-use Rattle.format.specs.Rows.{blank, withLink}
-use Rattle.format.specs.Contents.{Prefixed, hasPrefix, bytesIn, textsOf, itemsBytes, Detail, primitive, text, object, system, class, objects, texts, primitives, Member, Rec, header, classById, systemClass, libraryClass, string, array, typedPrimitive, reference, null, nulls, manyNulls, end, library, primitiveArray, objectArray, stringArray, value, typeByte, infoBytes, slotFor, namesBytes, typesBytes, infosBytes, classBytes, numbersBytes, enc}
+use Rattle.format.specs.Rows.{blank, isUntyped, withLink}
+use Rattle.format.specs.Contents.{Prefixed, hasPrefix, bytesIn, textsOf, itemsBytes, Detail, primitive, text, object, system, class, objects, texts, primitives, Member, Rec, header, classById, systemClass, libraryClass, string, array, typedPrimitive, reference, null, nulls, manyNulls, end, library, primitiveArray, objectArray, stringArray, value, typeByte, infoBytes, slotFor, namesBytes, typesBytes, infosBytes, classBytes, numbersBytes, enc, From, theSystem, theLibrary, Class}
 use Rattle.format.specs.Unicode.{Scalar, encode}
-use Rattle.format.specs.Says.{From, theSystem, theLibrary, Class, What, anObject, aString, anArray, aPrimitive, aReference, aPrimitiveArray, anObjectArray, aStringArray, aValue, Node, node, textFrom, afterTexts, numberFrom, codeFrom, contentFrom, itemsFrom, numbersFrom, libraryName, detailFrom, membersFrom, classFrom, valueCode, arrayFrom, orderOf, whatFrom, spread, isNulls, isSilent, nodesOf}
+use Rattle.format.specs.Says.{What, anObject, aString, anArray, aPrimitive, aReference, aPrimitiveArray, anObjectArray, aStringArray, aValue, Node, node, textFrom, afterTexts, numberFrom, codeFrom, contentFrom, itemsFrom, numbersFrom, libraryName, detailFrom, membersFrom, typedFrom, classFrom, valueCode, arrayFrom, orderOf, whatFrom, spread, isNulls, isSilent, nodesOf}
 use Rattle.format.specs.Grammar.{Positive, Width, Name, Sized, a-byte, an-sbyte, an-int16, a-uint16, an-int32, a-uint32, a-single, an-int64, a-uint64, a-double, a-time-span, Content, number, boolean, scalar, exact, moment, PrefixIf, Value, Values, none, more, product, takesRecords, GoodDetail, Members, no-more, member, Entry, typesOf, Lengths, no-length, length-of, Ranked, single, jagged, rectangular, Shape, rowOf, Array, of-objects, of-strings, of-primitives, of-any, of-values}
 use Rattle.num.specs.Le.{length-leBytes}
 use Rattle.num.specs.Read.{says-written}
@@ -35,6 +35,7 @@ use Rattle.spans.specs.Spans.{span-there}
 use Rattle.codes.specs.Codes.{primitive-number}
 use Rattle.laws.specs.Fields.{positive-bits, length-numbers-bytes}
 use Rattle.laws.specs.Tests.{apart}
+use Rattle.laws.specs.Classes.{class-typed}
 use Rattle.utf8.specs.Widths.{width-told}
 use Rattle.format.specs.Meant.{named, namedAll, classOfAll}
 use Rattle.saying.specs.Said.{saidBy}
@@ -476,12 +477,12 @@ length-types (m ∷ ms) = ap suc (length-types ms)
 
 -- ---- classes
 
-module _ (τ : Terms) (s : List ℕ) (rows : List Row) (w : Row) (at : ℕ) where
+module _ (τ : Terms) (β s : List ℕ) (rows : List Row) (w : Row) (at : ℕ) where
   class-like : (k e : ℕ) (n : Prefixed) (ms : List (Member Prefixed ℕ)) (q : List ℕ) → Name τ n → OwnMembers τ ms → drop (at + 5) s ≡ classBytes n ms ++ q
-      → (from : From) → pick (eqb k 5) (theLibrary (libraryName s rows (numberFrom s (e - 4)))) theSystem ≡ from
-      → classFrom s rows (like k at e (length ms) w) ≡ classOfAll (libraryName s rows) (n .text) from ms
-  unfolding classFrom
-  class-like k e n ms q g gs d from f =
+      → (from : From) → pick (eqb k 3 || eqb k 5) (theLibrary (libraryName s rows (numberFrom s (e - 4)))) theSystem ≡ from
+      → isUntyped k ≡ false → classFrom β s rows (like k at e (length ms) w) ≡ classOfAll (libraryName s rows) (n .text) from ms
+  unfolding typedFrom
+  class-like k e n ms q g gs d from f typed =
       let types = typesBytes ms ++ infosBytes ms in
       let names = namesBytes ms ++ types in
       let count = leBytes 4 (length ms) in
@@ -494,18 +495,19 @@ module _ (τ : Terms) (s : List ℕ) (rows : List Row) (w : Row) (at : ℕ) wher
       rest-there s (namesBytes ms) (types ++ q) a b refl d2 ∙ append-assoc (typesBytes ms) (infosBytes ms) q in
       let d4 : drop (b + length ms) s ≡ infosBytes ms ++ q =
       rest-there s (typesBytes ms) (infosBytes ms ++ q) b (b + length ms) (ap (λ (x : ℕ). b + x) (sym (length-types ms))) d3 in
-      rw (t .0, t .1, names-there τ s ms (types ++ q) a gs d2, f, members-there τ s rows ms (types ++ q) (infosBytes ms ++ q) q a b (b + length ms) gs d2 d3 d4)
+      class-typed β s rows (like k at e (length ms) w) typed
+      ∙ rw (t .0, t .1, names-there τ s ms (types ++ q) a gs d2, f, members-there τ s rows ms (types ++ q) (infosBytes ms ++ q) q a b (b + length ms) gs d2 d3 d4)
 
   module _ (q : List ℕ) (i : ℕ) (n : Prefixed) (ms : List (Member Prefixed ℕ)) (g : Name τ n) (gs : OwnMembers τ ms) where
     pub system-class-from : drop at s ≡ enc (systemClass i n ms) ++ q → RowOf (systemClass i n ms) at w
-        → classFrom s rows w ≡ classOfAll (libraryName s rows) (n .text) theSystem ms
+        → classFrom β s rows w ≡ classOfAll (libraryName s rows) (n .text) theSystem ms
     unfolding enc
     system-class-from d r =
-        ap (classFrom s rows) (row-like w (r .kind-is) (r .offset-is) (r .end-is) (r .count-is))
-        ∙ class-like 4 (at + length (enc (systemClass i n ms))) n ms q g gs (after-id s q at 4 i (classBytes n ms) d) theSystem refl
+        ap (classFrom β s rows) (row-like w (r .kind-is) (r .offset-is) (r .end-is) (r .count-is))
+        ∙ class-like 4 (at + length (enc (systemClass i n ms))) n ms q g gs (after-id s q at 4 i (classBytes n ms) d) theSystem refl refl
 
     pub library-class-from : (l : ℕ) → l < 4294967296 → drop at s ≡ enc (libraryClass i n ms l) ++ q → RowOf (libraryClass i n ms l) at w
-        → classFrom s rows w ≡ classOfAll (libraryName s rows) (n .text) (theLibrary (libraryName s rows l)) ms
+        → classFrom β s rows w ≡ classOfAll (libraryName s rows) (n .text) (theLibrary (libraryName s rows l)) ms
     unfolding enc
     library-class-from l h d r =
         let b = classBytes n ms in
@@ -514,70 +516,70 @@ module _ (τ : Terms) (s : List ℕ) (rows : List Row) (w : Row) (at : ℕ) wher
         let k : length (leBytes 4 i ++ (b ++ leBytes 4 l)) ≡ 8 + length b = simp (length-append, length-leBytes) (omega arith) in
         let z : e - 4 ≡ at + 5 + length b = omega arith in
         let m = number-there s q l (e - 4) (rest-there s b (leBytes 4 l ++ q) (at + 5) (e - 4) z d1) h in
-        ap (classFrom s rows) (row-like w (r .kind-is) (r .offset-is) (r .end-is) (r .count-is))
-        ∙ class-like 5 e n ms (leBytes 4 l ++ q) g gs d1 (theLibrary (libraryName s rows l)) (rw m)
+        ap (classFrom β s rows) (row-like w (r .kind-is) (r .offset-is) (r .end-is) (r .count-is))
+        ∙ class-like 5 e n ms (leBytes 4 l ++ q) g gs d1 (theLibrary (libraryName s rows l)) (rw m) refl
 
 -- ---- what each kind says
 
 -- a member value, of the code that its row's owner and slot lead to
-value-row : (s : List ℕ) (rows : List Row) (w : Row) → w .kind ≡ 32
-    → whatFrom s rows w ≡ aValue (valueCode s rows w) (contentFrom s (valueCode s rows w) (w .offset))
+value-row : (β s : List ℕ) (rows : List Row) (w : Row) → w .kind ≡ 32
+    → whatFrom β s rows w ≡ aValue (valueCode β s rows w) (contentFrom s (valueCode β s rows w) (w .offset))
 unfolding whatFrom valueCode
-value-row s rows w k = ap (whatFrom s rows) (row-like w k refl refl refl)
+value-row β s rows w k = ap (whatFrom β s rows) (row-like w k refl refl refl)
 
 -- by the row alone
-module _ (s : List ℕ) (rows : List Row) (w : Row) (at : ℕ) where
+module _ (β s : List ℕ) (rows : List Row) (w : Row) (at : ℕ) where
   -- of the class in the row that it is linked to
-  pub class-by-id-said : (i k : ℕ) → RowOf (classById i k) at w → whatFrom s rows w ≡ anObject (classFrom s rows (getD rows (w .link - 1) blank))
+  pub class-by-id-said : (i k : ℕ) → RowOf (classById i k) at w → whatFrom β s rows w ≡ anObject (classFrom β s rows (getD rows (w .link - 1) blank))
   unfolding whatFrom
-  class-by-id-said i k r = ap (whatFrom s rows) (row-like w (r .kind-is) refl refl refl)
+  class-by-id-said i k r = ap (whatFrom β s rows) (row-like w (r .kind-is) refl refl refl)
 
   -- to the object in the row that it is linked to
-  pub reference-said : (i : ℕ) → RowOf (reference i) at w → whatFrom s rows w ≡ aReference (orderOf rows (w .link))
+  pub reference-said : (i : ℕ) → RowOf (reference i) at w → whatFrom β s rows w ≡ aReference (orderOf rows (w .link))
   unfolding whatFrom
-  reference-said i r = ap (whatFrom s rows) (row-like w (r .kind-is) refl refl refl)
+  reference-said i r = ap (whatFrom β s rows) (row-like w (r .kind-is) refl refl refl)
 
-  pub object-array-said : (i n : ℕ) → RowOf (objectArray i n) at w → whatFrom s rows w ≡ anObjectArray n
+  pub object-array-said : (i n : ℕ) → RowOf (objectArray i n) at w → whatFrom β s rows w ≡ anObjectArray n
   unfolding whatFrom
-  object-array-said i n r = ap (whatFrom s rows) (row-like w (r .kind-is) refl refl (r .count-is))
+  object-array-said i n r = ap (whatFrom β s rows) (row-like w (r .kind-is) refl refl (r .count-is))
 
-  pub string-array-said : (i n : ℕ) → RowOf (stringArray i n) at w → whatFrom s rows w ≡ aStringArray n
+  pub string-array-said : (i n : ℕ) → RowOf (stringArray i n) at w → whatFrom β s rows w ≡ aStringArray n
   unfolding whatFrom
-  string-array-said i n r = ap (whatFrom s rows) (row-like w (r .kind-is) refl refl (r .count-is))
+  string-array-said i n r = ap (whatFrom β s rows) (row-like w (r .kind-is) refl refl (r .count-is))
 
 -- by the row and the bytes at its place
-module _ (τ : Terms) (s : List ℕ) (rows : List Row) (w : Row) (at : ℕ) (q : List ℕ) where
+module _ (τ : Terms) (β s : List ℕ) (rows : List Row) (w : Row) (at : ℕ) (q : List ℕ) where
   pub system-class-said : (i : ℕ) (n : Prefixed) (ms : List (Member Prefixed ℕ)) → Name τ n → OwnMembers τ ms → drop at s ≡ enc (systemClass i n ms) ++ q
-      → RowOf (systemClass i n ms) at w → whatFrom s rows w ≡ anObject (classOfAll (libraryName s rows) (n .text) theSystem ms)
+      → RowOf (systemClass i n ms) at w → whatFrom β s rows w ≡ anObject (classOfAll (libraryName s rows) (n .text) theSystem ms)
   unfolding whatFrom
   system-class-said i n ms g gs d r =
       let z = row-like w (r .kind-is) refl refl refl in
-      ap (whatFrom s rows) z ∙ ap anObject (ap (classFrom s rows) (sym z) ∙ system-class-from τ s rows w at q i n ms g gs d r)
+      ap (whatFrom β s rows) z ∙ ap anObject (ap (classFrom β s rows) (sym z) ∙ system-class-from τ β s rows w at q i n ms g gs d r)
 
   pub library-class-said : (i : ℕ) (n : Prefixed) (ms : List (Member Prefixed ℕ)) (l : ℕ) → Name τ n → OwnMembers τ ms → l < 4294967296
       → drop at s ≡ enc (libraryClass i n ms l) ++ q → RowOf (libraryClass i n ms l) at w
-      → whatFrom s rows w ≡ anObject (classOfAll (libraryName s rows) (n .text) (theLibrary (libraryName s rows l)) ms)
+      → whatFrom β s rows w ≡ anObject (classOfAll (libraryName s rows) (n .text) (theLibrary (libraryName s rows l)) ms)
   unfolding whatFrom
   library-class-said i n ms l g gs h d r =
       let z = row-like w (r .kind-is) refl refl refl in
-      ap (whatFrom s rows) z ∙ ap anObject (ap (classFrom s rows) (sym z) ∙ library-class-from τ s rows w at q i n ms g gs l h d r)
+      ap (whatFrom β s rows) z ∙ ap anObject (ap (classFrom β s rows) (sym z) ∙ library-class-from τ β s rows w at q i n ms g gs l h d r)
 
-  pub string-said : (i : ℕ) (x : Prefixed) → Name τ x → drop at s ≡ enc (string i x) ++ q → RowOf (string i x) at w → whatFrom s rows w ≡ aString (x .text)
+  pub string-said : (i : ℕ) (x : Prefixed) → Name τ x → drop at s ≡ enc (string i x) ++ q → RowOf (string i x) at w → whatFrom β s rows w ≡ aString (x .text)
   unfolding enc whatFrom
   string-said i x g d r =
-      ap (whatFrom s rows) (row-like w (r .kind-is) (r .offset-is) refl refl)
+      ap (whatFrom β s rows) (row-like w (r .kind-is) (r .offset-is) refl refl)
       ∙ ap aString (text-is τ s x q (at + 5) g (after-id s q at 6 i (bytesIn x) d))
 
   pub typed-primitive-said : (c : PrimitiveCode) (v : Prefixed) → Value τ c v → drop at s ≡ enc (typedPrimitive c v) ++ q → RowOf (typedPrimitive c v) at w
-      → whatFrom s rows w ≡ aPrimitive c (v .text)
+      → whatFrom β s rows w ≡ aPrimitive c (v .text)
   unfolding enc whatFrom
   typed-primitive-said c v g d r =
       let f : codeFrom s (at + 1) ≡ c = code-there s (bytesIn v ++ q) c (at + 1) (byte-rest s (codeNumber c ∷ (bytesIn v ++ q)) 8 at d) in
       let a : drop (at + 2) s ≡ bytesIn v ++ q = rest-there s (8 ∷ codeNumber c ∷ []) (bytesIn v ++ q) at (at + 2) (omega arith) d in
-      ap (whatFrom s rows) (row-like w (r .kind-is) (r .offset-is) refl refl) ∙ rw f (ap (aPrimitive c) (content-is τ s c v q (at + 2) g a))
+      ap (whatFrom β s rows) (row-like w (r .kind-is) (r .offset-is) refl refl) ∙ rw f (ap (aPrimitive c) (content-is τ s c v q (at + 2) g a))
 
   pub primitive-array-said : (i n : ℕ) (c : PrimitiveCode) (vs : List Prefixed) → Values τ c n vs → drop at s ≡ enc (primitiveArray i n c vs) ++ q
-      → RowOf (primitiveArray i n c vs) at w → whatFrom s rows w ≡ aPrimitiveArray n c (textsOf vs)
+      → RowOf (primitiveArray i n c vs) at w → whatFrom β s rows w ≡ aPrimitiveArray n c (textsOf vs)
   unfolding enc whatFrom
   primitive-array-said i n c vs g d r =
       let l : length (leBytes 4 n) ≡ 4 = length-leBytes 4 n in
@@ -587,19 +589,19 @@ module _ (τ : Terms) (s : List ℕ) (rows : List Row) (w : Row) (at : ℕ) (q :
       let b : drop (at + 9) s ≡ codeNumber c ∷ (x ++ q) = rest-there s (leBytes 4 n) (codeNumber c ∷ (x ++ q)) (at + 5) (at + 9) (omega arith) a in
       let f : codeFrom s (at + 9) ≡ c = code-there s (x ++ q) c (at + 9) b in
       let e : drop (at + 10) s ≡ x ++ q = rest-there s (codeNumber c ∷ []) (x ++ q) (at + 9) (at + 10) (omega arith) b in
-      ap (whatFrom s rows) (row-like w (r .kind-is) (r .offset-is) refl (r .count-is))
+      ap (whatFrom β s rows) (row-like w (r .kind-is) (r .offset-is) refl (r .count-is))
       ∙ rw f (ap (aPrimitiveArray n c) (items-there τ s c n vs q (at + 10) g e))
 
   -- a member value, by the code of the slot that its row names
-  pub value-said : (c : PrimitiveCode) (v : Prefixed) → Value τ c v → valueCode s rows w ≡ c → drop at s ≡ enc (value c v) ++ q → RowOf (value c v) at w
-      → whatFrom s rows w ≡ aValue c (v .text)
+  pub value-said : (c : PrimitiveCode) (v : Prefixed) → Value τ c v → valueCode β s rows w ≡ c → drop at s ≡ enc (value c v) ++ q → RowOf (value c v) at w
+      → whatFrom β s rows w ≡ aValue c (v .text)
   unfolding enc
   value-said c v g e d r =
-      value-row s rows w (r .kind-is) ∙ (ap (λ (x : PrimitiveCode). aValue x (contentFrom s x (w .offset))) e
+      value-row β s rows w (r .kind-is) ∙ (ap (λ (x : PrimitiveCode). aValue x (contentFrom s x (w .offset))) e
       ∙ (ap (λ (x : ℕ). aValue c (contentFrom s c x)) (r .offset-is) ∙ ap (aValue c) (content-is τ s c v q at g d)))
 
   pub array-said : (i t : ℕ) (ns : List ℕ) (x : Detail Prefixed ℕ) (vs : List Prefixed) → Shape t ns → OwnDetail τ x → ItemsOf τ x (product ns) vs
-      → drop at s ≡ enc (array i t ns x vs) ++ q → RowOf (array i t ns x vs) at w → whatFrom s rows w ≡ anArray t ns (named (libraryName s rows) x) (textsOf vs)
+      → drop at s ≡ enc (array i t ns x vs) ++ q → RowOf (array i t ns x vs) at w → whatFrom β s rows w ≡ anArray t ns (named (libraryName s rows) x) (textsOf vs)
   unfolding enc whatFrom arrayFrom
   array-said i t ns x vs g h y d r =
       let items = infoBytes x ++ itemsBytes vs in
@@ -616,7 +618,7 @@ module _ (τ : Terms) (s : List ℕ) (rows : List Row) (w : Row) (at : ℕ) (q :
       let f = rest-there s (numbersBytes ns) (item ++ q) (at + 10) p (omega arith) c in
       let u : drop (p + 1) s ≡ infoBytes x ++ (itemsBytes vs ++ q) = byte-rest s (items ++ q) (typeByte x) p f ∙ append-assoc (infoBytes x) (itemsBytes vs) q in
       let z = detail-there τ s (itemsBytes vs ++ q) (p + 1) rows x h u in
-      ap (whatFrom s rows) (row-like w (r .kind-is) (r .offset-is) refl (r .count-is))
+      ap (whatFrom β s rows) (row-like w (r .kind-is) (r .offset-is) refl (r .count-is))
       ∙ rw (
         byte-there s ((rank ++ (numbersBytes ns ++ item)) ++ q) t (at + 5) a,
         number-there s ((numbersBytes ns ++ item) ++ q) (length ns) (at + 6) b (rank-bits (g .ranked)),
@@ -627,6 +629,7 @@ module _ (τ : Terms) (s : List ℕ) (rows : List Row) (w : Row) (at : ℕ) (q :
       )
       (ap (anArray t ns (named (libraryName s rows) x)) (items-of-there τ s q (p + 1) (product ns) vs x y u))
 
+module _ (τ : Terms) (s : List ℕ) (rows : List Row) (w : Row) (at : ℕ) (q : List ℕ) where
   pub library-said : (i : ℕ) (n : Prefixed) → Name τ n → drop at s ≡ enc (library i n) ++ q → w .offset ≡ at → textFrom s (w .offset + 5) ≡ n .text
   unfolding enc
   library-said i n g d z = ap (λ (p : ℕ). textFrom s (p + 5)) z ∙ text-is τ s n q (at + 5) g (after-id s q at 12 i (bytesIn n) d)
@@ -634,10 +637,10 @@ module _ (τ : Terms) (s : List ℕ) (rows : List Row) (w : Row) (at : ℕ) (q :
 -- ---- nodes
 
 -- the class of a record of kind 1 and the target of a reference, from the row's link; the code of a member value, from its owner and slot
-module _ (s : List ℕ) (rows : List Row) (of : ℕ → Class) (order : ℕ → ℕ) where
+module _ (β s : List ℕ) (rows : List Row) (of : ℕ → Class) (order : ℕ → ℕ) where
   abbrev pub LinkIs : Rec → Row → Type 0
   LinkIs (header r h) w = Unit {0}
-  LinkIs (classById i k) w = classFrom s rows (getD rows (w .link - 1) blank) ≡ of k
+  LinkIs (classById i k) w = classFrom β s rows (getD rows (w .link - 1) blank) ≡ of k
   LinkIs (systemClass i n ms) w = Unit {0}
   LinkIs (libraryClass i n ms l) w = Unit {0}
   LinkIs (string i x) w = Unit {0}
@@ -652,7 +655,7 @@ module _ (s : List ℕ) (rows : List Row) (of : ℕ → Class) (order : ℕ → 
   LinkIs (primitiveArray i n c vs) w = Unit {0}
   LinkIs (objectArray i n) w = Unit {0}
   LinkIs (stringArray i n) w = Unit {0}
-  LinkIs (value c v) w = valueCode s rows w ≡ c
+  LinkIs (value c v) w = valueCode β s rows w ≡ c
 
 module _ (s : List ℕ) (rows : List Row) (w : Row) where
   -- in the slot of the row
@@ -662,33 +665,34 @@ module _ (s : List ℕ) (rows : List Row) (w : Row) where
   abbrev pub run : List Node
   run = spread (w .count) (orderOf rows (w .owner)) (w .slot)
 
-  by-kind : (k : ℕ) → w .kind ≡ k → nodesOf s rows w ≡ pick (isSilent k) [] (pick (isNulls k) run (inSlot (whatFrom s rows w) ∷ []))
+module _ (β s : List ℕ) (rows : List Row) (w : Row) where
+  by-kind : (k : ℕ) → w .kind ≡ k → nodesOf β s rows w ≡ pick (isSilent k) [] (pick (isNulls k) (run s rows w) (inSlot s rows w (whatFrom β s rows w) ∷ []))
   unfolding nodesOf
-  by-kind k e = ap (λ (k : ℕ). pick (isSilent k) [] (pick (isNulls k) run (inSlot (whatFrom s rows w) ∷ []))) e
+  by-kind k e = ap (λ (k : ℕ). pick (isSilent k) [] (pick (isNulls k) (run s rows w) (inSlot s rows w (whatFrom β s rows w) ∷ []))) e
 
-  one : {x : What} → whatFrom s rows w ≡ x → inSlot (whatFrom s rows w) ∷ [] ≡ inSlot x ∷ []
-  one e = ap (λ (x : What). inSlot x ∷ []) e
+  one : {x : What} → whatFrom β s rows w ≡ x → inSlot s rows w (whatFrom β s rows w) ∷ [] ≡ inSlot s rows w x ∷ []
+  one e = ap (λ (x : What). inSlot s rows w x ∷ []) e
 
-module _ (τ : Terms) (s : List ℕ) (rows : List Row) (w : Row) where
+module _ (τ : Terms) (β s : List ℕ) (rows : List Row) (w : Row) where
   -- a null, or a run of them, is spread; any other record says what it says by itself
   pub nodes-there : (of : ℕ → Class) (order : ℕ → ℕ) (q : List ℕ) (at : ℕ) (r : Rec) → drop at s ≡ enc r ++ q → RowOf r at w → GoodRec τ r
-      → LinkIs s rows of order r w
-      → nodesOf s rows w ≡ pick (isNulls (kindOf r)) (run s rows w) (map (inSlot s rows w) (saidBy (libraryName s rows) of order r))
-  nodes-there of order q at (header a h) d r g l = by-kind s rows w 0 (r .kind-is)
-  nodes-there of order q at (classById i k) d r g l = by-kind s rows w 1 (r .kind-is) ∙ one s rows w (class-by-id-said s rows w at i k r ∙ ap anObject l)
-  nodes-there of order q at (systemClass i n ms) d r g l = by-kind s rows w 4 (r .kind-is) ∙ one s rows w (system-class-said τ s rows w at q i n ms (g .0) (g .1) d r)
+      → LinkIs β s rows of order r w
+      → nodesOf β s rows w ≡ pick (isNulls (kindOf r)) (run s rows w) (map (inSlot s rows w) (saidBy (libraryName s rows) of order r))
+  nodes-there of order q at (header a h) d r g l = by-kind β s rows w 0 (r .kind-is)
+  nodes-there of order q at (classById i k) d r g l = by-kind β s rows w 1 (r .kind-is) ∙ one β s rows w (class-by-id-said β s rows w at i k r ∙ ap anObject l)
+  nodes-there of order q at (systemClass i n ms) d r g l = by-kind β s rows w 4 (r .kind-is) ∙ one β s rows w (system-class-said τ β s rows w at q i n ms (g .0) (g .1) d r)
   nodes-there of order q at (libraryClass i n ms k) d r g l =
-      by-kind s rows w 5 (r .kind-is) ∙ one s rows w (library-class-said τ s rows w at q i n ms k (g .0) (g .1) (g .2) d r)
-  nodes-there of order q at (string i x) d r g l = by-kind s rows w 6 (r .kind-is) ∙ one s rows w (string-said τ s rows w at q i x g d r)
-  nodes-there of order q at (array i t ns x vs) d r g l = by-kind s rows w 7 (r .kind-is) ∙ one s rows w (array-said τ s rows w at q i t ns x vs (g .0) (g .1) (g .2) d r)
-  nodes-there of order q at (typedPrimitive c v) d r g l = by-kind s rows w 8 (r .kind-is) ∙ one s rows w (typed-primitive-said τ s rows w at q c v g d r)
-  nodes-there of order q at (reference i) d r g l = by-kind s rows w 9 (r .kind-is) ∙ one s rows w (reference-said s rows w at i r ∙ ap aReference l)
-  nodes-there of order q at null d r g l = by-kind s rows w 10 (r .kind-is)
-  nodes-there of order q at (nulls n) d r g l = by-kind s rows w 13 (r .kind-is)
-  nodes-there of order q at (manyNulls n) d r g l = by-kind s rows w 14 (r .kind-is)
-  nodes-there of order q at end d r g l = by-kind s rows w 11 (r .kind-is)
-  nodes-there of order q at (library i n) d r g l = by-kind s rows w 12 (r .kind-is)
-  nodes-there of order q at (primitiveArray i n c vs) d r g l = by-kind s rows w 15 (r .kind-is) ∙ one s rows w (primitive-array-said τ s rows w at q i n c vs g d r)
-  nodes-there of order q at (objectArray i n) d r g l = by-kind s rows w 16 (r .kind-is) ∙ one s rows w (object-array-said s rows w at i n r)
-  nodes-there of order q at (stringArray i n) d r g l = by-kind s rows w 17 (r .kind-is) ∙ one s rows w (string-array-said s rows w at i n r)
-  nodes-there of order q at (value c v) d r g l = by-kind s rows w 32 (r .kind-is) ∙ one s rows w (value-said τ s rows w at q c v g l d r)
+      by-kind β s rows w 5 (r .kind-is) ∙ one β s rows w (library-class-said τ β s rows w at q i n ms k (g .0) (g .1) (g .2) d r)
+  nodes-there of order q at (string i x) d r g l = by-kind β s rows w 6 (r .kind-is) ∙ one β s rows w (string-said τ β s rows w at q i x g d r)
+  nodes-there of order q at (array i t ns x vs) d r g l = by-kind β s rows w 7 (r .kind-is) ∙ one β s rows w (array-said τ β s rows w at q i t ns x vs (g .0) (g .1) (g .2) d r)
+  nodes-there of order q at (typedPrimitive c v) d r g l = by-kind β s rows w 8 (r .kind-is) ∙ one β s rows w (typed-primitive-said τ β s rows w at q c v g d r)
+  nodes-there of order q at (reference i) d r g l = by-kind β s rows w 9 (r .kind-is) ∙ one β s rows w (reference-said β s rows w at i r ∙ ap aReference l)
+  nodes-there of order q at null d r g l = by-kind β s rows w 10 (r .kind-is)
+  nodes-there of order q at (nulls n) d r g l = by-kind β s rows w 13 (r .kind-is)
+  nodes-there of order q at (manyNulls n) d r g l = by-kind β s rows w 14 (r .kind-is)
+  nodes-there of order q at end d r g l = by-kind β s rows w 11 (r .kind-is)
+  nodes-there of order q at (library i n) d r g l = by-kind β s rows w 12 (r .kind-is)
+  nodes-there of order q at (primitiveArray i n c vs) d r g l = by-kind β s rows w 15 (r .kind-is) ∙ one β s rows w (primitive-array-said τ β s rows w at q i n c vs g d r)
+  nodes-there of order q at (objectArray i n) d r g l = by-kind β s rows w 16 (r .kind-is) ∙ one β s rows w (object-array-said β s rows w at i n r)
+  nodes-there of order q at (stringArray i n) d r g l = by-kind β s rows w 17 (r .kind-is) ∙ one β s rows w (string-array-said β s rows w at i n r)
+  nodes-there of order q at (value c v) d r g l = by-kind β s rows w 32 (r .kind-is) ∙ one β s rows w (value-said τ β s rows w at q c v g l d r)

@@ -14,10 +14,10 @@ use Rattle.format.specs.declared.SlotType.{SlotType}
 use Rattle.format.specs.declared.SlotType.the-variants as S
 use Rattle.format.specs.Bytes.{pick, sameBytes}
 use Rattle.format.specs.Rows.{isObject}
-use Rattle.format.specs.Contents.{Prefixed, shortest, Detail, primitive, text, object, system, class, objects, texts, primitives, slotFor, Rec, null, library}
+use Rattle.format.specs.Contents.{Prefixed, shortest, Detail, primitive, text, object, system, class, objects, texts, primitives, slotFor, Rec, null, library, From, theSystem, theLibrary, Class}
 use Rattle.format.specs.Grammar.{Entry, another, aClass, aLibrary, ClassId, ObjectId, Characters, ClassInfo, takesObjects, product, of-objects, of-strings, of-primitives, of-any, of-values, takesRecords, allTake}
 use Rattle.format.specs.Grammar as G
-use Rattle.format.specs.Says.{From, theSystem, theLibrary, Class, What, anObject, aString, anArray, aPrimitive, aReference, aNull, aPrimitiveArray, anObjectArray, aStringArray, aValue, Node}
+use Rattle.format.specs.Says.{What, anObject, aString, anArray, aPrimitive, aReference, aNull, aPrimitiveArray, anObjectArray, aStringArray, aValue, Node}
 use Rattle.format.specs.Tidy.{sameClass, numberIn, Progress, nothing, Libraries, libraryRecords, entered, allEntered, detailNeeds, membersNeed, fromNeeds, classNeeds, detailBy, membersBy, classBy, objectBy, afterObject, recordsOf, afterWhat, runOf}
 use Rattle.laws.specs.Tests.{both-of}
 use Rattle.fields.specs.Judged.{picked}

@@ -1,12 +1,14 @@
 // Shows a list to people: at most 65,535 bytes from standard input, a table of 1,024 rows. The rows are those of the listing, with names instead of
 // numbers, indented by owner; a refusal has its name, its number, its place and the bytes around that place. With the word `--lenient` length prefixes may
-// be padded.
+// be padded; after the word `--book` stands the file of a class book of at most 1,048,575 bytes.
 use format::ReadAnswer;
 use format::Refusal;
 use format::Row;
 use format::Setting;
+use libc::STDERR_FILENO;
 use libc::STDIN_FILENO;
-use options::ForOne;
+use options::Choice;
+use options::Chosen;
 use spelling::number;
 use spelling::say;
 ghost use Prim.Native.Nat.{_≤_};
@@ -91,20 +93,28 @@ fn limits(r: Refusal) {
     }
 }
 
-fn answer(s: &[u8], table: &[u32], a: ReadAnswer, setting: Setting) {
+// The bytes around a place of the list or, where the book is bad, of the book.
+fn around(s: &[u8], book: &[u8], r: Refusal, place: usize) {
+    match r {
+        Refusal::BadBook => refusals::around(book, place),
+        _ => refusals::around(s, place),
+    }
+}
+
+fn answer(s: &[u8], book: &[u8], table: &[u32], a: ReadAnswer, setting: Setting) {
     match a {
         ReadAnswer::Accepted(n) => accepted(s, table, n, setting),
         ReadAnswer::Refused(r, place) => {
             say(b"refused: ");
             refusals::refusal(r, place);
             limits(r);
-            refusals::around(s, place);
+            around(s, book, r, place);
         }
     }
 }
 
-// The list under a setting.
-fn list(setting: Setting) {
+// The list with a book and under a setting.
+fn list(book: &[u8], setting: Setting) {
     let mut space = io::large_buffer();
     let n = io::read_full(STDIN_FILENO, &mut space);
     if n == 65536 {
@@ -114,13 +124,32 @@ fn list(setting: Setting) {
         return;
     }
     let mut table = [0u32; 8192];
-    let a = reader::read(&space[..n], &mut table, setting);
-    answer(&space[..n], &table, a, setting);
+    let a = reader::read(&space[..n], book, &mut table, setting);
+    answer(&space[..n], book, &table, a, setting);
+}
+
+// The list as the words of the call choose, with room for a book. A book is never longer than its room, so the second test only says so to the proof.
+fn chosen(room: &mut [u8], c: Choice) {
+    let setting = c.first;
+    let l = files::load_book(c.first_book, room);
+    if files::unusable_book(STDERR_FILENO, c.first_book, l) {
+        return;
+    }
+    let k = l.size;
+    if k <= room.len() {
+        list(&room[..k], setting);
+    }
+}
+
+// The call with a room for its book.
+fn called(c: Choice) {
+    let mut room = files::book_room();
+    chosen(&mut room, c);
 }
 
 fn main() {
     match options::one() {
-        ForOne::Take(setting) => list(setting),
-        ForOne::Wrong => options::usage(b"show [--lenient]"),
+        Chosen::Take(c) => called(c),
+        Chosen::Wrong => options::usage(b"show [--lenient] [--book FILE]"),
     }
 }

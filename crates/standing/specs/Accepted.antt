@@ -11,9 +11,10 @@ use borrow.Author.Tests.{ltb-false, eqb-true, eqb-false}
 use Rattle.format.specs.Terms.{Terms}
 use Rattle.format.specs.declared.Where.the-variants as W
 use Rattle.format.specs.declared.Row.{Row}
+use Rattle.format.specs.Entries.{badEntry}
 use Rattle.format.specs.Rows.{blank, isObject, objectRow, findFrom, isLost, linked}
 use Rattle.format.specs.Records.{allowed}
-use Rattle.format.specs.Machine.{State, Next, go, ended, refuse, Outcome, accepted, refused, step, recordStep, finish, onward, run, start, begin, rawOf, withLinks, readOf}
+use Rattle.format.specs.Machine.{State, Next, go, ended, refuse, Outcome, accepted, refused, step, recordStep, finish, onward, run, start, begin, streamOf, rawOf, withLinks, readOf}
 use Rattle.fields.specs.Judged.{picked}
 use Rattle.lookups.specs.Find.{find-none}
 use Rattle.links.specs.Links.{length-linked, lost-if}
@@ -139,10 +140,28 @@ module _ (τ : Terms) (s : List ℕ) (room : ℕ) (fits : length s ≤ 16777216)
       (record-fine τ s room start (record { inside = omega arith; counted = omega arith; roomy = omega arith; shallow = omega arith }) W.Start))
 
 pub raw-stands : (τ : Terms) (s : List ℕ) (room : ℕ) (raw : List Row) → rawOf τ s room ≡ accepted raw → Raw τ s room raw
-unfolding rawOf
+unfolding rawOf streamOf
 raw-stands τ s room raw e =
     subst (λ (x : Outcome). RawOf τ s room x) e
-    (picked (RawOf τ s room) (ltb 16777216 (length s)) (λ t. tt) (λ t. header-taken τ s room (ltb-false 16777216 (length s) t)))
+    (picked (RawOf τ s room) (ltb 16777216 (length s)) (λ t. tt)
+    (λ t. picked (RawOf τ s room) (eqb (badEntry (τ .book)) 0) (λ b. header-taken τ s room (ltb-false 16777216 (length s) t)) (λ b. tt)))
+
+abbrev GoodOf : Terms → List ℕ → Outcome → Type 0
+GoodOf τ s (accepted raw) = (length s ≤ 16777216) × (badEntry (τ .book) ≡ 0)
+GoodOf τ s (refused r place) = Unit {0}
+
+-- a stream that is taken is within the limit, and its book is good
+pub raw-good : (τ : Terms) (s : List ℕ) (room : ℕ) (raw : List Row) → rawOf τ s room ≡ accepted raw → (length s ≤ 16777216) × (badEntry (τ .book) ≡ 0)
+unfolding rawOf
+raw-good τ s room raw e =
+    subst (GoodOf τ s) e
+    (picked (GoodOf τ s) (ltb 16777216 (length s)) (λ t. tt)
+    (λ t. picked (GoodOf τ s) (eqb (badEntry (τ .book)) 0)
+    (λ b. good (ltb-false 16777216 (length s) t) (eqb-true (badEntry (τ .book)) 0 b) (streamOf τ s room)) (λ b. tt)))
+  where
+    good : length s ≤ 16777216 → badEntry (τ .book) ≡ 0 → (o : Outcome) → GoodOf τ s o
+    good l b (accepted rows) = (l, b)
+    good l b (refused r place) = tt
 
 -- the rows of a stream that is taken, and as they were read
 pub record Taken (τ : Terms) (s : List ℕ) (room : ℕ) (rows : List Row) : Type 0 where

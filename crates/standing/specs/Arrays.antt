@@ -69,7 +69,7 @@ module _ (τ : Terms) (s : List ℕ) (at : ℕ) where
         picked (Of P) (negative n) (λ d. tt) (λ d. record { count-at = e .0; ends = e .1 })))
         (λ b. tt))
 
-    of-primitives : Of (λ h. Primitives τ s at (h .count) (h .end)) (primitiveArrayAt τ s rows at)
+    of-primitives : Of (λ h. Primitives τ s at (h .count) (h .end)) (primitiveArrayAt (τ .setting) s rows at)
     unfolding primitiveArrayAt
     of-primitives =
         let P : Head → Type 0 = λ h. Primitives τ s at (h .count) (h .end) in
@@ -77,7 +77,7 @@ module _ (τ : Terms) (s : List ℕ) (at : ℕ) where
         picked (Of P) (goodId rows id) (λ b.
         of-number P _ (u32At s p) (λ n q c.
         picked (Of P) (negative n) (λ d. tt) (λ d.
-        of-field P (withItems τ s (coded (primitiveOf (getD s q 0))) id n) (codeAt s q) (λ x f.
+        of-field P (withItems (τ .setting) s (coded (primitiveOf (getD s q 0))) id n) (codeAt s q) (λ x f.
         let code = coded (primitiveOf (getD s q 0)) in
         of-field P _ (itemsAt (τ .setting) s code n x) (λ end g.
         let e = count-there id p n q a c in
@@ -113,7 +113,7 @@ pub record Array (τ : Terms) (s : List ℕ) (rows : List Row) (at count end : �
   pub info-end : ℕ
   pub rank-at : u32At s (at + 6) ≡ N32.Value rank (at + 10)
   pub type-at : typeByteAt s (at + 10 + 4 * rank) ≡ F.End (at + 10 + 4 * rank + 1)
-  pub info-at : infoKnown τ s rows (getD s (at + 10 + 4 * rank) 0) (at + 10 + 4 * rank + 1) ≡ F.End info-end
+  pub info-at : infoKnown (τ .setting) s rows (getD s (at + 10 + 4 * rank) 0) (at + 10 + 4 * rank + 1) ≡ F.End info-end
   pub items : info-end ≤ end
   pub items-at : getD s (at + 10 + 4 * rank) 0 ≡ 0 → itemsAt (τ .setting) s (coded (primitiveOf (getD s (at + 10 + 4 * rank + 1) 0))) count info-end ≡ F.End end
   pub no-items : (getD s (at + 10 + 4 * rank) 0 ≡ 0 → ⊥) → end ≡ info-end
@@ -141,7 +141,7 @@ module _ (τ : Terms) (s : List ℕ) where
   of-lengths P k (L.Product n end) e q f = subst (λ (e : ℕ). Of P (k n e)) (sym q) (f n)
   of-lengths P k (L.Fault x) e q f = tt
 
-  items-ended : (slot : SlotType) (id n infos at : ℕ) → Of (Ended τ s slot at) (itemsOf τ s id n infos at slot)
+  items-ended : (slot : SlotType) (id n infos at : ℕ) → Of (Ended τ s slot at) (itemsOf (τ .setting) s id n infos at slot)
   items-ended (S.Primitive c) id n infos at = of-field (Ended τ s (S.Primitive c) at) _ (itemsAt (τ .setting) s c n at) (λ end a. a)
   items-ended S.Text id n infos at = refl
   items-ended S.Object id n infos at = refl
@@ -188,24 +188,24 @@ module _ (τ : Terms) (s : List ℕ) where
     ArrayOf h = Array τ s rows at (h .count) (h .end)
 
     -- after the lengths
-    of-items : (rank id n : ℕ) → u32At s (at + 6) ≡ N32.Value rank (at + 10) → Of ArrayOf (itemTypeAt τ s rows id n (at + 10 + 4 * rank))
+    of-items : (rank id n : ℕ) → u32At s (at + 6) ≡ N32.Value rank (at + 10) → Of ArrayOf (itemTypeAt (τ .setting) s rows id n (at + 10 + 4 * rank))
     unfolding itemTypeAt typedAt
     of-items rank id n r =
         let types : ℕ = at + 10 + 4 * rank in
         of-field ArrayOf _ (typeByteAt s types) (λ infos a.
-        of-field ArrayOf _ (infoKnown τ s rows (getD s types 0) infos) (λ end b.
+        of-field ArrayOf _ (infoKnown (τ .setting) s rows (getD s types 0) infos) (λ end b.
         let u = type-told s types infos a in
         let e : infos ≡ types + 1 = u .2 in
-        let v = info-known-moves τ s rows (getD s types 0) infos end (omega arith) b in
+        let v = info-known-moves (τ .setting) s rows (getD s types 0) infos end (omega arith) b in
         let slot = slotOf (getD s types 0) (getD s infos 0) in
-        of-more slot end (itemsOf τ s id n infos end slot) (λ h l.
+        of-more slot end (itemsOf (τ .setting) s id n infos end slot) (λ h l.
         let there = ended-items (getD s types 0) (getD s infos 0) end h l in
         record {
           rank = rank;
           info-end = end;
           rank-at = r;
           type-at = a ∙ ap F.End e;
-          info-at = subst (λ (p : ℕ). infoKnown τ s rows (getD s types 0) p ≡ F.End end) e b;
+          info-at = subst (λ (p : ℕ). infoKnown (τ .setting) s rows (getD s types 0) p ≡ F.End end) e b;
           items = ended-after slot end h (v .1) l;
           items-at = λ z. subst (λ (p : ℕ). itemsAt (τ .setting) s (coded (primitiveOf (getD s p 0))) (h .count) end ≡ F.End (h .end)) e (there z);
           no-items = λ z. ended-none (getD s types 0) (getD s infos 0) end h l z;
@@ -215,7 +215,7 @@ module _ (τ : Terms) (s : List ℕ) where
         of-more slot e (H.Fields h) f q = f h q
         of-more slot e (H.Bad x) f q = tt
 
-    of-rank : (id type p : ℕ) → p ≡ at + 6 → Of ArrayOf (rankAt τ s rows id type p)
+    of-rank : (id type p : ℕ) → p ≡ at + 6 → Of ArrayOf (rankAt (τ .setting) s rows id type p)
     unfolding rankAt
     of-rank id type p e =
         of-number ArrayOf _ (u32At s p) (λ rank q a.
@@ -224,10 +224,10 @@ module _ (τ : Terms) (s : List ℕ) where
         let f : q ≡ at + 10 = omega arith in
         let r : u32At s (at + 6) ≡ N32.Value rank (at + 10) = subst (λ (p : ℕ). u32At s p ≡ N32.Value rank (at + 10)) e (a ∙ ap (N32.Value rank) f) in
         let l : q + 4 * rank ≡ at + 10 + 4 * rank = omega arith in
-        of-lengths ArrayOf (itemTypeAt τ s rows id) (lengthsAt s rank 1 q) (at + 10 + 4 * rank) (lengths-end rank 1 q _ l) (λ n. of-items rank id n r))
+        of-lengths ArrayOf (itemTypeAt (τ .setting) s rows id) (lengthsAt s rank 1 q) (at + 10 + 4 * rank) (lengths-end rank 1 q _ l) (λ n. of-items rank id n r))
         (λ b. tt))
 
-    of-array : Of ArrayOf (binaryArrayAt τ s rows at)
+    of-array : Of ArrayOf (binaryArrayAt (τ .setting) s rows at)
     unfolding binaryArrayAt
     of-array =
         of-number ArrayOf _ (u32At s (at + 1)) (λ id p a.

@@ -18,13 +18,16 @@ use Rattle.format.specs.Bytes.{pick}
 use Rattle.format.specs.Values.{valueAt}
 use Rattle.format.specs.Types.{codeNumber, coded, primitiveOf, slotOf, typedAt, isPrimitive, moved, afterText, afterInfo}
 use Rattle.format.specs.Rows.{blank, isClass, withLink, linkOf, linked}
-use Rattle.format.specs.Contents.{Member}
+use Rattle.format.specs.Contents.{Member, Class}
+use Rattle.format.specs.Records.{firstType}
 use Rattle.format.specs.Machine.{accepted, rawOf}
-use Rattle.format.specs.Says.{detailFrom, membersFrom, classFrom, classRowOf, codeOf, codeIn, valueCode}
+use Rattle.format.specs.Says.{detailFrom, membersFrom, typedFrom, classFrom, classRowOf, codeOf, codeIn, valueCode}
+use Rattle.laws.specs.Classes.{kind-typed, class-typed, class-blind}
+use Rattle.spans.specs.Spans.{info-place}
 use Rattle.spans.specs.Judged.{name-after, names-after}
 use Rattle.standing.specs.Accepted.{raw-stands}
 use Rattle.standing.specs.Linked.{relinked, linked-is, row-at, same-owner, same-slot, same-at, Links, by-link}
-use Rattle.standing.specs.Cursors.{movedBy, firstType, TypesIn, types-in, OfClass, FromSlot, value-slots}
+use Rattle.standing.specs.Cursors.{movedBy, first-of, TypesIn, types-in, OfClass, FromSlot, value-slots}
 
 -- ---- one type
 
@@ -53,41 +56,46 @@ module _ (τ : Terms) (s : List ℕ) (rows : List Row) where
   unfolding detailFrom
   detail-code type at c e = let w = slot-code type (getD s at 0) c e in rw (w .0) (w .1)
 
-  typed-next : (types infos : ℕ) → 0 < types → types < length s → moved s (typedAt s types infos) ≡ typedAt s (types + 1) (afterInfo s (getD s types 0) infos)
+  typed-next : (types infos : ℕ) → 0 < types → 0 < infos → types < length s → moved (τ .book) s (typedAt s types infos) ≡ typedAt s (types + 1) (afterInfo s (getD s types 0) infos)
   unfolding moved typedAt
-  typed-next types infos n l = rw (ne-eqb types 0 (λ e. omega arith), lt-ltb types (length s) l)
+  typed-next types infos n m l = rw (ne-eqb types 0 (λ e. omega arith), ne-eqb infos 0 (λ e. omega arith), lt-ltb types (length s) l)
 
   first-slot : (types infos : ℕ) → typedAt s types infos .slot ≡ slotOf (getD s types 0) (getD s infos 0)
   unfolding typedAt
   first-slot types infos = refl
 
   -- the member of number k, of n that stand at their places
-  member-code : (k n names types infos : ℕ) (c : PrimitiveCode) → k < n → 0 < types → types + n ≤ length s
-      → movedBy s k (typedAt s types infos) .slot ≡ S.Primitive c → codeIn (membersFrom s rows n names types infos) k ≡ c
+  member-code : (k n names types infos : ℕ) (c : PrimitiveCode) → k < n → 0 < types → 0 < infos → types + n ≤ length s
+      → movedBy (τ .book) s k (typedAt s types infos) .slot ≡ S.Primitive c → codeIn (membersFrom s rows n names types infos) k ≡ c
   unfolding movedBy membersFrom codeIn
-  member-code k zero names types infos c h n l e = absurd (omega arith)
-  member-code zero (suc m) names types infos c h n l e = detail-code (getD s types 0) infos c (sym (first-slot types infos) ∙ e)
-  member-code (suc k) (suc m) names types infos c h n l e =
-      member-code k m (afterText s names) (types + 1) (afterInfo s (getD s types 0) infos) c (omega arith) (omega arith) (omega arith)
-      (ap (λ t. movedBy s k t .slot) (sym (typed-next types infos n (omega arith))) ∙ e)
+  member-code k zero names types infos c h n i l e = absurd (omega arith)
+  member-code zero (suc m) names types infos c h n i l e = detail-code (getD s types 0) infos c (sym (first-slot types infos) ∙ e)
+  member-code (suc k) (suc m) names types infos c h n i l e =
+      let r = info-place s (getD s types 0) infos (infos + length s) (omega arith) (omega arith) in
+      member-code k m (afterText s names) (types + 1) (afterInfo s (getD s types 0) infos) c (omega arith) (omega arith) (omega arith) (omega arith)
+      (ap (λ t. movedBy (τ .book) s k t .slot) (sym (typed-next types infos n i (omega arith))) ∙ e)
 
   -- the members of a class are at the places that its row as read says
-  class-members : (r : Row) → TypesIn τ s r → classFrom s rows r .members
+  class-members : (r : Row) → isClass (r .kind) ≡ true → TypesIn τ s r → classFrom (τ .book) s rows r .members
       ≡ membersFrom s rows (r .count) (afterText s (r .offset + 5) + 4) (r .link) (r .link + r .count)
-  unfolding classFrom
-  class-members r w =
-      rw (name-after (τ .setting) s (r .offset + 5) (w .name-end) (w .named), names-after (τ .setting) s (r .count) (w .name-end + 4) (r .link) (w .names))
+  unfolding typedFrom
+  class-members r y w = ap (λ (c : Class). c .members) (class-typed (τ .book) s rows r (kind-typed (r .kind) y)) ∙ typed-members
+    where
+      typed-members : typedFrom s rows r .members ≡ membersFrom s rows (r .count) (afterText s (r .offset + 5) + 4) (r .link) (r .link + r .count)
+      typed-members =
+          rw (name-after (τ .setting) s (r .offset + 5) (w .name-end) (w .named), names-after (τ .setting) s (r .count) (w .name-end + 4) (r .link) (w .names))
 
   -- a class does not see a link
-  class-blind : (f : Row → ℕ) (raw : List Row) (j k : ℕ) → codeIn (classFrom s rows (getD (relinked f raw) j blank) .members) k ≡ codeIn (classFrom s rows (getD raw j blank) .members) k
-  unfolding classFrom
-  class-blind f raw j k = same-at f raw (λ (r : Row). codeIn (classFrom s rows r .members) k) (λ r l. refl) j
+  members-blind : (f : Row → ℕ) (raw : List Row) (j k : ℕ) → codeIn (classFrom (τ .book) s rows (getD (relinked f raw) j blank) .members) k ≡ codeIn (classFrom (τ .book) s rows (getD raw j blank) .members) k
+  members-blind f raw j k =
+      same-at f raw (λ (r : Row). codeIn (classFrom (τ .book) s rows r .members) k) (λ r l. ap (λ (c : Class). codeIn (c .members) k) (class-blind (τ .book) s rows r l)) j
 
-  class-code : (r : Row) (k : ℕ) (c : PrimitiveCode) → TypesIn τ s r → k < r .count → movedBy s k (firstType s r) .slot ≡ S.Primitive c
-      → codeIn (classFrom s rows r .members) k ≡ c
-  class-code r k c w h e =
-      ap (λ (ms : List (Member (List ℕ) (List ℕ))). codeIn ms k) (class-members r w)
-      ∙ member-code k (r .count) (afterText s (r .offset + 5) + 4) (r .link) (r .link + r .count) c h (w .some) (w .inside) e
+  class-code : (r : Row) (k : ℕ) (c : PrimitiveCode) → isClass (r .kind) ≡ true → TypesIn τ s r → k < r .count → movedBy (τ .book) s k (firstType (τ .book) s r) .slot ≡ S.Primitive c
+      → codeIn (classFrom (τ .book) s rows r .members) k ≡ c
+  class-code r k c y w h e =
+      ap (λ (ms : List (Member (List ℕ) (List ℕ))). codeIn ms k) (class-members r y w)
+      ∙ member-code k (r .count) (afterText s (r .offset + 5) + 4) (r .link) (r .link + r .count) c h (w .some) (omega (arith, w .some)) (w .inside)
+      (ap (λ t. movedBy (τ .book) s k t .slot) (sym (first-of (τ .book) s r y (w .inside))) ∙ e)
 
 -- ---- the rows of an accepted stream
 
@@ -96,9 +104,9 @@ pub record ValueCode (τ : Terms) (s : List ℕ) (raw : List Row) (i : ℕ) : Ty
   pub code : PrimitiveCode
   pub reads : valueAt (τ .setting) s code (getD raw i blank .offset) ≡ F.End (getD raw i blank .end)
   pub link-is : getD raw i blank .link ≡ codeNumber code
-  pub said : valueCode s (linked raw) (getD (linked raw) i blank) ≡ code
+  pub said : valueCode (τ .book) s (linked raw) (getD (linked raw) i blank) ≡ code
   -- the same by rows with any links
-  pub said-by : (f : Row → ℕ) → Links raw f → valueCode s (relinked f raw) (getD (relinked f raw) i blank) ≡ code
+  pub said-by : (f : Row → ℕ) → Links raw f → valueCode (τ .book) s (relinked f raw) (getD (relinked f raw) i blank) ≡ code
 
 -- the class of an object, by rows with their links
 module _ (f : Row → ℕ) (raw : List Row) (L : Links raw f) (owner j : ℕ) (w : OfClass raw owner j) where
@@ -137,7 +145,7 @@ module _ (τ : Terms) (s : List ℕ) (room : ℕ) (raw : List Row) (e : rawOf τ
   filled-slot = value-slots τ s room raw e i h k
 
   -- by rows with any links
-  said-code : (f : Row → ℕ) → Links raw f → valueCode s (relinked f raw) (getD (relinked f raw) i blank) ≡ filled-slot .code
+  said-code : (f : Row → ℕ) → Links raw f → valueCode (τ .book) s (relinked f raw) (getD (relinked f raw) i blank) ≡ filled-slot .code
   unfolding valueCode
   said-code f L =
       let w = filled-slot in
@@ -148,11 +156,11 @@ module _ (τ : Terms) (s : List ℕ) (room : ℕ) (raw : List Row) (e : rawOf τ
       let o = of-all raw i (r .owner) j h (w .of-class) in
       let c : getD (take i raw) j blank ≡ getD raw j blank = getD-take i raw j blank (omega (arith, w .of-class .inside)) in
       let t = types-in τ (raw-stands τ s room raw e .stands .each j (o .inside)) (o .class) in
-      ap₂ (λ (a b : ℕ). codeIn (classFrom s all (classRowOf all (getD all (a - 1) blank)) .members) b) (same-owner f raw i) (same-slot f raw i)
-      ∙ (ap (λ (x : Row). codeIn (classFrom s all x .members) (r .slot)) (class-row-of f raw L (r .owner) j o)
-      ∙ (class-blind τ s all f raw j (r .slot)
-      ∙ class-code τ s all (getD raw j blank) (r .slot) (w .code) t (subst (λ (x : Row). r .slot < x .count) c (w .slot-in))
-      (ap (λ (x : Row). movedBy s (r .slot) (firstType s x) .slot) (sym c) ∙ w .typed)))
+      ap₂ (λ (a b : ℕ). codeIn (classFrom (τ .book) s all (classRowOf all (getD all (a - 1) blank)) .members) b) (same-owner f raw i) (same-slot f raw i)
+      ∙ (ap (λ (x : Row). codeIn (classFrom (τ .book) s all x .members) (r .slot)) (class-row-of f raw L (r .owner) j o)
+      ∙ (members-blind τ s all f raw j (r .slot)
+      ∙ class-code τ s all (getD raw j blank) (r .slot) (w .code) (o .class) t (subst (λ (x : Row). r .slot < x .count) c (w .slot-in))
+      (ap (λ (x : Row). movedBy (τ .book) s (r .slot) (firstType (τ .book) s x) .slot) (sym c) ∙ w .typed)))
 
   pub value-code : ValueCode τ s raw i
   value-code =
@@ -161,6 +169,6 @@ module _ (τ : Terms) (s : List ℕ) (room : ℕ) (raw : List Row) (e : rawOf τ
         code = w .code;
         reads = w .reads;
         link-is = w .link-is;
-        said = ap (λ (rows : List Row). valueCode s rows (getD rows i blank)) (linked-is raw) ∙ said-code (linkOf raw) (by-link raw);
+        said = ap (λ (rows : List Row). valueCode (τ .book) s rows (getD rows i blank)) (linked-is raw) ∙ said-code (linkOf raw) (by-link raw);
         said-by = said-code;
       }

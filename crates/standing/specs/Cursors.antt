@@ -33,12 +33,15 @@ use Rattle.format.specs.Bytes.{pick}
 use Rattle.format.specs.Numbers.{u32At, negative}
 use Rattle.format.specs.Values.{valueAt, itemsAt, times}
 use Rattle.format.specs.Types.{codeNumber, primitiveOf, coded, codeAt, typeByteAt, nameAt, typedAt, isPrimitive, moved, passed, passedBy, passedOf}
+use Rattle.format.specs.Entries.{badEntry}
 use Rattle.format.specs.Rows.{blank, isObject, isClass, classRow, objectRow, findFrom, isLost}
-use Rattle.format.specs.Records.{goodId, goodRank, onSlots, infoKnown, kindAt, classAt, stringRecordAt, slotArrayAt, withItems, primitiveArrayAt, lengthsAt, itemsOf, itemTypeAt, rankAt, binaryArrayAt, headingAt}
-use Rattle.format.specs.Machine.{Open, State, Next, go, ended, refuse, close, filledBy, filled, opened, rowIn, rowApart, add, object, runOver, nullRun, ending, act, onKind, recordStep, valueHead, onValue, valueStep, bySlot, step, Outcome, accepted, refused, finish, onward, run, start, begin, rawOf}
+use Rattle.format.specs.Records.{goodId, goodRank, onSlots, infoKnown, kindAt, classAt, firstType, stringRecordAt, slotArrayAt, withItems, primitiveArrayAt, lengthsAt, itemsOf, itemTypeAt, rankAt, binaryArrayAt, headingAt}
+use Rattle.format.specs.Machine.{Open, State, Next, go, ended, refuse, close, filledBy, filled, opened, rowIn, rowApart, add, object, runOver, nullRun, ending, act, onKind, recordStep, valueHead, onValue, valueStep, bySlot, step, Outcome, accepted, refused, finish, onward, run, start, begin, streamOf, rawOf}
 use Rattle.fields.specs.Judged.{picked}
 use Rattle.kinds.specs.Kinds.{kind-byte}
 use Rattle.headings.specs.Headings.{by-id-heading, system-heading, class-heading, string-heading, array-heading, primitives-heading, objects-heading}
+use Rattle.laws.specs.Classes.{kind-typed}
+use Rattle.class_info.specs.Stages.{first-typed}
 use Rattle.class_info.specs.Ends.{number-moves}
 use Rattle.class_info.specs.Moves.{names-there, types-there}
 use Rattle.lookups.specs.Find.{class-at}
@@ -52,38 +55,40 @@ use Rattle.standing.specs.Accepted.{start-gathered, header-gathered}
 -- ---- types one after the other
 
 -- the type k slots on
-unfoldable pub movedBy : List ℕ → ℕ → Typed → Typed
-movedBy s zero t = t
-movedBy s (suc k) t = movedBy s k (moved s t)
+unfoldable pub movedBy : List ℕ → List ℕ → ℕ → Typed → Typed
+movedBy β s zero t = t
+movedBy β s (suc k) t = movedBy β s k (moved β s t)
 
--- the type of the first member of the class in this row
-abbrev pub firstType : List ℕ → Row → Typed
-firstType s c = typedAt s (c .link) (c .link + c .count)
+-- the type of the first member of a class whose type bytes are there
+pub first-of : (β s : List ℕ) (c : Row) → isClass (c .kind) ≡ true → c .link + c .count ≤ length s → firstType β s c ≡ typedAt s (c .link) (c .link + c .count)
+first-of β s c k h =
+    first-typed β s c (kind-typed (c .kind) k)
+    ∙ ap (λ (b : Bool). typedAt s (c .link) (pick b (length s) (c .link + c .count))) (le-ltb (length s) (c .link + c .count) h)
 
 -- slots that are all alike, and take records
 abbrev pub Even : Typed → Type 0
 Even t = (t .types ≡ 0) × (isPrimitive (t .slot) ≡ false)
 
-module _ (s : List ℕ) where
-  moved-more : (a b : ℕ) (t : Typed) → movedBy s b (movedBy s a t) ≡ movedBy s (a + b) t
+module _ (β s : List ℕ) where
+  moved-more : (a b : ℕ) (t : Typed) → movedBy β s b (movedBy β s a t) ≡ movedBy β s (a + b) t
   unfolding movedBy
-  moved-more zero b t = let z : b ≡ 0 + b = omega arith in ap (λ (n : ℕ). movedBy s n t) z
+  moved-more zero b t = let z : b ≡ 0 + b = omega arith in ap (λ (n : ℕ). movedBy β s n t) z
   moved-more (suc a) b t =
       let z : suc (a + b) ≡ suc a + b = omega arith in
-      moved-more a b (moved s t) ∙ ap (λ (n : ℕ). movedBy s n t) z
+      moved-more a b (moved β s t) ∙ ap (λ (n : ℕ). movedBy β s n t) z
 
-  moved-one : (t : Typed) → moved s t ≡ movedBy s 1 t
+  moved-one : (t : Typed) → moved β s t ≡ movedBy β s 1 t
   unfolding movedBy
   moved-one t = refl
 
-  even-moved : (t : Typed) → t .types ≡ 0 → moved s t ≡ t
+  even-moved : (t : Typed) → t .types ≡ 0 → moved β s t ≡ t
   unfolding moved
   even-moved t e = rw e
 
-  even-by : (k : ℕ) (t : Typed) → t .types ≡ 0 → movedBy s k t ≡ t
+  even-by : (k : ℕ) (t : Typed) → t .types ≡ 0 → movedBy β s k t ≡ t
   unfolding movedBy
   even-by zero t e = refl
-  even-by (suc k) t e = ap (movedBy s k) (even-moved t e) ∙ even-by k t e
+  even-by (suc k) t e = ap (movedBy β s k) (even-moved t e) ∙ even-by k t e
 
   over-same : {t u : Typed} → O.Over t ≡ O.Over u → t ≡ u
   over-same e = cc
@@ -91,21 +96,21 @@ module _ (s : List ℕ) where
   crossed : {A : Type 0} {u : Typed} → O.Crossed ≡ O.Over u → A
   crossed e = absurd (let z : _≡_ {A = ℕ} 0 1 = cc in omega arith)
 
-  passed-by : (k : ℕ) (t u : Typed) → passed s t k ≡ O.Over u → u ≡ movedBy s k t
+  passed-by : (k : ℕ) (t u : Typed) → passed β s t k ≡ O.Over u → u ≡ movedBy β s k t
   unfolding passed movedBy
   passed-by zero t u e = sym (over-same e)
-  passed-by (suc k) t u e = go (isPrimitive (t .slot)) (passed-by k (moved s t) u) e
+  passed-by (suc k) t u e = go (isPrimitive (t .slot)) (passed-by k (moved β s t) u) e
     where
-      go : (b : Bool) → (passed s (moved s t) k ≡ O.Over u → u ≡ movedBy s k (moved s t)) → pick b O.Crossed (passed s (moved s t) k) ≡ O.Over u
-          → u ≡ movedBy s k (moved s t)
+      go : (b : Bool) → (passed β s (moved β s t) k ≡ O.Over u → u ≡ movedBy β s k (moved β s t)) → pick b O.Crossed (passed β s (moved β s t) k) ≡ O.Over u
+          → u ≡ movedBy β s k (moved β s t)
       go true next e = crossed e
       go false next e = next e
 
-  over-by : (k : ℕ) (t u : Typed) → passedOf s t k ≡ O.Over u → u ≡ movedBy s k t
+  over-by : (k : ℕ) (t u : Typed) → passedOf β s t k ≡ O.Over u → u ≡ movedBy β s k t
   unfolding passedOf
   over-by k t u = go (eqb (t .types) 0) refl
     where
-      go : (b : Bool) → eqb (t .types) 0 ≡ b → passedBy b s t k ≡ O.Over u → u ≡ movedBy s k t
+      go : (b : Bool) → eqb (t .types) 0 ≡ b → passedBy b β s t k ≡ O.Over u → u ≡ movedBy β s k t
       go true q e = sym (over-same e) ∙ sym (even-by k t (eqb-true (t .types) 0 q))
       go false q e = passed-by k t u e
 
@@ -118,27 +123,27 @@ pub record OfClass (rows : List Row) (owner j : ℕ) : Type 0 where
   pub inside : j < length rows
   pub class : isClass (getD rows j blank .kind) ≡ true
 
-pub data Cursor (s : List ℕ) (rows : List Row) (f : Frame) : Type 0 where
-  even : Even (f .typed) → Cursor s rows f
+pub data Cursor (β s : List ℕ) (rows : List Row) (f : Frame) : Type 0 where
+  even : Even (f .typed) → Cursor β s rows f
   in-class : (j : ℕ) → OfClass rows (f .owner) j → f .count ≡ getD rows j blank .count → f .left ≤ f .count
-      → f .typed ≡ movedBy s (f .count - f .left) (firstType s (getD rows j blank)) → Cursor s rows f
+      → f .typed ≡ movedBy β s (f .count - f .left) (firstType β s (getD rows j blank)) → Cursor β s rows f
 
 -- open objects, innermost first; the last frame stands for the top level
-abbrev pub Below : List ℕ → List Row → Frame → List Frame → Type 0
-Below s rows f [] = Even (f .typed)
-Below s rows f (g ∷ gs) = Cursor s rows f × Below s rows g gs
+abbrev pub Below : List ℕ → List ℕ → List Row → Frame → List Frame → Type 0
+Below β s rows f [] = Even (f .typed)
+Below β s rows f (g ∷ gs) = Cursor β s rows f × Below β s rows g gs
 
 -- and the innermost has a slot left
-abbrev pub Stacked : List ℕ → List Row → Frame → List Frame → Type 0
-Stacked s rows f [] = Even (f .typed)
-Stacked s rows f (g ∷ gs) = Cursor s rows f × (0 < f .left) × Below s rows g gs
+abbrev pub Stacked : List ℕ → List ℕ → List Row → Frame → List Frame → Type 0
+Stacked β s rows f [] = Even (f .typed)
+Stacked β s rows f (g ∷ gs) = Cursor β s rows f × (0 < f .left) × Below β s rows g gs
 
-abbrev pub Stack : List ℕ → List Row → Open → Type 0
-Stack s rows o = Stacked s rows (o .cur) (o .below)
+abbrev pub Stack : List ℕ → List ℕ → List Row → Open → Type 0
+Stack β s rows o = Stacked β s rows (o .cur) (o .below)
 
 -- ---- with one row more
 
-module _ (s : List ℕ) (rows : List Row) (r : Row) where
+module _ (β s : List ℕ) (rows : List Row) (r : Row) where
   abbrev more : List Row
   more = rows ++ (r ∷ [])
 
@@ -156,66 +161,66 @@ module _ (s : List ℕ) (rows : List Row) (r : Row) where
         class = ap (λ (x : Row). isClass (x .kind)) f ∙ w .class;
       }
 
-  cursor-more : (f : Frame) → Cursor s rows f → Cursor s more f
+  cursor-more : (f : Frame) → Cursor β s rows f → Cursor β s more f
   cursor-more f (even e) = even e
   cursor-more f (in-class j w c l t) =
       let e : getD more j blank ≡ getD rows j blank = List·getD-append rows (r ∷ []) blank j (w .inside) in
       in-class j (of-more (f .owner) j w) (c ∙ ap (λ (x : Row). x .count) (sym e)) l
-      (t ∙ ap (λ (x : Row). movedBy s (f .count - f .left) (firstType s x)) (sym e))
+      (t ∙ ap (λ (x : Row). movedBy β s (f .count - f .left) (firstType β s x)) (sym e))
 
-  below-more : (f : Frame) (gs : List Frame) → Below s rows f gs → Below s more f gs
+  below-more : (f : Frame) (gs : List Frame) → Below β s rows f gs → Below β s more f gs
   below-more f [] w = w
   below-more f (g ∷ gs) w = (cursor-more f (w .0), below-more g gs (w .1))
 
-  stacked-more : (f : Frame) (gs : List Frame) → Stacked s rows f gs → Stacked s more f gs
+  stacked-more : (f : Frame) (gs : List Frame) → Stacked β s rows f gs → Stacked β s more f gs
   stacked-more f [] w = w
   stacked-more f (g ∷ gs) w = (cursor-more f (w .0), w .1, below-more g gs (w .2))
 
 -- ---- slots are filled
 
-module _ (s : List ℕ) (rows : List Row) where
-  close-stacked : (f : Frame) (gs : List Frame) → Below s rows f gs → Stack s rows (close f gs)
+module _ (β s : List ℕ) (rows : List Row) where
+  close-stacked : (f : Frame) (gs : List Frame) → Below β s rows f gs → Stack β s rows (close f gs)
   unfolding close
   close-stacked f [] w = w
   close-stacked f (g ∷ gs) w =
-      picked (Stack s rows) (eqb (f .left) 0) (λ t. close-stacked g gs (w .1))
+      picked (Stack β s rows) (eqb (f .left) 0) (λ t. close-stacked g gs (w .1))
       (λ t. let n = eqb-false (f .left) 0 t in (w .0, omega (arith, n), w .1))
 
-  module _ (f : Frame) (k : ℕ) (t : Typed) (e : t ≡ movedBy s k (f .typed)) where
+  module _ (f : Frame) (k : ℕ) (t : Typed) (e : t ≡ movedBy β s k (f .typed)) where
     even-filled : Even (f .typed) → Even t
-    even-filled w = subst Even (sym (e ∙ even-by s k (f .typed) (w .0))) w
+    even-filled w = subst Even (sym (e ∙ even-by β s k (f .typed) (w .0))) w
 
-    fill-cursor : Cursor s rows f → k ≤ f .left → Cursor s rows (filledBy f k t)
+    fill-cursor : Cursor β s rows f → k ≤ f .left → Cursor β s rows (filledBy f k t)
     fill-cursor (even w) h = even (even-filled w)
     fill-cursor (in-class j w c l x) h =
         let n : f .count - f .left + k ≡ f .count - (f .left - k) = omega arith in
         in-class j w c (omega arith)
         (e
-        ∙ (ap (movedBy s k) x
-        ∙ (moved-more s (f .count - f .left) k (firstType s (getD rows j blank))
-        ∙ ap (λ (m : ℕ). movedBy s m (firstType s (getD rows j blank))) n)))
+        ∙ (ap (movedBy β s k) x
+        ∙ (moved-more β s (f .count - f .left) k (firstType β s (getD rows j blank))
+        ∙ ap (λ (m : ℕ). movedBy β s m (firstType β s (getD rows j blank))) n)))
 
-    fill-below : (gs : List Frame) → (0 < f .left → k ≤ f .left) → Stacked s rows f gs → Below s rows (filledBy f k t) gs
+    fill-below : (gs : List Frame) → (0 < f .left → k ≤ f .left) → Stacked β s rows f gs → Below β s rows (filledBy f k t) gs
     fill-below [] h w = even-filled w
     fill-below (g ∷ gs) h w = (fill-cursor (w .0) (h (w .1)), w .2)
 
-  fill-stack : (o : Open) (k : ℕ) (t : Typed) → t ≡ movedBy s k (o .cur .typed) → (0 < o .cur .left → k ≤ o .cur .left) → Stack s rows o → Stack s rows (filled o k t)
+  fill-stack : (o : Open) (k : ℕ) (t : Typed) → t ≡ movedBy β s k (o .cur .typed) → (0 < o .cur .left → k ≤ o .cur .left) → Stack β s rows o → Stack β s rows (filled o k t)
   unfolding filled
   fill-stack o k t e h w = close-stacked (filledBy (o .cur) k t) (o .below) (fill-below (o .cur) k t e (o .below) h w)
 
 -- ---- what the fields of an object say of its slots
 
-pub data Starts (s : List ℕ) (rows : List Row) (k : ℕ) (h : Head) : Type 0 where
-  alike-slots : Even (h .first) → Starts s rows k h
-  own-class : isClass k ≡ true → h .slots ≡ h .count → h .first ≡ typedAt s (h .link) (h .link + h .count) → Starts s rows k h
+pub data Starts (β s : List ℕ) (rows : List Row) (k : ℕ) (h : Head) : Type 0 where
+  alike-slots : Even (h .first) → Starts β s rows k h
+  own-class : isClass k ≡ true → h .slots ≡ h .count → h .link + h .count ≤ length s → h .first ≡ typedAt s (h .link) (h .link + h .count) → Starts β s rows k h
   by-class : k ≡ 1 → h .link - 1 < length rows → isClass (getD rows (h .link - 1) blank .kind) ≡ true → h .slots ≡ getD rows (h .link - 1) blank .count
-      → h .first ≡ firstType s (getD rows (h .link - 1) blank) → Starts s rows k h
+      → h .first ≡ firstType β s (getD rows (h .link - 1) blank) → Starts β s rows k h
 
 module _ (τ : Terms) (s : List ℕ) (rows : List Row) (at : ℕ) where
   abbrev EvenHead : Head → Type 0
   EvenHead h = Even (h .first)
 
-  string-even : Of EvenHead (stringRecordAt τ s rows at)
+  string-even : Of EvenHead (stringRecordAt (τ .setting) s rows at)
   unfolding stringRecordAt
   string-even =
       of-number EvenHead _ (u32At s (at + 1)) (λ id p a.
@@ -229,20 +234,20 @@ module _ (τ : Terms) (s : List ℕ) (rows : List Row) (at : ℕ) where
       of-number EvenHead _ (u32At s p) (λ n e c. picked (Of EvenHead) (negative n) (λ d. tt) (λ d. (refl, q))))
       (λ b. tt))
 
-  items-even : (code : PrimitiveCode) (id n p : ℕ) → Of EvenHead (withItems τ s code id n p)
+  items-even : (code : PrimitiveCode) (id n p : ℕ) → Of EvenHead (withItems (τ .setting) s code id n p)
   items-even code id n p = of-field EvenHead _ (itemsAt (τ .setting) s code n p) (λ e c. (refl, refl))
 
-  primitives-even : Of EvenHead (primitiveArrayAt τ s rows at)
+  primitives-even : Of EvenHead (primitiveArrayAt (τ .setting) s rows at)
   unfolding primitiveArrayAt
   primitives-even =
       of-number EvenHead _ (u32At s (at + 1)) (λ id p a.
       picked (Of EvenHead) (goodId rows id) (λ b.
       of-number EvenHead _ (u32At s p) (λ n q c.
       picked (Of EvenHead) (negative n) (λ d. tt) (λ d.
-      of-field EvenHead (withItems τ s (coded (primitiveOf (getD s q 0))) id n) (codeAt s q) (λ x f. items-even (coded (primitiveOf (getD s q 0))) id n x))))
+      of-field EvenHead (withItems (τ .setting) s (coded (primitiveOf (getD s q 0))) id n) (codeAt s q) (λ x f. items-even (coded (primitiveOf (getD s q 0))) id n x))))
       (λ b. tt))
 
-  of-slot : (slot : SlotType) (id n infos p : ℕ) → Of EvenHead (itemsOf τ s id n infos p slot)
+  of-slot : (slot : SlotType) (id n infos p : ℕ) → Of EvenHead (itemsOf (τ .setting) s id n infos p slot)
   of-slot (S.Primitive c) id n infos p = items-even c id n p
   of-slot S.Text id n infos p = (refl, refl)
   of-slot S.Object id n infos p = (refl, refl)
@@ -256,19 +261,19 @@ module _ (τ : Terms) (s : List ℕ) (rows : List Row) (at : ℕ) where
   on-slots k (L.Product n e) f = f n e
   on-slots k (L.Fault x) f = tt
 
-  type-even : (id n types : ℕ) → Of EvenHead (itemTypeAt τ s rows id n types)
+  type-even : (id n types : ℕ) → Of EvenHead (itemTypeAt (τ .setting) s rows id n types)
   unfolding itemTypeAt
   type-even id n types =
       of-field EvenHead _ (typeByteAt s types) (λ infos a.
-      of-field EvenHead _ (infoKnown τ s rows (getD s types 0) infos) (λ e b. of-slot (typedAt s types infos .slot) id n infos e))
+      of-field EvenHead _ (infoKnown (τ .setting) s rows (getD s types 0) infos) (λ e b. of-slot (typedAt s types infos .slot) id n infos e))
 
-  rank-even : (id type p : ℕ) → Of EvenHead (rankAt τ s rows id type p)
+  rank-even : (id type p : ℕ) → Of EvenHead (rankAt (τ .setting) s rows id type p)
   unfolding rankAt
   rank-even id type p =
       of-number EvenHead _ (u32At s p) (λ rank q a.
-      picked (Of EvenHead) (goodRank type rank) (λ b. on-slots (itemTypeAt τ s rows id) (lengthsAt s rank 1 q) (λ n e. type-even id n e)) (λ b. tt))
+      picked (Of EvenHead) (goodRank type rank) (λ b. on-slots (itemTypeAt (τ .setting) s rows id) (lengthsAt s rank 1 q) (λ n e. type-even id n e)) (λ b. tt))
 
-  array-even : Of EvenHead (binaryArrayAt τ s rows at)
+  array-even : Of EvenHead (binaryArrayAt (τ .setting) s rows at)
   unfolding binaryArrayAt
   array-even =
       of-number EvenHead _ (u32At s (at + 1)) (λ id p a.
@@ -289,21 +294,30 @@ pub record TypesIn (τ : Terms) (s : List ℕ) (r : Row) : Type 0 where
   pub named : nameAt (τ .setting) s (r .offset + 5) ≡ F.End name-end
   pub names : times (nameAt (τ .setting) s) (r .count) (name-end + 4) ≡ F.End (r .link)
 
+-- the type bytes of a class whose fields are good are there
+types-inside : (τ : Terms) (s : List ℕ) (rows : List Row) (own : Bool) (at : ℕ) (h : Head) → Class τ s rows own at h → h .link + h .count ≤ length s
+types-inside τ s rows own at h c =
+    let places = class-places τ s rows own at h c in
+    let a = number-moves s (c .counts) (h .count) (c .names) (c .count-at) in
+    let b = names-there (τ .setting) s (h .count) (c .names) (h .link) (a .1) (c .names-at) in
+    let d = types-there s (h .count) (h .link) (c .infos) (b .1) (c .types-at) in
+    let i = places .2 in
+    omega (arith, d .1)
+
 module _ (τ : Terms) {s : List ℕ} {before : List Row} {r : Row} where
   class-types : (own : Bool) (x : Recorded τ s before r) → Class τ s before own (r .offset) (x .head) → TypesIn τ s r
   class-types own x c =
       let h = x .head in
       let places = class-places τ s before own (r .offset) h c in
       let a = number-moves s (c .counts) (h .count) (c .names) (c .count-at) in
-      let b = names-there τ s (h .count) (c .names) (h .link) (a .1) (c .names-at) in
-      let d = types-there s (h .count) (h .link) (c .infos) (b .1) (c .types-at) in
+      let b = names-there (τ .setting) s (h .count) (c .names) (h .link) (a .1) (c .names-at) in
+      let d = types-inside τ s before own (r .offset) h c in
       let l = x .same-link in
       let n = x .same-count in
       let m : h .count ≡ r .count = sym n in
-      let i = places .2 in
       record {
         some = omega (arith, b .0, a .0);
-        inside = omega (arith, d .1);
+        inside = omega arith;
         name-end = c .counts;
         named = subst (λ (p : ℕ). nameAt (τ .setting) s p ≡ F.End (c .counts)) (places .0) (c .name-at);
         names =
@@ -330,34 +344,30 @@ no-object : {A : Type 0} (k n : ℕ) → k ≡ n → isObject n ≡ false → is
 no-object k n e f t = absurd (let q : true ≡ false = sym t ∙ (ap isObject e ∙ f) in let z : _≡_ {A = ℕ} 0 1 = cc in omega arith)
 
 module _ (τ : Terms) (s : List ℕ) (rows : List Row) (each : (i : ℕ) → i < length rows → Stood τ s (take i rows) (getD rows i blank)) (k at : ℕ) (h : Head) (e : headingAt τ s rows k at ≡ H.Fields h) where
-  even-of : (x : Heading) → headingAt τ s rows k at ≡ x → Of (EvenHead τ s rows at) x → Starts s rows k h
+  even-of : (x : Heading) → headingAt τ s rows k at ≡ x → Of (EvenHead τ s rows at) x → Starts (τ .book) s rows k h
   even-of x q w = alike-slots (of-fields (EvenHead τ s rows at) x h (sym q ∙ e) w)
 
-  class-of : (own : Bool) → isClass k ≡ true → headingAt τ s rows k at ≡ classAt τ s rows own at → Starts s rows k h
+  class-of : (own : Bool) → isClass k ≡ true → headingAt τ s rows k at ≡ classAt (τ .setting) s rows own at → Starts (τ .book) s rows k h
   class-of own c q =
       let w = class-said τ s rows at own h (sym q ∙ e) in
-      own-class c (w .slots-are) (w .first-is ∙ ap (typedAt s (h .link)) (class-places τ s rows own at h w .2))
+      own-class c (w .slots-are) (types-inside τ s rows own at h w) (w .first-is ∙ ap (typedAt s (h .link)) (class-places τ s rows own at h w .2))
 
-  by-id-of : k ≡ 1 → Starts s rows k h
+  by-id-of : k ≡ 1 → Starts (τ .book) s rows k h
   by-id-of q =
       let w = class-by-id-said τ s rows at h (sym (by-id-heading τ s rows k at q) ∙ e) in
       let f = class-at (w .class) rows (omega (arith, w .finds, w .some)) in
       let z : classRow (w .class) rows - 1 ≡ h .link - 1 = ap (λ (n : ℕ). n - 1) (sym (w .finds)) in
       let i : h .link - 1 < length rows = omega (arith, f .inside) in
       let c : isClass (getD rows (h .link - 1) blank .kind) ≡ true = subst (λ (j : ℕ). isClass (getD rows j blank .kind) ≡ true) z (f .kind) in
-      let t = types-in τ (each (h .link - 1) i) c in
-      let x = getD rows (h .link - 1) blank in
-      let n : ltb (length s) (x .link + x .count) ≡ false = le-ltb (length s) (x .link + x .count) (t .inside) in
-      by-class q i c (w .slots-are ∙ w .same-count)
-      (w .first-is ∙ ap (λ (b : Bool). typedAt s (x .link) (pick b (length s) (x .link + x .count))) n)
+      by-class q i c (w .slots-are ∙ w .same-count) (w .first-is)
 
-  pub starts : Known k → isObject k ≡ true → Starts s rows k h
+  pub starts : Known k → isObject k ≡ true → Starts (τ .book) s rows k h
   starts (N.header q) o = no-object k 0 q refl o
   starts (N.class-by-id q) o = by-id-of q
   starts (N.system-class q) o = class-of false (ap isClass q) (system-heading τ s rows k at q)
   starts (N.class q) o = class-of true (ap isClass q) (class-heading τ s rows k at q)
-  starts (N.string q) o = even-of (stringRecordAt τ s rows at) (string-heading τ s rows k at q) (string-even τ s rows at)
-  starts (N.binary-array q) o = even-of (binaryArrayAt τ s rows at) (array-heading τ s rows k at q) (array-even τ s rows at)
+  starts (N.string q) o = even-of (stringRecordAt (τ .setting) s rows at) (string-heading τ s rows k at q) (string-even τ s rows at)
+  starts (N.binary-array q) o = even-of (binaryArrayAt (τ .setting) s rows at) (array-heading τ s rows k at q) (array-even τ s rows at)
   starts (N.typed-primitive q) o = no-object k 8 q refl o
   starts (N.reference q) o = no-object k 9 q refl o
   starts (N.null q) o = no-object k 10 q refl o
@@ -365,13 +375,13 @@ module _ (τ : Terms) (s : List ℕ) (rows : List Row) (each : (i : ℕ) → i <
   starts (N.library q) o = no-object k 12 q refl o
   starts (N.nulls q) o = no-object k 13 q refl o
   starts (N.long-nulls q) o = no-object k 14 q refl o
-  starts (N.primitive-array q) o = even-of (primitiveArrayAt τ s rows at) (primitives-heading τ s rows k at q) (primitives-even τ s rows at)
+  starts (N.primitive-array q) o = even-of (primitiveArrayAt (τ .setting) s rows at) (primitives-heading τ s rows k at q) (primitives-even τ s rows at)
   starts (N.object-array q) o = even-of (slotArrayAt s rows S.Object at) (objects-heading τ s rows k at q) (slots-even τ s rows at S.Object refl)
   starts (N.string-array q) o = even-of (slotArrayAt s rows S.Text at) (texts-heading τ s rows k at q) (slots-even τ s rows at S.Text refl)
   starts (N.value q) o = no-object k 32 q refl o
 
 -- an object that is opened has its cursor at its first slot
-module _ (s : List ℕ) (st : State) (kind : ℕ) (h : Head) where
+module _ (β s : List ℕ) (st : State) (kind : ℕ) (h : Head) where
   abbrev rows₁ : List Row
   rows₁ = st .rows ++ (rowIn st kind h ∷ [])
 
@@ -387,10 +397,10 @@ module _ (s : List ℕ) (st : State) (kind : ℕ) (h : Head) where
   not-by-id : isClass kind ≡ true → eqb kind 1 ≡ false
   not-by-id c = ne-eqb kind 1 (λ e. let q : true ≡ false = sym c ∙ ap isClass e in let z : _≡_ {A = ℕ} 0 1 = cc in omega arith)
 
-  first-cursor : Starts s (st .rows) kind h → Cursor s rows₁ frame₁
+  first-cursor : Starts β s (st .rows) kind h → Cursor β s rows₁ frame₁
   unfolding movedBy
   first-cursor (alike-slots e) = even e
-  first-cursor (own-class c n f) =
+  first-cursor (own-class c n i f) =
       let l = length-more (st .rows) (rowIn st kind h) in
       let z : h .slots - h .slots ≡ 0 = omega arith in
       let o : length (st .rows) + 1 - 1 ≡ length (st .rows) = omega arith in
@@ -404,7 +414,9 @@ module _ (s : List ℕ) (st : State) (kind : ℕ) (h : Head) where
         class = ap (λ (x : Row). isClass (x .kind)) own-row ∙ c;
       })
       (n ∙ ap (λ (x : Row). x .count) (sym own-row)) (omega arith)
-      (f ∙ (ap (firstType s) (sym own-row) ∙ ap (λ (m : ℕ). movedBy s m (firstType s (getD rows₁ (length (st .rows)) blank))) (sym z)))
+      (f
+      ∙ (sym (first-of β s (rowIn st kind h) c i)
+      ∙ (ap (firstType β s) (sym own-row) ∙ ap (λ (m : ℕ). movedBy β s m (firstType β s (getD rows₁ (length (st .rows)) blank))) (sym z))))
   first-cursor (by-class k i c n f) =
       let l = length-more (st .rows) (rowIn st kind h) in
       let z : h .slots - h .slots ≡ 0 = omega arith in
@@ -420,7 +432,7 @@ module _ (s : List ℕ) (st : State) (kind : ℕ) (h : Head) where
         class = ap (λ (x : Row). isClass (x .kind)) e ∙ c;
       })
       (n ∙ ap (λ (x : Row). x .count) (sym e)) (omega arith)
-      (f ∙ (ap (firstType s) (sym e) ∙ ap (λ (m : ℕ). movedBy s m (firstType s (getD rows₁ j blank))) (sym z)))
+      (f ∙ (ap (firstType β s) (sym e) ∙ ap (λ (m : ℕ). movedBy β s m (firstType β s (getD rows₁ j blank))) (sym z)))
 
 -- ---- member values
 
@@ -432,7 +444,7 @@ pub record FromSlot (τ : Terms) (s : List ℕ) (before : List Row) (r : Row) : 
   pub class-row : ℕ
   pub of-class : OfClass before (r .owner) class-row
   pub slot-in : r .slot < getD before class-row blank .count
-  pub typed : movedBy s (r .slot) (firstType s (getD before class-row blank)) .slot ≡ S.Primitive code
+  pub typed : movedBy (τ .book) s (r .slot) (firstType (τ .book) s (getD before class-row blank)) .slot ≡ S.Primitive code
 
 abbrev pub Slotwise : Terms → List ℕ → List Row → Type 0
 Slotwise τ s rows = (i : ℕ) → i < length rows → getD rows i blank .kind ≡ 32 → FromSlot τ s (take i rows) (getD rows i blank)
@@ -441,7 +453,7 @@ Slotwise τ s rows = (i : ℕ) → i < length rows → getD rows i blank .kind �
 
 pub record Cursors (τ : Terms) (s : List ℕ) (st : State) : Type 0 where
   pub each : Slotwise τ s (st .rows)
-  pub stack : Stack s (st .rows) (st .stack)
+  pub stack : Stack (τ .book) s (st .rows) (st .stack)
 
 abbrev pub NextCursors : Terms → List ℕ → Next → Type 0
 NextCursors τ s (go st) = Cursors τ s st
@@ -455,33 +467,33 @@ module _ (τ : Terms) (s : List ℕ) (room : ℕ) (st : State) (w : Gathered τ 
   each-row : (r : Row) → (r .kind ≡ 32 → FromSlot τ s (st .rows) r) → Slotwise τ s (st .rows ++ (r ∷ []))
   each-row r x = each-more (st .rows) r (λ before row. row .kind ≡ 32 → FromSlot τ s before row) (v .each) x
 
-  add-cursors : (r : Row) (o : Open) → (r .kind ≡ 32 → FromSlot τ s (st .rows) r) → Stack s (st .rows ++ (r ∷ [])) o → NextCursors τ s (add room st r o)
+  add-cursors : (r : Row) (o : Open) → (r .kind ≡ 32 → FromSlot τ s (st .rows) r) → Stack (τ .book) s (st .rows ++ (r ∷ [])) o → NextCursors τ s (add room st r o)
   unfolding add
   add-cursors r o x y =
       picked (NextCursors τ s) (ltb (length (st .rows)) room) (λ t. record { each = each-row r x; stack = y }) (λ t. tt)
 
-  stack-more : (r : Row) → Stack s (st .rows ++ (r ∷ [])) (st .stack)
-  stack-more r = stacked-more s (st .rows) r (st .stack .cur) (st .stack .below) (v .stack)
+  stack-more : (r : Row) → Stack (τ .book) s (st .rows ++ (r ∷ [])) (st .stack)
+  stack-more r = stacked-more (τ .book) s (st .rows) r (st .stack .cur) (st .stack .below) (v .stack)
 
-  fill-cursors : (r : Row) (k : ℕ) (t : Typed) → (r .kind ≡ 32 → FromSlot τ s (st .rows) r) → t ≡ movedBy s k (st .stack .cur .typed)
+  fill-cursors : (r : Row) (k : ℕ) (t : Typed) → (r .kind ≡ 32 → FromSlot τ s (st .rows) r) → t ≡ movedBy (τ .book) s k (st .stack .cur .typed)
       → (0 < st .stack .cur .left → k ≤ st .stack .cur .left) → NextCursors τ s (add room st r (filled (st .stack) k t))
-  fill-cursors r k t x e h = add-cursors r (filled (st .stack) k t) x (fill-stack s (st .rows ++ (r ∷ [])) (st .stack) k t e h (stack-more r))
+  fill-cursors r k t x e h = add-cursors r (filled (st .stack) k t) x (fill-stack (τ .book) s (st .rows ++ (r ∷ [])) (st .stack) k t e h (stack-more r))
 
-  next-type : moved s (st .stack .cur .typed) ≡ movedBy s 1 (st .stack .cur .typed)
-  next-type = moved-one s (st .stack .cur .typed)
+  next-type : moved (τ .book) s (st .stack .cur .typed) ≡ movedBy (τ .book) s 1 (st .stack .cur .typed)
+  next-type = moved-one (τ .book) s (st .stack .cur .typed)
 
   module _ (kind : ℕ) (h : Head) where
-    one-cursors : (kind ≡ 32 → ⊥) → NextCursors τ s (add room st (rowIn st kind h) (filled (st .stack) 1 (moved s (st .stack .cur .typed))))
+    one-cursors : (kind ≡ 32 → ⊥) → NextCursors τ s (add room st (rowIn st kind h) (filled (st .stack) 1 (moved (τ .book) s (st .stack .cur .typed))))
     one-cursors n = fill-cursors (rowIn st kind h) 1 _ (λ q. absurd (n q)) next-type (λ l. omega arith)
 
-    open-cursors : Starts s (st .rows) kind h → (h .slots ≡ 0 → ⊥)
-        → Stack s (rows₁ s st kind h) (opened (st .stack) (length (st .rows) + 1) h (moved s (st .stack .cur .typed)))
+    open-cursors : Starts (τ .book) s (st .rows) kind h → (h .slots ≡ 0 → ⊥)
+        → Stack (τ .book) s (rows₁ (τ .book) s st kind h) (opened (st .stack) (length (st .rows) + 1) h (moved (τ .book) s (st .stack .cur .typed)))
     unfolding opened
     open-cursors x n =
         let r = rowIn st kind h in
-        (first-cursor s st kind h x, omega (arith, n), fill-below s (rows₁ s st kind h) (st .stack .cur) 1 _ next-type (st .stack .below) (λ l. omega arith) (stack-more r))
+        (first-cursor (τ .book) s st kind h x, omega (arith, n), fill-below (τ .book) s (rows₁ (τ .book) s st kind h) (st .stack .cur) 1 _ next-type (st .stack .below) (λ l. omega arith) (stack-more r))
 
-    object-cursors : isObject kind ≡ true → Starts s (st .rows) kind h → NextCursors τ s (object room st kind h (moved s (st .stack .cur .typed)))
+    object-cursors : isObject kind ≡ true → Starts (τ .book) s (st .rows) kind h → NextCursors τ s (object room st kind h (moved (τ .book) s (st .stack .cur .typed)))
     unfolding object
     object-cursors i x =
         picked (NextCursors τ s) (eqb (h .slots) 0) (λ z. one-cursors (not-value isObject kind i refl))
@@ -489,21 +501,21 @@ module _ (τ : Terms) (s : List ℕ) (room : ℕ) (st : State) (w : Gathered τ 
         (λ d. add-cursors (rowIn st kind h) _ (not-value isObject kind i refl) (open-cursors x (eqb-false (h .slots) 0 z)))
         (λ d. tt))
 
-    run-cursors : (kind ≡ 32 → ⊥) → NextCursors τ s (nullRun s room st kind h)
+    run-cursors : (kind ≡ 32 → ⊥) → NextCursors τ s (nullRun (τ .book) s room st kind h)
     unfolding nullRun
     run-cursors n =
         picked (NextCursors τ s) (ltb (st .stack .cur .left) (h .count)) (λ t. tt)
-        (λ t. over (ltb-false (st .stack .cur .left) (h .count) t) (passedOf s (st .stack .cur .typed) (h .count)) refl)
+        (λ t. over (ltb-false (st .stack .cur .left) (h .count) t) (passedOf (τ .book) s (st .stack .cur .typed) (h .count)) refl)
       where
-        over : h .count ≤ st .stack .cur .left → (p : Passed) → passedOf s (st .stack .cur .typed) (h .count) ≡ p → NextCursors τ s (runOver room st kind h p)
-        over l (O.Over t) q = fill-cursors (rowIn st kind h) (h .count) t (λ e. absurd (n e)) (over-by s (h .count) (st .stack .cur .typed) t q) (λ x. l)
+        over : h .count ≤ st .stack .cur .left → (p : Passed) → passedOf (τ .book) s (st .stack .cur .typed) (h .count) ≡ p → NextCursors τ s (runOver room st kind h p)
+        over l (O.Over t) q = fill-cursors (rowIn st kind h) (h .count) t (λ e. absurd (n e)) (over-by (τ .book) s (h .count) (st .stack .cur .typed) t q) (λ x. l)
         over l O.Crossed q = tt
 
     end-cursors : NextCursors τ s (ending room st h)
     unfolding ending
     end-cursors = picked (NextCursors τ s) (ltb (length (st .rows)) room) (λ t. each-row (rowIn st 11 h) (λ q. absurd (omega arith))) (λ t. tt)
 
-    good-cursors : (kind ≡ 32 → ⊥) → (isObject kind ≡ true → Starts s (st .rows) kind h) → NextCursors τ s (act s room st kind (H.Fields h))
+    good-cursors : (kind ≡ 32 → ⊥) → (isObject kind ≡ true → Starts (τ .book) s (st .rows) kind h) → NextCursors τ s (act (τ .book) s room st kind (H.Fields h))
     unfolding act
     good-cursors n x =
         picked (NextCursors τ s) (isObject kind) (λ t. object-cursors t (x t))
@@ -515,7 +527,7 @@ module _ (τ : Terms) (s : List ℕ) (room : ℕ) (st : State) (w : Gathered τ 
   stood i h = w .each i h .0 .said
 
   module _ (place : Where) where
-    act-cursors : (kind : ℕ) → kindAt s place (st .at) ≡ K.Taken kind → (x : Heading) → headingAt τ s (st .rows) kind (st .at) ≡ x → NextCursors τ s (act s room st kind x)
+    act-cursors : (kind : ℕ) → kindAt s place (st .at) ≡ K.Taken kind → (x : Heading) → headingAt τ s (st .rows) kind (st .at) ≡ x → NextCursors τ s (act (τ .book) s room st kind x)
     unfolding act
     act-cursors kind q (H.Fields h) e =
         let b = kind-byte s place (st .at) kind q in
@@ -539,7 +551,7 @@ module _ (τ : Terms) (s : List ℕ) (room : ℕ) (st : State) (w : Gathered τ 
     from-slot : (end : ℕ) → valueAt (τ .setting) s c (st .at) ≡ F.End end → FromSlot τ s (st .rows) (rowIn st 32 (valueHead c end))
     from-slot end e = go (st .stack .below) (v .stack)
       where
-        at-cursor : Cursor s (st .rows) (st .stack .cur) → 0 < st .stack .cur .left → FromSlot τ s (st .rows) (rowIn st 32 (valueHead c end))
+        at-cursor : Cursor (τ .book) s (st .rows) (st .stack .cur) → 0 < st .stack .cur .left → FromSlot τ s (st .rows) (rowIn st 32 (valueHead c end))
         at-cursor (even x) l = not-even x
         at-cursor (in-class j x n m t) l = record {
           code = c;
@@ -551,11 +563,11 @@ module _ (τ : Terms) (s : List ℕ) (room : ℕ) (st : State) (w : Gathered τ 
           typed = ap (λ (t : Typed). t .slot) (sym t) ∙ q;
         }
 
-        go : (gs : List Frame) → Stacked s (st .rows) (st .stack .cur) gs → FromSlot τ s (st .rows) (rowIn st 32 (valueHead c end))
+        go : (gs : List Frame) → Stacked (τ .book) s (st .rows) (st .stack .cur) gs → FromSlot τ s (st .rows) (rowIn st 32 (valueHead c end))
         go [] x = not-even x
         go (g ∷ gs) x = at-cursor (x .0) (x .1)
 
-    value-cursors : (x : Field) → valueAt (τ .setting) s c (st .at) ≡ x → NextCursors τ s (onValue s room st c x)
+    value-cursors : (x : Field) → valueAt (τ .setting) s c (st .at) ≡ x → NextCursors τ s (onValue (τ .book) s room st c x)
     value-cursors (F.End end) e = fill-cursors (rowIn st 32 (valueHead c end)) 1 _ (λ z. from-slot end e) next-type (λ l. omega arith)
     value-cursors (F.Fault f) e = tt
 
@@ -606,12 +618,14 @@ module _ (τ : Terms) (s : List ℕ) (room : ℕ) where
   begin-slotwise (refuse r place) w v = tt
 
   raw-slotwise : SlotwiseOf τ s (rawOf τ s room)
-  unfolding rawOf
+  unfolding rawOf streamOf
   raw-slotwise =
       let g = start-gathered τ s in
       picked (SlotwiseOf τ s) (ltb 16777216 (length s)) (λ t. tt)
-      (λ t. begin-slotwise (recordStep τ s room start W.Start) (header-gathered τ s room)
+      (λ t. picked (SlotwiseOf τ s) (eqb (badEntry (τ .book)) 0)
+      (λ b. begin-slotwise (recordStep τ s room start W.Start) (header-gathered τ s room)
       (record-cursors τ s room start g (record { each = λ i h. absurd (omega arith); stack = (refl, refl) }) W.Start))
+      (λ b. tt))
 
   -- each row of a member value says which slot it fills, and by which code it was read
   pub value-slots : (raw : List Row) → rawOf τ s room ≡ accepted raw → Slotwise τ s raw

@@ -20,7 +20,7 @@ use Rattle.format.specs.Numbers.{u32At, negative}
 use Rattle.format.specs.Values.{times}
 use Rattle.format.specs.Types.{typeByteAt, nameAt, typedAt}
 use Rattle.format.specs.Rows.{blank, classRow}
-use Rattle.format.specs.Records.{onNumber, onField, goodClassId, infosAt, afterInfos, within, membersAt, classAt, classByIdAt, headingAt}
+use Rattle.format.specs.Records.{onNumber, onField, goodClassId, infosAt, afterInfos, membersAt, classAt, firstType, classByIdAt, headingAt}
 use Rattle.fields.specs.Judged.{picked}
 use Rattle.types.specs.Keeps.{name-moves, types-end}
 use Rattle.class_info.specs.Ends.{number-moves}
@@ -42,13 +42,13 @@ pub record Class (τ : Terms) (s : List ℕ) (rows : List Row) (own : Bool) (at 
   pub count-good : negative (h .count) ≡ false
   pub names-at : times (nameAt (τ .setting) s) (h .count) names ≡ F.End (h .link)
   pub types-at : times (typeByteAt s) (h .count) (h .link) ≡ F.End infos
-  pub infos-at : infosAt τ s rows (h .count) (h .link) infos ≡ F.End after
+  pub infos-at : infosAt (τ .setting) s rows (h .count) (h .link) infos ≡ F.End after
   pub after-at : afterInfos own s rows after ≡ F.End (h .end)
   pub slots-are : h .slots ≡ h .count
   pub first-is : h .first ≡ typedAt s (h .link) infos
 
 -- kind 1: the class is found among the rows before it
-pub record ClassById (s : List ℕ) (rows : List Row) (at : ℕ) (h : Head) : Type 0 where
+pub record ClassById (β s : List ℕ) (rows : List Row) (at : ℕ) (h : Head) : Type 0 where
   pub metadata : ℕ
   pub class : ℕ
   pub id-at : u32At s (at + 1) ≡ N32.Value (h .id) metadata
@@ -58,8 +58,7 @@ pub record ClassById (s : List ℕ) (rows : List Row) (at : ℕ) (h : Head) : Ty
   pub some : 0 < h .link
   pub same-count : h .count ≡ getD rows (h .link - 1) blank .count
   pub slots-are : h .slots ≡ h .count
-  pub first-is : h .first
-      ≡ typedAt s (getD rows (h .link - 1) blank .link) (within (length s) (getD rows (h .link - 1) blank .link + getD rows (h .link - 1) blank .count))
+  pub first-is : h .first ≡ firstType β s (getD rows (h .link - 1) blank)
 
 -- what holds of good fields, through numbers, fields and choices
 abbrev pub Of : (Head → Type 0) → Heading → Type 0
@@ -80,7 +79,7 @@ module _ (P : Head → Type 0) where
 
 module _ (τ : Terms) (s : List ℕ) (rows : List Row) (at : ℕ) where
   module _ (own : Bool) where
-    of-class : Of (Class τ s rows own at) (classAt τ s rows own at)
+    of-class : Of (Class τ s rows own at) (classAt (τ .setting) s rows own at)
     unfolding classAt membersAt
     of-class =
         let P = Class τ s rows own at in
@@ -91,7 +90,7 @@ module _ (τ : Terms) (s : List ℕ) (rows : List Row) (at : ℕ) where
         picked (Of P) (negative n) (λ e. tt) (λ e.
         of-field P _ (times (nameAt (τ .setting) s) n names) (λ types f.
         of-field P _ (times (typeByteAt s) n types) (λ infos g.
-        of-field P _ (infosAt τ s rows n types infos) (λ after i.
+        of-field P _ (infosAt (τ .setting) s rows n types infos) (λ after i.
         of-field P _ (afterInfos own s rows after) (λ end j.
         record {
           name = name;
@@ -113,13 +112,13 @@ module _ (τ : Terms) (s : List ℕ) (rows : List Row) (at : ℕ) where
         }))))))))
         (λ b. tt))
 
-    pub class-said : (h : Head) → classAt τ s rows own at ≡ H.Fields h → Class τ s rows own at h
+    pub class-said : (h : Head) → classAt (τ .setting) s rows own at ≡ H.Fields h → Class τ s rows own at h
     class-said h e = of-fields (Class τ s rows own at) _ h e of-class
 
-  of-class-by-id : Of (ClassById s rows at) (classByIdAt s rows at)
+  of-class-by-id : Of (ClassById (τ .book) s rows at) (classByIdAt (τ .book) s rows at)
   unfolding classByIdAt
   of-class-by-id =
-      let P = ClassById s rows at in
+      let P = ClassById (τ .book) s rows at in
       of-number P _ (u32At s (at + 1)) (λ id metadata a.
       picked (Of P) (goodClassId rows id) (λ b.
       of-number P _ (u32At s metadata) (λ class end c.
@@ -139,8 +138,8 @@ module _ (τ : Terms) (s : List ℕ) (rows : List Row) (at : ℕ) where
       })))
       (λ b. tt))
 
-  pub class-by-id-said : (h : Head) → classByIdAt s rows at ≡ H.Fields h → ClassById s rows at h
-  class-by-id-said h e = of-fields (ClassById s rows at) _ h e of-class-by-id
+  pub class-by-id-said : (h : Head) → classByIdAt (τ .book) s rows at ≡ H.Fields h → ClassById (τ .book) s rows at h
+  class-by-id-said h e = of-fields (ClassById (τ .book) s rows at) _ h e of-class-by-id
 
 -- ---- rows
 
@@ -153,7 +152,7 @@ module _ (τ : Terms) {s : List ℕ} {before : List Row} {r : Row} (w : Recorded
       subst (λ (n : ℕ). P n (r .end)) (sym (w .same-count))
       (subst (P (h .count)) (sym (w .same-end)) (of-fields (λ h. P (h .count) (h .end)) x h (sym e ∙ w .fields) v))
 
-  pub by-id-row : r .kind ≡ 1 → ClassById s before (r .offset) (w .head)
+  pub by-id-row : r .kind ≡ 1 → ClassById (τ .book) s before (r .offset) (w .head)
   by-id-row k = class-by-id-said τ s before (r .offset) (w .head) (sym (by-id-heading τ s before (r .kind) (r .offset) k) ∙ w .fields)
 
   pub system-row : r .kind ≡ 4 → Class τ s before false (r .offset) (w .head)
@@ -176,9 +175,9 @@ class-room τ s rows own at h w =
     let a = number-moves s (at + 1) (h .id) (w .name) (w .id-at) in
     let b = name-moves (τ .setting) s (w .name) (w .counts) (w .name-at) in
     let c = number-moves s (w .counts) (h .count) (w .names) (w .count-at) in
-    let d = names-there τ s (h .count) (w .names) (h .link) (c .1) (w .names-at) in
+    let d = names-there (τ .setting) s (h .count) (w .names) (h .link) (c .1) (w .names-at) in
     let e = types-there s (h .count) (h .link) (w .infos) (d .1) (w .types-at) in
-    let f = infos-moves τ s rows (h .count) (h .link) (w .infos) (w .after) (e .1) (w .infos-at) in
+    let f = infos-moves (τ .setting) s rows (h .count) (h .link) (w .infos) (w .after) (e .1) (w .infos-at) in
     let g = after-moves own (w .after-at) in
     omega arith
   where

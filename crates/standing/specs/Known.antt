@@ -61,7 +61,7 @@ module _ (s : List ℕ) {before rows : List Row} (later : Later before rows) whe
       rw (x .1) (known-later (x .0) e (x .2))
 
 module _ (τ : Terms) (s : List ℕ) {before rows : List Row} (later : Later before rows) where
-  pub info-later : (type at e : ℕ) → infoKnown τ s before type at ≡ F.End e → infoKnown τ s rows type at ≡ F.End e
+  pub info-later : (type at e : ℕ) → infoKnown (τ .setting) s before type at ≡ F.End e → infoKnown (τ .setting) s rows type at ≡ F.End e
   unfolding infoKnown
   info-later type at e q =
       let x = through (λ end. pick (eqb type 4) (knownLibrary s before end) (F.End end)) (infoAt (τ .setting) s type at) e q in
@@ -71,9 +71,9 @@ module _ (τ : Terms) (s : List ℕ) {before rows : List Row} (later : Later bef
       go m true q = known-later s later m e q
       go m false q = q
 
-  pub infos-later : (n types at e : ℕ) → infosAt τ s before n types at ≡ F.End e → infosAt τ s rows n types at ≡ F.End e
+  pub infos-later : (n types at e : ℕ) → infosAt (τ .setting) s before n types at ≡ F.End e → infosAt (τ .setting) s rows n types at ≡ F.End e
   unfolding infosAt
   infos-later zero types at e q = q
   infos-later (suc n) types at e q =
-      let x = through (infosAt τ s before n (types + 1)) (infoKnown τ s before (getD s types 0) at) e q in
+      let x = through (infosAt (τ .setting) s before n (types + 1)) (infoKnown (τ .setting) s before (getD s types 0) at) e q in
       rw (info-later (getD s types 0) at (x .0) (x .1)) (infos-later n (types + 1) (x .0) e (x .2))

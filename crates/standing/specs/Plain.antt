@@ -38,7 +38,7 @@ module _ (τ : Terms) (s : List ℕ) (at : ℕ) where
   abbrev Named : Head → Type 0
   Named h = nameAt (τ .setting) s (at + 5) ≡ F.End (h .end)
 
-  of-named : (test : ℕ → Bool) (refusal : Refusal) → Of Named (onJudged test refusal (namedAt τ s) (u32At s (at + 1)))
+  of-named : (test : ℕ → Bool) (refusal : Refusal) → Of Named (onJudged test refusal (namedAt (τ .setting) s) (u32At s (at + 1)))
   unfolding onJudged namedAt
   of-named test refusal =
       of-number Named _ (u32At s (at + 1)) (λ id p a.
@@ -54,7 +54,7 @@ module _ (τ : Terms) (s : List ℕ) (at : ℕ) where
   Typed end =
       (codeAt s (at + 1) ≡ F.End (at + 2)) × (at + 2 < end) × (valueAt (τ .setting) s (coded (primitiveOf (getD s (at + 1) 0))) (at + 2) ≡ F.End end)
 
-  of-typed : Of (λ h. Typed (h .end)) (typedPrimitiveAt τ s at)
+  of-typed : Of (λ h. Typed (h .end)) (typedPrimitiveAt (τ .setting) s at)
   unfolding typedPrimitiveAt
   of-typed =
       let P : Head → Type 0 = λ h. Typed (h .end) in
@@ -93,15 +93,15 @@ module _ (τ : Terms) (s : List ℕ) (at : ℕ) where
 -- ---- rows
 
 module _ (τ : Terms) {s : List ℕ} {before : List Row} {r : Row} (w : Recorded τ s before r) where
-  text-row : (test : ℕ → Bool) → headingAt τ s before (r .kind) (r .offset) ≡ onJudged test R.BadId (namedAt τ s) (u32At s (r .offset + 1))
+  text-row : (test : ℕ → Bool) → headingAt τ s before (r .kind) (r .offset) ≡ onJudged test R.BadId (namedAt (τ .setting) s) (u32At s (r .offset + 1))
       → nameAt (τ .setting) s (r .offset + 5) ≡ F.End (r .end)
   text-row test e = row-said τ w (λ n end. nameAt (τ .setting) s (r .offset + 5) ≡ F.End end) _ e (of-named τ s (r .offset) test R.BadId)
 
   pub string-row : r .kind ≡ 6 → nameAt (τ .setting) s (r .offset + 5) ≡ F.End (r .end)
-  string-row k = text-row (goodId before) (string-heading τ s before (r .kind) (r .offset) k ∙ string-parts τ s (r .offset) before)
+  string-row k = text-row (goodId before) (string-heading τ s before (r .kind) (r .offset) k ∙ string-parts (τ .setting) s (r .offset) before)
 
   pub library-row : r .kind ≡ 12 → nameAt (τ .setting) s (r .offset + 5) ≡ F.End (r .end)
-  library-row k = text-row (freeLibrary before) (library-heading τ s before (r .kind) (r .offset) k ∙ library-parts τ s (r .offset) before)
+  library-row k = text-row (freeLibrary before) (library-heading τ s before (r .kind) (r .offset) k ∙ library-parts (τ .setting) s (r .offset) before)
 
   pub typed-row : r .kind ≡ 8 → Typed τ s (r .offset) (r .end)
   typed-row k = row-said τ w (λ n end. Typed τ s (r .offset) end) _ (typed-heading τ s before (r .kind) (r .offset) k) (of-typed τ s (r .offset))

@@ -196,11 +196,11 @@ module _ (τ : Terms) (s : List ℕ) (room : ℕ) (st : State) (w : Gathered τ 
     over-gathered (O.Over t) n x = slots-gathered (h .count) t n x
     over-gathered O.Crossed n x = tt
 
-    run-gathered : (kind ≡ 11 → ⊥) → (kind ≡ 12 → ⊥) → NextGathered τ s (nullRun s room st kind h)
+    run-gathered : (kind ≡ 11 → ⊥) → (kind ≡ 12 → ⊥) → NextGathered τ s (nullRun (τ .book) s room st kind h)
     unfolding nullRun
     run-gathered n x =
         picked (NextGathered τ s) (ltb (st .stack .cur .left) (h .count)) (λ t. tt)
-        (λ t. over-gathered (passedOf s (st .stack .cur .typed) (h .count)) n x)
+        (λ t. over-gathered (passedOf (τ .book) s (st .stack .cur .typed) (h .count)) n x)
 
     apart-gathered : (kind ≡ 11 → ⊥) → NextGathered τ s (add room st (rowApart st kind h) (st .stack))
     apart-gathered n =
@@ -223,19 +223,19 @@ module _ (τ : Terms) (s : List ℕ) (room : ℕ) (st : State) (w : Gathered τ 
         (λ t. tt)
 
     -- fields that are good
-    good-gathered : NextGathered τ s (act s room st kind (H.Fields h))
+    good-gathered : NextGathered τ s (act (τ .book) s room st kind (H.Fields h))
     unfolding act
     good-gathered =
-        picked (NextGathered τ s) (isObject kind) (λ t. object-gathered t (moved s (st .stack .cur .typed)))
+        picked (NextGathered τ s) (isObject kind) (λ t. object-gathered t (moved (τ .book) s (st .stack .cur .typed)))
         (λ t. picked (NextGathered τ s) (eqb kind 13 || eqb kind 14) (λ u. run-gathered (not-kind (λ k. eqb k 13 || eqb k 14) 11 refl kind u) (not-kind (λ k. eqb k 13 || eqb k 14) 12 refl kind u))
         (λ u. picked (NextGathered τ s) (eqb kind 12) (λ v. apart-gathered (not-kind (λ k. eqb k 12) 11 refl kind v))
         (λ v. picked (NextGathered τ s) (eqb kind 11) (λ x. end-gathered (eqb-true kind 11 x))
-        (λ x. slots-gathered 1 (moved s (st .stack .cur .typed)) (eqb-false kind 11 x) (eqb-false kind 12 v)))))
+        (λ x. slots-gathered 1 (moved (τ .book) s (st .stack .cur .typed)) (eqb-false kind 11 x) (eqb-false kind 12 v)))))
 
   -- a kind that is the header's exactly where no row stands before it
   module _ (v : Where) (z : (k : ℕ) → allowed v k ≡ true → (k ≡ 0 → length (st .rows) ≡ 0) × (length (st .rows) ≡ 0 → k ≡ 0)) where
     act-gathered : (kind : ℕ) → kindAt s v (st .at) ≡ K.Taken kind → (x : Heading) → headingAt τ s (st .rows) kind (st .at) ≡ x
-        → NextGathered τ s (act s room st kind x)
+        → NextGathered τ s (act (τ .book) s room st kind x)
     unfolding act
     act-gathered kind q (H.Fields h) e = good-gathered kind h (λ o l x y.
         let b = kind-byte s v (st .at) kind q in
@@ -271,7 +271,7 @@ module _ (τ : Terms) (s : List ℕ) (room : ℕ) (st : State) (w : Gathered τ 
 
   -- after the header
   module _ (some : 0 < length (st .rows)) where
-    value-gathered : (c : PrimitiveCode) (v : Field) → valueAt (τ .setting) s c (st .at) ≡ v → NextGathered τ s (onValue s room st c v)
+    value-gathered : (c : PrimitiveCode) (v : Field) → valueAt (τ .setting) s c (st .at) ≡ v → NextGathered τ s (onValue (τ .book) s room st c v)
     value-gathered c (F.End end) e =
         slots-gathered 32 (valueHead c end) (λ o l x y. record {
           said = a-value (record { code = c; kind = refl; reads = e; no-id = refl; link-is = refl; no-count = refl });
@@ -281,7 +281,7 @@ module _ (τ : Terms) (s : List ℕ) (room : ℕ) (st : State) (w : Gathered τ 
           begins = sym (w .place);
           owned = x;
           library-apart = y;
-        }) 1 (moved s (st .stack .cur .typed)) (λ q. omega arith) (λ q. omega arith)
+        }) 1 (moved (τ .book) s (st .stack .cur .typed)) (λ q. omega arith) (λ q. omega arith)
     value-gathered c (F.Fault f) e = tt
 
     slot-record : (v : Where) → (allowed v 0 ≡ false) → NextGathered τ s (recordStep τ s room st v)

@@ -64,22 +64,23 @@ pub fn take_slots(
 // A null run: within the object's slots, and over no primitive member.
 pub fn take_run(
     s: &[u8],
+    book: &[u8],
     table: &mut [u32],
     frames: &[u32; Reader::WORDS],
     m: Reader,
     kind: u32,
     h: Head,
 ) -> Step
-    requires { ⌜ Held (roomOf (now table)) m × (h .end ≤ 16777216) × (length (now frames) ≡ 384) × (length (now s) ≤ 16777216) ⌝ }
+    requires { ⌜ Held (roomOf (now table)) m × (h .end ≤ 16777216) × (length (now frames) ≡ 384) × (length (now s) ≤ 16777216) × (length (now book) < 4294967296) ⌝ }
     ensures { λ q. ⌜ after (now (table .exit)) (now (frames .entry)) q
-        ≡ nullRun (now (s .entry)) (roomOf (now (table .entry))) (stateOf (now (table .entry)) (now (frames .entry)) m) kind h ⌝ }
+        ≡ nullRun (now (book .entry)) (now (s .entry)) (roomOf (now (table .entry))) (stateOf (now (table .entry)) (now (frames .entry)) m) kind h ⌝ }
 {
     let n = h.count;
     if m.top.left < n {
         return Step::Refuse(Refusal::BadCount, m.at);
     }
     let typed = m.top.typed;
-    let p = slots::pass(s, typed, n);
+    let p = slots::pass(s, book, typed, n);
     match p {
         Passed::Over(t) => take_slots(table, frames, m, kind, h, n, t),
         Passed::Crossed => Step::Refuse(Refusal::BadCount, m.at),

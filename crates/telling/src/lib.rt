@@ -75,7 +75,7 @@ fn defined(r: Row) {
 // ---- types and items
 
 // The type of an array's items, by its type byte and the place of its detail.
-fn type_name(s: &[u8], t: u8, detail: usize) {
+pub fn type_name(s: &[u8], t: u8, detail: usize) {
     match t {
         0 => spelling::code_name(peeking::byte_at(s, detail)),
         1 => say(b"string"),

@@ -32,20 +32,20 @@ use Rattle.view.specs.Laws.{question-part, question-fault, view-part, view-faul
 abbrev pub settingOf : ℕ → Setting
 settingOf n = pick (eqb n 0) S.Strict S.Lenient
 
-abbrev pub termsOf : ℕ → Terms
-termsOf n = terms (settingOf n)
+abbrev pub termsOf : ℕ → List ℕ → Terms
+termsOf n β = terms (settingOf n) β
 
--- In the laws below ρ is the setting that was handed on, and σ the one that the number names.
+-- In the laws below ρ is the setting that was handed on, and σ the one that the number names; β and γ are the books.
 
 -- ---- reading, and the row question: a job's answer has the reply of what the job promises
 
-pub read-told : (σ ρ : Setting) → ρ ≡ σ → (s t u : List ℕ) (a : ReadAnswer) (n p v : ℕ) → ReadPromise (terms ρ) s t a u → Answered (readReply a) n p v
-    → Answered (readReply (readAnswer (readOf (terms σ) s (roomOf t)))) n p v
-read-told σ ρ q s t u a n p v w h =
-    subst (λ (x : Setting). Answered (readReply (readAnswer (readOf (terms x) s (roomOf t)))) n p v) q (answered _ _ n p v (ap readReply (w .answer)) h)
+pub read-told : (σ ρ : Setting) → ρ ≡ σ → (β s t u : List ℕ) (a : ReadAnswer) (n p v : ℕ) → ReadPromise (terms ρ β) s t a u → Answered (readReply a) n p v
+    → Answered (readReply (readAnswer (readOf (terms σ β) s (roomOf t)))) n p v
+read-told σ ρ q β s t u a n p v w h =
+    subst (λ (x : Setting). Answered (readReply (readAnswer (readOf (terms x β) s (roomOf t)))) n p v) q (answered _ _ n p v (ap readReply (w .answer)) h)
 
-pub read-left : (σ ρ : Setting) → ρ ≡ σ → (s t u : List ℕ) (a : ReadAnswer) → ReadPromise (terms ρ) s t a u → u ≡ tableWords (length t) (readOf (terms σ) s (roomOf t))
-read-left σ ρ q s t u a w = w .table ∙ ap (λ (x : Setting). tableWords (length t) (readOf (terms x) s (roomOf t))) q
+pub read-left : (σ ρ : Setting) → ρ ≡ σ → (β s t u : List ℕ) (a : ReadAnswer) → ReadPromise (terms ρ β) s t a u → u ≡ tableWords (length t) (readOf (terms σ β) s (roomOf t))
+read-left σ ρ q β s t u a w = w .table ∙ ap (λ (x : Setting). tableWords (length t) (readOf (terms x β) s (roomOf t))) q
 
 pub row-told : (σ ρ : Setting) → ρ ≡ σ → (s t : List ℕ) (row : ℕ) (a : RowAnswer) (n : ℕ) → QuestionPromise ρ s t row a → n ≡ rowReply a .number
     → n ≡ rowReply (rowQuestion σ s t row) .number
@@ -56,14 +56,14 @@ row-told σ ρ q s t row a n w h =
 
 -- what a tidying leaves in the table and the output, beside its reply
 pub record Tidied (τ : Terms) (s t out t' out' : List ℕ) (number place value : ℕ) : Type 0 where
-  pub answer-is : Answered (tidyReply (tidyAnswer s out (readOf τ s (roomOf t)))) number place value
-  pub table-is : t' ≡ tidyTable (length t) s out (readOf τ s (roomOf t))
-  pub out-is : out' ≡ tidyOutput s out (readOf τ s (roomOf t))
+  pub answer-is : Answered (tidyReply (tidyAnswer (τ .book) s out (readOf τ s (roomOf t)))) number place value
+  pub table-is : t' ≡ tidyTable (length t) (τ .book) s out (readOf τ s (roomOf t))
+  pub out-is : out' ≡ tidyOutput (τ .book) s out (readOf τ s (roomOf t))
 
-pub tidied : (σ ρ : Setting) → ρ ≡ σ → (s t out t' out' : List ℕ) (number place value : ℕ) (a : TidyAnswer) → TidyPromise (terms ρ) s t out a t' out'
-    → Answered (tidyReply a) number place value → Tidied (terms σ) s t out t' out' number place value
-tidied σ ρ q s t out t' out' number place value a w h =
-    subst (λ (x : Setting). Tidied (terms x) s t out t' out' number place value) q
+pub tidied : (σ ρ : Setting) → ρ ≡ σ → (β s t out t' out' : List ℕ) (number place value : ℕ) (a : TidyAnswer) → TidyPromise (terms ρ β) s t out a t' out'
+    → Answered (tidyReply a) number place value → Tidied (terms σ β) s t out t' out' number place value
+tidied σ ρ q β s t out t' out' number place value a w h =
+    subst (λ (x : Setting). Tidied (terms x β) s t out t' out' number place value) q
     (record { answer-is = answered _ _ number place value (ap tidyReply (w .answer)) h; table-is = w .table; out-is = w .output })
 
 -- ---- comparing
@@ -71,8 +71,8 @@ tidied σ ρ q s t out t' out' number place value a w h =
 -- the answer that the lists a, under τ, and b, under υ, have with a table that held t and outputs that held c and d
 abbrev pub saidOf : Terms → Terms → List ℕ → List ℕ → List ℕ → List ℕ → List ℕ → Sameness
 saidOf τ υ a b t c d =
-    W.answerOf (tidyAnswer a c (readOf τ a (roomOf t))) (tidyAnswer b d (readOf υ b (roomOf t)))
-    (sameBytes (W.copied a (readOf τ a (roomOf t))) (W.copied b (readOf υ b (roomOf t))))
+    W.answerOf (tidyAnswer (τ .book) a c (readOf τ a (roomOf t))) (tidyAnswer (υ .book) b d (readOf υ b (roomOf t)))
+    (sameBytes (W.copied (τ .book) a (readOf τ a (roomOf t))) (W.copied (υ .book) b (readOf υ b (roomOf t))))
 
 -- what a comparing leaves in the table and the outputs (`said`), beside its reply
 pub record Compared (τ υ : Terms) (a b t c d u e f : List ℕ) (number same list place needed : ℕ) : Type 0 where
@@ -81,20 +81,20 @@ pub record Compared (τ υ : Terms) (a b t c d u e f : List ℕ) (number same li
   pub same-is : same ≡ sameOf (saidOf τ υ a b t c d)
   pub list-is : list ≡ listOf (saidOf τ υ a b t c d)
 
-pub compared : (σ ρ : Setting) → ρ ≡ σ → (σ′ ρ′ : Setting) → ρ′ ≡ σ′ → (a b t c d u e f : List ℕ) (number same list place needed : ℕ) (q : Sameness)
-    → W.ComparePromise (terms ρ) (terms ρ′) a b t c d q u e f
+pub compared : (σ ρ : Setting) → ρ ≡ σ → (σ′ ρ′ : Setting) → ρ′ ≡ σ′ → (β γ a b t c d u e f : List ℕ) (number same list place needed : ℕ) (q : Sameness)
+    → W.ComparePromise (terms ρ β) (terms ρ′ γ) a b t c d q u e f
     → Answered (sameReply q) number place needed
     → same ≡ sameOf q
     → list ≡ listOf q
-    → Compared (terms σ) (terms σ′) a b t c d u e f number same list place needed
-compared σ ρ p σ′ ρ′ p′ a b t c d u e f number same list place needed q w h k l =
-    subst (λ (x : Setting). Compared (terms x) (terms σ′) a b t c d u e f number same list place needed) p
-    (subst (λ (y : Setting). Compared (terms ρ) (terms y) a b t c d u e f number same list place needed) p′ by-handed)
+    → Compared (terms σ β) (terms σ′ γ) a b t c d u e f number same list place needed
+compared σ ρ p σ′ ρ′ p′ β γ a b t c d u e f number same list place needed q w h k l =
+    subst (λ (x : Setting). Compared (terms x β) (terms σ′ γ) a b t c d u e f number same list place needed) p
+    (subst (λ (y : Setting). Compared (terms ρ β) (terms y γ) a b t c d u e f number same list place needed) p′ by-handed)
   where
-    by-handed : Compared (terms ρ) (terms ρ′) a b t c d u e f number same list place needed
+    by-handed : Compared (terms ρ β) (terms ρ′ γ) a b t c d u e f number same list place needed
     by-handed =
         record {
-          said = subst (λ (y : Sameness). W.ComparePromise (terms ρ) (terms ρ′) a b t c d y u e f) (w .answer) w;
+          said = subst (λ (y : Sameness). W.ComparePromise (terms ρ β) (terms ρ′ γ) a b t c d y u e f) (w .answer) w;
           answer-is = answered _ _ number place needed (ap sameReply (w .answer)) h;
           same-is = k ∙ ap sameOf (w .answer);
           list-is = l ∙ ap listOf (w .answer);

@@ -24,15 +24,16 @@ fn setting_of(n: u32) -> Setting
 #[no_mangle]
 pub extern "C" fn strelinga_read(
     stream: &[u8],
+    book: &[u8],
     table: &mut [u32],
     setting: u32,
     place: &mut u64,
     rows: &mut u64,
 ) -> u32
-    ensures { λ n. ⌜ Answered (readReply (readAnswer (readOf (termsOf setting) (now (stream .entry)) (roomOf (now (table .entry)))))) n (now (place .exit)) (now (rows .exit))
-        × (now (table .exit) ≡ tableWords (length (now (table .entry))) (readOf (termsOf setting) (now (stream .entry)) (roomOf (now (table .entry))))) ⌝ }
+    ensures { λ n. ⌜ Answered (readReply (readAnswer (readOf (termsOf setting (now (book .entry))) (now (stream .entry)) (roomOf (now (table .entry)))))) n (now (place .exit)) (now (rows .exit))
+        × (now (table .exit) ≡ tableWords (length (now (table .entry))) (readOf (termsOf setting (now (book .entry))) (now (stream .entry)) (roomOf (now (table .entry))))) ⌝ }
 {
-    let a = reader::read(stream, table, setting_of(setting));
+    let a = reader::read(stream, book, table, setting_of(setting));
     let r = replies::read_reply(a);
     *place = r.place;
     *rows = r.value;
@@ -77,15 +78,16 @@ pub extern "C" fn strelinga_text_view(
 #[no_mangle]
 pub extern "C" fn strelinga_tidy(
     stream: &[u8],
+    book: &[u8],
     table: &mut [u32],
     out: &mut [u8],
     setting: u32,
     place: &mut u64,
     size: &mut u64,
 ) -> u32
-    ensures { λ n. ⌜ Tidied (termsOf setting) (now (stream .entry)) (now (table .entry)) (now (out .entry)) (now (table .exit)) (now (out .exit)) n (now (place .exit)) (now (size .exit)) ⌝ }
+    ensures { λ n. ⌜ Tidied (termsOf setting (now (book .entry))) (now (stream .entry)) (now (table .entry)) (now (out .entry)) (now (table .exit)) (now (out .exit)) n (now (place .exit)) (now (size .exit)) ⌝ }
 {
-    let a = tidy::tidy(stream, table, out, setting_of(setting));
+    let a = tidy::tidy(stream, book, table, out, setting_of(setting));
     let w = replies::tidy_reply(a);
     *place = w.place;
     *size = w.value;
@@ -97,7 +99,9 @@ pub extern "C" fn strelinga_tidy(
 #[no_mangle]
 pub extern "C" fn strelinga_say_the_same(
     a: &[u8],
+    a_book: &[u8],
     b: &[u8],
+    b_book: &[u8],
     table: &mut [u32],
     first: &mut [u8],
     second: &mut [u8],
@@ -108,10 +112,11 @@ pub extern "C" fn strelinga_say_the_same(
     place: &mut u64,
     wanted: &mut u64,
 ) -> u32
-    ensures { λ n. ⌜ Compared (termsOf «a_setting») (termsOf «b_setting») (now (a .entry)) (now (b .entry)) (now (table .entry)) (now (first .entry)) (now (second .entry)) (now (table .exit)) (now (first .exit)) (now (second .exit)) n (now (same .exit)) (now (list .exit)) (now (place .exit)) (now (wanted .exit)) ⌝ }
+    ensures { λ n. ⌜ Compared (termsOf «a_setting» (now («a_book» .entry))) (termsOf «b_setting» (now («b_book» .entry))) (now (a .entry)) (now (b .entry)) (now (table .entry)) (now (first .entry)) (now (second .entry)) (now (table .exit)) (now (first .exit)) (now (second .exit)) n (now (same .exit)) (now (list .exit)) (now (place .exit)) (now (wanted .exit)) ⌝ }
 {
     let p = setting_of(a_setting);
-    let q = sameness::say_the_same(a, b, table, first, second, p, setting_of(b_setting));
+    let r = setting_of(b_setting);
+    let q = sameness::say_the_same(a, a_book, b, b_book, table, first, second, p, r);
     let w = replies::same_reply(q);
     *same = replies::same_of(q);
     *list = replies::list_of(q);

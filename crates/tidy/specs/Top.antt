@@ -121,7 +121,7 @@ module _ (τ : Terms) (s t u v : List ℕ) (n : ℕ) (byte : (i : ℕ) → getD 
   unfolding readOf
   reads = ap withLinks (w .reads)
 
-  copy-is : copy ≡ tidyOf (says s rows)
+  copy-is : copy ≡ tidyOf (says (τ .book) s rows)
   copy-is = copy-rows ∙ copy-is-tidy τ s byte (roomOf t) (w .raw) (w .reads)
 
   -- the words of the table are words
@@ -136,11 +136,11 @@ module _ (τ : Terms) (s t u v : List ℕ) (n : ℕ) (byte : (i : ℕ) → getD 
       (subst (λ (rows : List Row). (j : ℕ) → getD rows j blank .count < 4294967296) same (counts-small n v words)))
 
   module _ (d e y : List ℕ) (q : TidyAnswer) (a : q ≡ answerBy copy d) (o : e ≡ outBy copy d) (l : length v ≡ length t) (z : y ≡ restored τ s v q) where
-    answer-is : q ≡ tidyAnswer s d (readOf τ s (roomOf t))
+    answer-is : q ≡ tidyAnswer (τ .book) s d (readOf τ s (roomOf t))
     unfolding tidyAnswer
     answer-is = rw reads (a ∙ ap (λ (c : List ℕ). answerBy c d) copy-is)
 
-    output-is : e ≡ tidyOutput s d (readOf τ s (roomOf t))
+    output-is : e ≡ tidyOutput (τ .book) s d (readOf τ s (roomOf t))
     unfolding tidyOutput
     output-is = rw reads (o ∙ ap (λ (c : List ℕ). outBy c d) copy-is)
 
@@ -148,16 +148,16 @@ module _ (τ : Terms) (s t u v : List ℕ) (n : ℕ) (byte : (i : ℕ) → getD 
     by-fits true x = refl
     by-fits false x = refl
 
-    table-is : y ≡ tidyTable (length t) s d (readOf τ s (roomOf t))
+    table-is : y ≡ tidyTable (length t) (τ .book) s d (readOf τ s (roomOf t))
     unfolding tidyTable
     table-is =
-        let c = tidyOf (says s rows) in
+        let c = tidyOf (says (τ .book) s rows) in
         let r : readOf τ s (roomOf v) ≡ accepted rows = ap (readOf τ s) (room-kept t v l) ∙ reads in
         z
         ∙ (ap (restored τ s v) (a ∙ ap (λ (c : List ℕ). answerBy c d) copy-is)
         ∙ (by-fits (fits c d) (length c)
         ∙ (ap₂ (λ (o : Outcome) (k : ℕ). pick (fits c d) (tableWords k o) (replicate k 0)) r l
-        ∙ ap (tidyTable (length t) s d) (sym reads))))
+        ∙ ap (tidyTable (length t) (τ .book) s d) (sym reads))))
 
     -- answer, table and output together
     pub tidied : TidyPromise τ s t d q y e
@@ -166,15 +166,15 @@ module _ (τ : Terms) (s t u v : List ℕ) (n : ℕ) (byte : (i : ℕ) → getD 
 -- ---- a refused reading
 
 module _ (τ : Terms) (s t u d : List ℕ) (r : Refusal) (p : ℕ) (outcome : readOf τ s (roomOf t) ≡ refused r p) (w : u ≡ replicate (length t) 0) where
-  refused-answer : Q.Refused r p ≡ tidyAnswer s d (readOf τ s (roomOf t))
+  refused-answer : Q.Refused r p ≡ tidyAnswer (τ .book) s d (readOf τ s (roomOf t))
   unfolding tidyAnswer
   refused-answer = rw outcome
 
-  refused-table : u ≡ tidyTable (length t) s d (readOf τ s (roomOf t))
+  refused-table : u ≡ tidyTable (length t) (τ .book) s d (readOf τ s (roomOf t))
   unfolding tidyTable
   refused-table = w ∙ rw outcome
 
-  refused-output : d ≡ tidyOutput s d (readOf τ s (roomOf t))
+  refused-output : d ≡ tidyOutput (τ .book) s d (readOf τ s (roomOf t))
   unfolding tidyOutput
   refused-output = rw outcome
 

@@ -9,6 +9,7 @@ ghost use Rattle.tidy.specs.Top.{restored};
 ghost use Rattle.format.specs.Terms.{terms};
 ghost use Prim.Native.Nat.{_≤_};
 ghost use lib.ListN.{length};
+ghost use Rattle.format.specs.Entries.{badEntry};
 ghost use Rattle.format.specs.Rows.{rowsOf, roomOf};
 ghost use Rattle.format.specs.Tidy.{answerBy, outBy};
 ghost use Rattle.pieces.specs.Copy.{anewIn, copyOf};
@@ -33,12 +34,13 @@ fn copied(out: &mut [u8], s: &[u8], table: &[u32], n: usize, setting: Setting) -
 }
 
 // The table after the copy: the reading where one was written, all zeros where none was.
-fn restore(s: &[u8], table: &mut [u32], q: TidyAnswer, setting: Setting)
-    ensures { λ _. ⌜ now (table .exit) ≡ restored (terms setting) (now (s .entry)) (now (table .entry)) q ⌝ }
+fn restore(s: &[u8], book: &[u8], table: &mut [u32], q: TidyAnswer, setting: Setting)
+    requires { ⌜ (length (now s) ≤ 16777216) × (badEntry (now book) ≡ 0) ⌝ }
+    ensures { λ _. ⌜ now (table .exit) ≡ restored (terms setting (now (book .entry))) (now (s .entry)) (now (table .entry)) q ⌝ }
 {
     match q {
         TidyAnswer::Written(_) => {
-            reader::read(s, table, setting);
+            reader::read_again(s, book, table, setting);
         }
         TidyAnswer::Refused(_, _) => table::clear(table),
         TidyAnswer::OutFull(_) => table::clear(table),
@@ -46,15 +48,21 @@ fn restore(s: &[u8], table: &mut [u32], q: TidyAnswer, setting: Setting)
 }
 
 // Writes the tidy copy of the list in `s` to the front of `out`, if all of it fits.
-pub fn tidy(s: &[u8], table: &mut [u32], out: &mut [u8], setting: Setting) -> TidyAnswer
-    ensures { λ q. ⌜ TidyPromise (terms setting) (now (s .entry)) (now (table .entry)) (now (out .entry)) q (now (table .exit)) (now (out .exit)) ⌝ }
+pub fn tidy(
+    s: &[u8],
+    book: &[u8],
+    table: &mut [u32],
+    out: &mut [u8],
+    setting: Setting,
+) -> TidyAnswer
+    ensures { λ q. ⌜ TidyPromise (terms setting (now (book .entry))) (now (s .entry)) (now (table .entry)) (now (out .entry)) q (now (table .exit)) (now (out .exit)) ⌝ }
 {
-    let a = reader::judge(s, table, true, setting);
+    let a = reader::judge(s, book, table, true, setting);
     match a {
         ReadAnswer::Accepted(n) => {
             marking::mark_all(s, table, n);
             let q = copied(out, s, table, n, setting);
-            restore(s, table, q, setting);
+            restore(s, book, table, q, setting);
             q
         }
         ReadAnswer::Refused(r, place) => {

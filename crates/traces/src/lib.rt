@@ -1,9 +1,12 @@
-// What a job leaves in the lent table and output, as hashes that programs print, what stands there before it, and the sizes that stand before a
-// stream. For comparing with the independent reader and tidier; what is written cannot be promised, what is hashed is.
+// What a job leaves in the lent table and output, as hashes that programs print, what stands there before it, and the sizes and bytes of a
+// stream as they come. For comparing with the independent reader and tidier; what is written cannot be promised, what is hashed is.
 use format::Number32;
+use libc::STDIN_FILENO;
 use libc::STDOUT_FILENO;
-ghost use Prim.Native.Nat.{_<_};
+ghost use Prim.Native.Nat.{_<_, _≤_};
 ghost use mathlib.Core.Path.{_≡_};
+ghost use mathlib.Core.Bool.{false};
+ghost use lib.ListN.{length};
 ghost use Rattle.traces.specs.Traces.{stirred, lanesOf, litteredWords, litteredBytes, sizeAt};
 
 // The table holds something else before each stream.
@@ -100,4 +103,15 @@ pub fn size_at(head: &[u8], at: usize) -> usize
         Number32::Value(n, _) => n as usize,
         Number32::Short => 0,
     }
+}
+
+// Puts the bytes that come next into a space, so many. Answers whether they are missing: the space has no room for them, or the input ends before.
+pub fn missing(space: &mut [u8], n: usize) -> bool
+    ensures { λ r. ⌜ (r ≡ false → n ≤ length (now (space .exit))) ⌝ }
+{
+    if space.len() < n {
+        return true;
+    }
+    let got = io::read_full(STDIN_FILENO, &mut space[..n]);
+    got != n
 }

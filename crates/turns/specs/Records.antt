@@ -27,9 +27,9 @@ pub heading-short : (τ : Terms) (s : List ℕ) (rows : List Row) (k at : ℕ) (
 heading-short τ s rows k at x e i l = subst (λ (y : Heading). Short y) (sym e) (short at (length s) (headingAt τ s rows k at) (heading-ends τ s rows k at i) l)
 
 module _ (τ : Terms) (s : List ℕ) (room : ℕ) (st : State) (w : Where) (k : Kind) (e : k ≡ kindAt s w (st .at)) where
-  pub record-on : (kind : ℕ) (x : Heading) → k ≡ K.Taken kind → x ≡ headingAt τ s (st .rows) kind (st .at) → act s room st kind x ≡ recordStep τ s room st w
+  pub record-on : (kind : ℕ) (x : Heading) → k ≡ K.Taken kind → x ≡ headingAt τ s (st .rows) kind (st .at) → act (τ .book) s room st kind x ≡ recordStep τ s room st w
   unfolding recordStep
-  record-on kind x q h = ap (λ (y : Heading). act s room st kind y) h ∙ rw (← e, q)
+  record-on kind x q h = ap (λ (y : Heading). act (τ .book) s room st kind y) h ∙ rw (← e, q)
 
   pub record-off : (f : Refusal) → k ≡ K.Wrong f → refuse f (st .at) ≡ recordStep τ s room st w
   unfolding recordStep

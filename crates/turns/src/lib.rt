@@ -55,39 +55,41 @@ fn where_in(depth: usize, w: Where) -> Where
 // The record of a kind that is taken and not brief, whatever it does.
 fn long_step(
     s: &[u8],
+    book: &[u8],
     table: &mut [u32],
     frames: &mut [u32; Reader::WORDS],
     m: Reader,
     kind: u8,
     setting: Setting,
 ) -> Step
-    requires { ⌜ Held (roomOf (now table)) m × (m .at < length (now s)) × (length (now frames) ≡ 384) × (length (now s) ≤ 16777216) × (isBrief kind ≡ false) ⌝ }
+    requires { ⌜ Held (roomOf (now table)) m × (m .at < length (now s)) × (length (now frames) ≡ 384) × (length (now s) ≤ 16777216) × (length (now book) < 4294967296) × (isBrief kind ≡ false) ⌝ }
     ensures { λ q. ⌜ (after (now (table .exit)) (now (frames .exit)) q
-        ≡ act (now (s .entry)) (roomOf (now (table .entry))) (stateOf (now (table .entry)) (now (frames .entry)) m) kind
-        (headingAt (terms setting) (now (s .entry)) (rowsOf (m .rows) (now (table .entry))) kind (m .at)))
+        ≡ act (now (book .entry)) (now (s .entry)) (roomOf (now (table .entry))) (stateOf (now (table .entry)) (now (frames .entry)) m) kind
+        (headingAt (terms setting (now (book .entry))) (now (s .entry)) (rowsOf (m .rows) (now (table .entry))) kind (m .at)))
         × (length (now (frames .exit)) ≡ 384) ⌝ }
 {
-    let h = headings::heading_at(s, table, m.rows, kind, m.at, setting);
-    steps::take(s, table, frames, m, kind as u32, h)
+    let h = headings::heading_at(s, book, table, m.rows, kind, m.at, setting);
+    steps::take(s, book, table, frames, m, kind as u32, h)
 }
 
 // The header, which stands first.
 pub fn header_step(
     s: &[u8],
+    book: &[u8],
     table: &mut [u32],
     frames: &mut [u32; Reader::WORDS],
     m: Reader,
     setting: Setting,
 ) -> Step
-    requires { ⌜ Held (roomOf (now table)) m × (length (now frames) ≡ 384) × (length (now s) ≤ 16777216) ⌝ }
+    requires { ⌜ Held (roomOf (now table)) m × (length (now frames) ≡ 384) × (length (now s) ≤ 16777216) × (length (now book) < 4294967296) ⌝ }
     ensures { λ q. ⌜ (after (now (table .exit)) (now (frames .exit)) q
-        ≡ recordStep (terms setting) (now (s .entry)) (roomOf (now (table .entry))) (stateOf (now (table .entry)) (now (frames .entry)) m) W.Start)
+        ≡ recordStep (terms setting (now (book .entry))) (now (s .entry)) (roomOf (now (table .entry))) (stateOf (now (table .entry)) (now (frames .entry)) m) W.Start)
         × (length (now (frames .exit)) ≡ 384) ⌝ }
 {
     let at = m.at;
     let k = kinds::kind_at(s, Where::Start, at);
     match k {
-        Kind::Taken(kind) => long_step(s, table, frames, m, kind, setting),
+        Kind::Taken(kind) => long_step(s, book, table, frames, m, kind, setting),
         Kind::Wrong(f) => Step::Refuse(f, at),
     }
 }
@@ -96,28 +98,29 @@ pub fn header_step(
 // way stays in registers.
 fn record_step(
     s: &[u8],
+    book: &[u8],
     table: &mut [u32],
     frames: &mut [u32; Reader::WORDS],
     m: Reader,
     w: Where,
     setting: Setting,
 ) -> Step
-    requires { ⌜ Held (roomOf (now table)) m × (length (now frames) ≡ 384) × (length (now s) ≤ 16777216) ⌝ }
+    requires { ⌜ Held (roomOf (now table)) m × (length (now frames) ≡ 384) × (length (now s) ≤ 16777216) × (length (now book) < 4294967296) ⌝ }
     ensures { λ q. ⌜ (after (now (table .exit)) (now (frames .exit)) q
-        ≡ recordStep (terms setting) (now (s .entry)) (roomOf (now (table .entry))) (stateOf (now (table .entry)) (now (frames .entry)) m) w)
+        ≡ recordStep (terms setting (now (book .entry))) (now (s .entry)) (roomOf (now (table .entry))) (stateOf (now (table .entry)) (now (frames .entry)) m) w)
         × (length (now (frames .exit)) ≡ 384) ⌝ }
 {
     let at = m.at;
     if kinds::is_brief_at(s, w, at) {
         let kind = s[at];
-        let h = headings::brief_at(s, table, m.rows, kind, at, setting);
-        return steps::take_brief(s, table, frames, m, kind as u32, h);
+        let h = headings::brief_at(s, book, table, m.rows, kind, at, setting);
+        return steps::take_brief(s, book, table, frames, m, kind as u32, h);
     }
     let k = kinds::kind_at(s, w, at);
     match k {
         Kind::Taken(kind) => {
             let n = m;
-            let q = long_step(s, table, frames, n, kind, setting);
+            let q = long_step(s, book, table, frames, n, kind, setting);
             q
         }
         Kind::Wrong(f) => Step::Refuse(f, at),
@@ -127,24 +130,25 @@ fn record_step(
 // A member value at once, or a record.
 pub fn one_step(
     s: &[u8],
+    book: &[u8],
     table: &mut [u32],
     frames: &mut [u32; Reader::WORDS],
     m: Reader,
     setting: Setting,
 ) -> Step
-    requires { ⌜ Held (roomOf (now table)) m × (length (now frames) ≡ 384) × (length (now s) ≤ 16777216) ⌝ }
+    requires { ⌜ Held (roomOf (now table)) m × (length (now frames) ≡ 384) × (length (now s) ≤ 16777216) × (length (now book) < 4294967296) ⌝ }
     ensures { λ q. ⌜ (after (now (table .exit)) (now (frames .exit)) q
-        ≡ step (terms setting) (now (s .entry)) (roomOf (now (table .entry))) (stateOf (now (table .entry)) (now (frames .entry)) m))
+        ≡ step (terms setting (now (book .entry))) (now (s .entry)) (roomOf (now (table .entry))) (stateOf (now (table .entry)) (now (frames .entry)) m))
         × (length (now (frames .exit)) ≡ 384) ⌝ }
 {
     let typed = m.top.typed;
     let slot = typed.slot;
     let d = due_in(slot);
     match d {
-        Due::Value(c) => steps::take_value(s, table, frames, m, c, setting),
+        Due::Value(c) => steps::take_value(s, book, table, frames, m, c, setting),
         Due::Record(w) => {
             let v = where_in(m.depth, w);
-            record_step(s, table, frames, m, v, setting)
+            record_step(s, book, table, frames, m, v, setting)
         }
     }
 }

@@ -13,15 +13,15 @@ class-by-id-at-spec =
     (λ c κs. search needs)
     (λ c. search needs)
     (λ c. search needs)
-    (λ c. sym (by-id-short _ _ _ (sym (c .before .before .u32-at .ensures) ∙ c .enum-told .given .1)))
+    (λ c. sym (by-id-short _ _ _ _ (sym (c .before .before .u32-at .ensures) ∙ c .enum-told .given .1)))
     (λ c κs. search needs)
     (λ c κs. search needs)
     (λ c.
     c .by-metadata-at .ensures
-    ∙ sym (by-id-free _ _ _ _ _
+    ∙ sym (by-id-free _ _ _ _ _ _
     (sym (c .before .before .before .before .before .before .u32-at .ensures) ∙ c .before .before .before .before .id .given .1)
     (sym (c .before .before .is-free-class-id .ensures) ∙ c .before .if1 .taken)))
     (λ c.
-    sym (by-id-used _ _ _ _ _
+    sym (by-id-used _ _ _ _ _ _
     (sym (c .before .before .before .before .before .u32-at .ensures) ∙ c .before .before .before .id .given .1)
     (sym (c .before .is-free-class-id .ensures) ∙ c .if1 .left))))

@@ -1,4 +1,4 @@
--- The row, the place of the first detail and the type are what the callees promise.
+-- The row and the type of the first member are what the callees promise.
 use borrow.Author.Needs.{needs}
 use Rattle.class_by_id.proofs.of_class.Statement.{statement}
 use Rattle.class_by_id.proofs.of_class.Tie as tie
@@ -10,6 +10,5 @@ of-class-spec =
     (λ c. search needs)
     (λ c κs. search needs)
     (λ c κs. search needs)
-    (λ c κs. search needs)
     (λ c. search needs)
-    (λ c. rw (c .typed-at .ensures, c .before .infos-of .ensures, c .before .before .row-at .ensures)))
+    (λ c. rw (c .first-type .ensures, c .before .row-at .ensures)))

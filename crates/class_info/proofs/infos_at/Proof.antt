@@ -4,7 +4,6 @@ use borrow.Author.Needs.{needs}
 use mathlib.Core.Path.{_≡_, refl, sym, _∙_}
 use native.Mathlib.Omega.{arith}
 use Prim.Native.Nat.{_+_}
-use Rattle.format.specs.Terms.{terms}
 use Rattle.format.specs.Rows.{rowsOf}
 use Rattle.format.specs.Records.{infosAt}
 use Rattle.class_info.specs.Stages.{infos-none, infos-step}
@@ -13,7 +12,7 @@ use Rattle.class_info.proofs.infos_at.Tie as tie
 
 abbrev Inv-loop : tie.InvT-loop
 Inv-loop s table n count types at setting left₀ t₀ p₀ left t p =
-    (infosAt (terms setting) s (rowsOf n table) count types at ≡ infosAt (terms setting) s (rowsOf n table) left t p) × (t + left ≡ types + count)
+    (infosAt setting s (rowsOf n table) count types at ≡ infosAt setting s (rowsOf n table) left t p) × (t + left ≡ types + count)
 
 abbrev μ-loop : tie.MeasureT-loop
 μ-loop s table n count types at setting left₀ t₀ p₀ left t p = left

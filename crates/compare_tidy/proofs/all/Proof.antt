@@ -1,16 +1,16 @@
 -- The measure is how many streams may still come; the slices keep their lengths.
 use Prim.Native.Nat.{_-_}
 use mathlib.Core.Path.{_≡_}
-use borrow.Author.Needs.{needs}
 use lib.ListN.{length}
+use borrow.Author.Needs.{needs}
 use Rattle.compare_tidy.proofs.all.Statement.{statement}
 use Rattle.compare_tidy.proofs.all.Tie as tie
 
 abbrev Inv-loop : tie.InvT-loop
-Inv-loop space₀ table₀ out₀ setting i₀ space table out i = (length space ≡ length space₀) × (length table ≡ length table₀) × (length out ≡ length out₀)
+Inv-loop space₀ book₀ table₀ out₀ setting i₀ space book table out i = (length space ≡ length space₀) × (length book ≡ length book₀) × (length table ≡ length table₀) × (length out ≡ length out₀)
 
 abbrev μ-loop : tie.MeasureT-loop
-μ-loop space₀ table₀ out₀ setting i₀ space table out i = 1000000 - i
+μ-loop space₀ book₀ table₀ out₀ setting i₀ space book table out i = 1000000 - i
 
 pub all-spec : {M : Type 1} → statement M
 all-spec =
@@ -20,6 +20,8 @@ all-spec =
     μ-loop
     (λ c. search needs)
     (λ c κs. search needs)
+    (λ c. search needs)
+    (λ c. search needs)
     (λ c. search needs)
     (λ c. search needs)
     (λ c. search needs)

@@ -1,6 +1,6 @@
 -- Each part is as long as it was asked for, after the tests.
 use native.Mathlib.Omega.{arith}
-use lib.ListN.{length-take, length-append, length-drop}
+use lib.ListN.{length-take}
 use borrow.Author.Needs.{needs}
 use Rattle.compare_tidy.proofs.one.Statement.{statement}
 use Rattle.compare_tidy.proofs.one.Tie as tie
@@ -11,19 +11,25 @@ one-spec =
     (tie.spec
     (λ c. search needs)
     (λ c. search needs)
+    (λ c κs. search needs)
     (λ c. search needs)
     (λ c. search needs)
-    (λ c. simp length-take (omega arith))
     (λ c κs. search needs)
     (λ c. search needs)
     (λ c. search needs)
     (λ c. search needs)
-    (λ c. simp (length-take, length-append, length-drop, c .before .before .before .before .read-full .kept .1 .0) (omega arith))
+    (λ c. c .before .before .before .before .before .before .before .before .missing .ensures (c .before .before .before .before .before .if3 .left))
+    (λ c.
+    let h = c .before .before .before .before .before .before .before .before .before .missing .ensures (c .before .before .before .before .before .before .if3 .left) in simp length-take (omega arith))
+    (λ c. c .before .before .before .before .missing2 .ensures (c .before .if4 .left))
+    (λ c.
+    let h = c .before .before .before .before .before .missing2 .ensures (c .before .before .if4 .left) in simp length-take (omega arith))
     (λ c. search needs)
     (λ c. simp length-take (omega arith))
     (λ c. search needs)
     (λ c. simp length-take (omega arith))
     (λ c κs. search needs)
+    (λ c. search needs)
     (λ c. search needs)
     (λ c. search needs)
     (λ c. search needs)

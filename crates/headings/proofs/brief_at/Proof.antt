@@ -31,4 +31,4 @@ brief-at-spec =
     (λ c.
     let n = c .before .match .rest in
     let e = c .plain-head .ensures in
-    (e ∙ sym (null-heading _ _ _ _ _ (brief-null _ (c .before .before .before .before .pre .0) (n .0 .0 .1) (n .0 .1) (n .1))), hollow-as _ _ e refl)))
+    (e ∙ sym (null-heading _ _ _ _ _ (brief-null _ (c .before .before .before .before .before .pre .0) (n .0 .0 .1) (n .0 .1) (n .1))), hollow-as _ _ e refl)))

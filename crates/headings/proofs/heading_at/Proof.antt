@@ -33,4 +33,4 @@ heading-at-spec =
     (λ c. c .long-nulls-at .ensures ∙ sym (long-nulls-heading _ _ _ _ _ (c .before .match .keys9)))
     (λ c. c .primitive-array-at .ensures ∙ sym (primitives-heading _ _ _ _ _ (c .before .match .keys10)))
     (λ c. c .slot-array-at .ensures ∙ sym (objects-heading _ _ _ _ _ (c .before .match .keys11)))
-    (λ c. c .slot-array-at2 .ensures ∙ sym (strings-heading _ _ _ _ _ (c .before .match .rest) (c .before .before .before .before .pre .4))))
+    (λ c. c .slot-array-at2 .ensures ∙ sym (strings-heading _ _ _ _ _ (c .before .match .rest) (c .before .before .before .before .before .pre .4))))

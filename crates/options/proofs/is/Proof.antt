@@ -8,5 +8,17 @@ pub is-spec : {M : Type 1} → statement M
 is-spec =
     tie.close
     (tie.spec
-    (λ c κs. search needs)
-    (λ c. compared _ _ _ (c .same .ensures)))
+    (λ
+    c
+    κs.
+    search
+    needs)
+    (λ
+    c.
+    compared
+    _
+    _
+    _
+    (c
+    .same
+    .ensures)))

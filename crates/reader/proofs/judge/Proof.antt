@@ -1,9 +1,8 @@
--- The header's step begins the run; each answer of it is an end or the start of the loop.
-use mathlib.Core.Path.{_≡_, ap, _∙_}
-use native.Mathlib.Omega.{arith}
-use lib.ListN.{length}
+-- The limit, then the book, then the stream; a good book is small.
+use mathlib.Core.Path.{sym, ap, _∙_}
 use Rattle.format.specs.Rows.{roomOf}
-use Rattle.reader.specs.Ends.{endBy, too-large, fresh-held, runs-room, answered-room, within-room, head-on, head-end, head-roomy, head-bad}
+use Rattle.book.specs.Moves.{good-small}
+use Rattle.reader.specs.Ends.{endBy, too-large, bad-book, good-book}
 use borrow.Author.Needs.{needs}
 use Rattle.reader.proofs.judge.Statement.{statement}
 use Rattle.reader.proofs.judge.Tie as tie
@@ -13,66 +12,17 @@ judge-spec =
     tie.close
     (tie.spec
     (λ c.
-    let a = c .before .before .before .args in
+    let a = c .before .before .before .before .args in
     (ap (endBy (a .keep)) (too-large _ (a .s .now) (roomOf (a .table .now)) (c .if1 .taken)), tt))
     (λ c κs. search needs)
-    (λ c κs. search needs)
-    (λ c κs.
-    let a = c .before .before .before .before .before .before .before .args in
-    let z = c .before .before .fresh in
-    (fresh-held (roomOf (a .table .now)) (z .result) (z .ensures), ap length (c .before .before .before .frames .ensures), c .before .before .before .before .if1 .left))
-    (λ c. search needs)
-    (λ c κs.
-    let a = c .before .before .before .before .before .before .before .before .before .before .before .before .before .before .before .args in
-    let o = c .before .before .before .before .before .before .before .header-step in
-    let u = o .last .1 .0 in
-    let g = o .last .1 .1 .0 in
-    let f = c .before .before .before .before .before .before .before .before .before .before .before .frames .result in
-    let z = c .before .before .before .before .before .before .before .before .before .before .fresh in
-    let l = c .before .before .before .before .before .before .before .before .before .before .before .before .if1 .left in
-    (runs-room _ (a .s .now) (a .table .now) u g _ (o .kept .1 .0) (head-on _ (a .s .now) (a .table .now) u f g (z .result) l (z .ensures) (o .result) (o .ensures .0) _ (c .before .before .before .q .given .1) (o .ensures .1)), l))
-    (λ c. search needs)
-    (λ c κs.
-    let a = c .before .before .before .before .before .before .before .before .before .before .before .before .before .before .args in
-    let o = c .before .before .before .before .before .before .header-step in
-    let u = o .last .1 .0 in
-    let g = o .last .1 .1 .0 in
-    let f = c .before .before .before .before .before .before .before .before .before .before .frames .result in
-    let z = c .before .before .before .before .before .before .before .before .before .fresh in
-    let l = c .before .before .before .before .before .before .before .before .before .before .before .if1 .left in
-    let w = head-roomy _ (a .s .now) (a .table .now) u f g (z .result) l (z .ensures) (o .result) (o .ensures .0) _ _ (c .before .before .q2 .given .1) in
-    let k : length u ≡ length (a .table .now) = o .kept .1 .0 in
-    (omega arith, omega arith))
-    (λ c. search needs)
     (λ c. search needs)
     (λ c.
-    let a = c .before .before .before .before .before .before .before .before .before .before .before .before .before .before .before .before .before .before .args in
-    let o = c .before .before .before .before .before .before .before .before .before .before .header-step in
-    let u = o .last .1 .0 in
-    let g = o .last .1 .1 .0 in
-    let f = c .before .before .before .before .before .before .before .before .before .before .before .before .before .before .frames .result in
-    let z = c .before .before .before .before .before .before .before .before .before .before .before .before .before .fresh in
-    let l = c .before .before .before .before .before .before .before .before .before .before .before .before .before .before .before .if1 .left in
-    let r = c .before .before .drive in
-    answered-room _ (a .keep) (a .s .now) (a .table .now) u (r .last .1 .0) (r .result) (o .kept .1 .0) (r .ensures))
+    let a = c .before .before .before .before .before .before .args in
+    (ap (endBy (a .keep)) (bad-book _ (a .s .now) (roomOf (a .table .now)) (c .before .before .if1 .left) _ (c .before .bad-entry .ensures) (c .if2 .taken)), tt))
+    (λ c κs. (c .before .before .before .if1 .left, good-small _ (sym (c .before .before .bad-entry .ensures) ∙ c .before .if2 .left)))
     (λ c. search needs)
     (λ c.
-    let a = c .before .before .before .before .before .before .before .before .before .before .before .before .before .before .before .before .before .args in
-    let o = c .before .before .before .before .before .before .before .before .before .header-step in
-    let u = o .last .1 .0 in
-    let g = o .last .1 .1 .0 in
-    let f = c .before .before .before .before .before .before .before .before .before .before .before .before .before .frames .result in
-    let z = c .before .before .before .before .before .before .before .before .before .before .before .before .fresh in
-    let l = c .before .before .before .before .before .before .before .before .before .before .before .before .before .before .if1 .left in
-    let r = c .before .before .finish-rows in
-    (r .ensures .0 ∙ ap (endBy (a .keep)) (head-end _ (a .s .now) (a .table .now) u f g (z .result) l (z .ensures) (o .result) (o .ensures .0) _ _ (c .before .before .before .before .before .q2 .given .1)), within-room u (a .table .now) (r .result) (o .kept .1 .0) (r .ensures .1)))
-    (λ c. search needs)
-    (λ c.
-    let a = c .before .before .before .before .before .before .before .before .before .before .before .before .before .args in
-    let o = c .before .before .before .before .before .header-step in
-    let u = o .last .1 .0 in
-    let g = o .last .1 .1 .0 in
-    let f = c .before .before .before .before .before .before .before .before .before .frames .result in
-    let z = c .before .before .before .before .before .before .before .before .fresh in
-    let l = c .before .before .before .before .before .before .before .before .before .before .if1 .left in
-    (ap (endBy (a .keep)) (head-bad _ (a .s .now) (a .table .now) u f g (z .result) l (z .ensures) (o .result) (o .ensures .0) _ _ (c .before .q3 .given .1)), tt)))
+    let a = c .before .before .before .before .before .before .before .before .before .before .args in
+    let j = c .before .before .judge-stream in
+    let b = sym (c .before .before .before .before .before .bad-entry .ensures) ∙ c .before .before .before .before .if2 .left in
+    (j .ensures .0 ∙ ap (endBy (a .keep)) (good-book _ (a .s .now) (roomOf (a .table .now)) (c .before .before .before .before .before .before .if1 .left) b), j .ensures .1)))

@@ -21,12 +21,14 @@ say-the-same-spec =
     (λ c. search needs)
     (λ c. search needs)
     (λ c.
-    let a = c .before .before .before .before .before .before .before .before .before .before .before .before .before .before .before .before .before .before .before .before .before .before .before .before .args in
-    let byte : Bytes (a .a .now) = λ i. c .before .before .before .before .before .before .before .before .before .before .before .before .before .before .before .before .before .before .before .before .before .before .before .shared-slice-known .given i .fits in
-    let octet : Bytes (a .b .now) = λ i. c .before .before .before .before .before .before .before .before .before .before .before .before .before .before .before .before .before .before .before .before .before .before .shared-slice-known2 .given i .fits in
+    let a = c .before .before .before .before .before .before .before .before .before .before .before .before .before .before .before .before .before .before .before .before .before .before .before .before .before .before .args in
+    let byte : Bytes (a .a .now) = λ i. c .before .before .before .before .before .before .before .before .before .before .before .before .before .before .before .before .before .before .before .before .before .before .before .before .before .shared-slice-known .given i .fits in
+    let booked : Bytes (a .a-book .now) = λ i. c .before .before .before .before .before .before .before .before .before .before .before .before .before .before .before .before .before .before .before .before .before .before .before .before .shared-slice-known2 .given i .fits in
+    let octet : Bytes (a .b .now) = λ i. c .before .before .before .before .before .before .before .before .before .before .before .before .before .before .before .before .before .before .before .before .before .before .before .shared-slice-known3 .given i .fits in
+    let other : Bytes (a .b-book .now) = λ i. c .before .before .before .before .before .before .before .before .before .before .before .before .before .before .before .before .before .before .before .before .before .before .shared-slice-known4 .given i .fits in
     let x = c .before .before .before .before .before .before .before .before .before .before .before .before .before .before .before .before .tidy in
-    first-written _ _ (a .a .now) (a .b .now) (a .table .now) (a .first .now) (a .second .now) (x .last .1 .0) (x .last .1 .1 .0) _ (x .ensures)
-    byte octet (x .kept .1 .0) _ (c .before .before .before .before .before .before .before .before .before .before .p .given .1) _ _ _ (c .before .before .before .before .against .ensures))
+    first-written _ _ (a .a .now) (a .b .now) (a .table .now) (a .first .now) (a .second .now) (x .last .1 .1 .0) (x .last .1 .1 .1 .0) _ (x .ensures)
+    booked byte other octet (x .kept .1 .1 .0) _ (c .before .before .before .before .before .before .before .before .before .before .p .given .1) _ _ _ (c .before .before .before .before .against .ensures))
     (λ c. search needs)
     (λ c. search needs)
     (λ c. search (first-refused, needs))

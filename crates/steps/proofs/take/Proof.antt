@@ -13,14 +13,14 @@ take-spec =
     (tie.spec
     (λ c. search needs)
     (λ c κs.
-    let p = c .before .before .before .before .before .before .before .pre in
-    (p .0, short-of _ _ (c .before .before .before .heading .given .1) (p .1), p .2, p .3))
+    let p = c .before .before .before .before .before .before .before .before .pre in
+    (p .0, short-of _ _ (c .before .before .before .heading .given .1) (p .1), p .2, p .3, p .4))
     (λ c. search needs)
     (λ c. search needs)
     (λ c.
-    let a = c .before .before .before .before .before .before .before .before .before .before .args in
+    let a = c .before .before .before .before .before .before .before .before .before .before .before .args in
     let o = c .before .before .take-fields in
-    (o .ensures .0 ∙ act-as (a .s .now) (roomOf (a .table .now)) (stateOf (a .table .now) (a .frames .now) (a .m)) (a .kind) (a .heading) _ (c .before .before .before .before .before .before .heading .given .1), o .ensures .1))
+    (o .ensures .0 ∙ act-as (a .book .now) (a .s .now) (roomOf (a .table .now)) (stateOf (a .table .now) (a .frames .now) (a .m)) (a .kind) (a .heading) _ (c .before .before .before .before .before .before .heading .given .1), o .ensures .1))
     (λ c.
-    let a = c .before .before .before .before .before .args in
-    (act-bad (a .s .now) (roomOf (a .table .now)) (stateOf (a .table .now) (a .frames .now) (a .m)) (a .kind) _ ∙ act-as (a .s .now) (roomOf (a .table .now)) (stateOf (a .table .now) (a .frames .now) (a .m)) (a .kind) (a .heading) _ (c .before .heading2 .given .1), c .before .before .before .before .before .pre .2)))
+    let a = c .before .before .before .before .before .before .args in
+    (act-bad (a .book .now) (a .s .now) (roomOf (a .table .now)) (stateOf (a .table .now) (a .frames .now) (a .m)) (a .kind) _ ∙ act-as (a .book .now) (a .s .now) (roomOf (a .table .now)) (stateOf (a .table .now) (a .frames .now) (a .m)) (a .kind) (a .heading) _ (c .before .heading2 .given .1), c .before .before .before .before .before .before .pre .2)))

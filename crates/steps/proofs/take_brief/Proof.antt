@@ -19,17 +19,17 @@ use borrow.Author.Needs.{needs}
 use Rattle.steps.proofs.take_brief.Statement.{statement}
 use Rattle.steps.proofs.take_brief.Tie as tie
 
-module _ (s : List ℕ) (room : ℕ) (st : State) (h : Head) (ty : Typed) (e : ty ≡ moved s (st .stack .cur .typed)) (z : h .slots ≡ 0) where
-  act-hollow : (kind : ℕ) → isObject kind ≡ true → slotsTaken room st kind h 1 ty ≡ act s room st kind (H.Fields h)
+module _ (β s : List ℕ) (room : ℕ) (st : State) (h : Head) (ty : Typed) (e : ty ≡ moved β s (st .stack .cur .typed)) (z : h .slots ≡ 0) where
+  act-hollow : (kind : ℕ) → isObject kind ≡ true → slotsTaken room st kind h 1 ty ≡ act β s room st kind (H.Fields h)
   unfolding act object slotsTaken
   act-hollow kind o = rw (o, e, eq-eqb (h .slots) 0 z)
 
-  act-brief : (kind : ℕ) → isBrief kind ≡ true → slotsTaken room st kind h 1 ty ≡ act s room st kind (H.Fields h)
+  act-brief : (kind : ℕ) → isBrief kind ≡ true → slotsTaken room st kind h 1 ty ≡ act β s room st kind (H.Fields h)
   act-brief kind =
-      by-brief kind (λ (k : ℕ). slotsTaken room st k h 1 ty ≡ act s room st k (H.Fields h)) (act-hollow 6 refl)
-      (act-plain s room st h 8 ty e refl (λ q. omega arith) (λ q. omega arith) (λ q. omega arith) (λ q. omega arith))
-      (act-plain s room st h 9 ty e refl (λ q. omega arith) (λ q. omega arith) (λ q. omega arith) (λ q. omega arith))
-      (act-plain s room st h 10 ty e refl (λ q. omega arith) (λ q. omega arith) (λ q. omega arith) (λ q. omega arith))
+      by-brief kind (λ (k : ℕ). slotsTaken room st k h 1 ty ≡ act β s room st k (H.Fields h)) (act-hollow 6 refl)
+      (act-plain β s room st h 8 ty e refl (λ q. omega arith) (λ q. omega arith) (λ q. omega arith) (λ q. omega arith))
+      (act-plain β s room st h 9 ty e refl (λ q. omega arith) (λ q. omega arith) (λ q. omega arith) (λ q. omega arith))
+      (act-plain β s room st h 10 ty e refl (λ q. omega arith) (λ q. omega arith) (λ q. omega arith) (λ q. omega arith))
 
 hollow-of : (x : Heading) (h : Head) → x ≡ H.Fields h → Hollow x → h .slots ≡ 0
 hollow-of x h e k = subst (λ (y : Heading). Hollow y) e k
@@ -41,16 +41,16 @@ take-brief-spec =
     (λ c. search needs)
     (λ c κs. search needs)
     (λ c κs.
-    let p = c .before .before .before .before .before .before .before .before .pre in
+    let p = c .before .before .before .before .before .before .before .before .before .pre in
     (p .0, short-of _ _ (c .before .before .before .before .heading .given .1) (p .1), p .4))
     (λ c. search needs)
     (λ c. search needs)
     (λ c.
-    let a = c .before .before .before .before .before .before .before .before .before .before .before .args in
-    let p = c .before .before .before .before .before .before .before .before .before .before .before .pre in
+    let a = c .before .before .before .before .before .before .before .before .before .before .before .before .args in
+    let p = c .before .before .before .before .before .before .before .before .before .before .before .before .pre in
     let v = c .before .before .before .before .move-on in
     let q = c .before .before .before .before .before .before .before .heading .given .1 in
-    c .before .before .take-slots .ensures ∙ act-brief (a .s .now) (roomOf (a .table .now)) (stateOf (a .table .now) (a .frames .now) (a .m)) _ (v .result) (v .ensures) (hollow-of _ _ q (p .2)) (a .kind) (p .3) ∙ act-as (a .s .now) (roomOf (a .table .now)) (stateOf (a .table .now) (a .frames .now) (a .m)) (a .kind) (a .heading) _ q)
+    c .before .before .take-slots .ensures ∙ act-brief (a .book .now) (a .s .now) (roomOf (a .table .now)) (stateOf (a .table .now) (a .frames .now) (a .m)) _ (v .result) (v .ensures) (hollow-of _ _ q (p .2)) (a .kind) (p .3) ∙ act-as (a .book .now) (a .s .now) (roomOf (a .table .now)) (stateOf (a .table .now) (a .frames .now) (a .m)) (a .kind) (a .heading) _ q)
     (λ c.
-    let a = c .before .before .before .before .before .args in
-    act-bad (a .s .now) (roomOf (a .table .now)) (stateOf (a .table .now) (a .frames .now) (a .m)) (a .kind) _ ∙ act-as (a .s .now) (roomOf (a .table .now)) (stateOf (a .table .now) (a .frames .now) (a .m)) (a .kind) (a .heading) _ (c .before .heading2 .given .1)))
+    let a = c .before .before .before .before .before .before .args in
+    act-bad (a .book .now) (a .s .now) (roomOf (a .table .now)) (stateOf (a .table .now) (a .frames .now) (a .m)) (a .kind) _ ∙ act-as (a .book .now) (a .s .now) (roomOf (a .table .now)) (stateOf (a .table .now) (a .frames .now) (a .m)) (a .kind) (a .heading) _ (c .before .heading2 .given .1)))

@@ -12,18 +12,18 @@ take-run-spec =
     tie.close
     (tie.spec
     (λ c.
-    let a = c .before .before .before .before .args in
-    run-long (a .s .now) (roomOf (a .table .now)) (stateOf (a .table .now) (a .frames .now) (a .m)) (a .kind) (a .h) (c .if1 .taken))
+    let a = c .before .before .before .before .before .args in
+    run-long (a .book .now) (a .s .now) (roomOf (a .table .now)) (stateOf (a .table .now) (a .frames .now) (a .m)) (a .kind) (a .h) (c .if1 .taken))
     (λ c κs. search needs)
     (λ c. search needs)
     (λ c κs. search needs)
     (λ c. search needs)
     (λ c. search needs)
     (λ c.
-    let a = c .before .before .before .before .before .before .before .before .before .before .before .before .before .args in
+    let a = c .before .before .before .before .before .before .before .before .before .before .before .before .before .before .args in
     let p = c .before .before .before .before .before .before .before .pass in
-    c .before .before .take-slots .ensures ∙ run-over (a .s .now) (roomOf (a .table .now)) (stateOf (a .table .now) (a .frames .now) (a .m)) (a .kind) (a .h) (c .before .before .before .before .before .before .before .before .before .if1 .left) (p .result) (p .ensures) _ (c .before .before .before .before .before .p .given .1))
+    c .before .before .take-slots .ensures ∙ run-over (a .book .now) (a .s .now) (roomOf (a .table .now)) (stateOf (a .table .now) (a .frames .now) (a .m)) (a .kind) (a .h) (c .before .before .before .before .before .before .before .before .before .if1 .left) (p .result) (p .ensures) _ (c .before .before .before .before .before .p .given .1))
     (λ c.
-    let a = c .before .before .before .before .before .before .before .before .args in
+    let a = c .before .before .before .before .before .before .before .before .before .args in
     let p = c .before .before .pass in
-    run-crossed (a .s .now) (roomOf (a .table .now)) (stateOf (a .table .now) (a .frames .now) (a .m)) (a .kind) (a .h) (c .before .before .before .before .if1 .left) (p .result) (p .ensures) (c .enum-told .given .1)))
+    run-crossed (a .book .now) (a .s .now) (roomOf (a .table .now)) (stateOf (a .table .now) (a .frames .now) (a .m)) (a .kind) (a .h) (c .before .before .before .before .if1 .left) (p .result) (p .ensures) (c .enum-told .given .1)))

@@ -15,7 +15,7 @@ restore-spec =
     (λ c. search needs)
     (λ c κs. search needs)
     (λ c. search needs)
-    (λ c. restored-read _ _ _ _ _ _ (c .before .before .before .before .enum-told .given .1) (c .before .before .read .ensures .table))
+    (λ c. restored-read _ _ _ _ _ _ (c .before .before .before .before .enum-told .given .1) (c .before .before .read-again .ensures .table))
     (λ c. search needs)
     (λ c. restored-refused _ _ _ _ _ _ _ (c .before .before .before .before .enum-told2 .given .1) (c .before .before .clear .ensures))
     (λ c. search needs)

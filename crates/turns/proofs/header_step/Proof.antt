@@ -16,19 +16,19 @@ header-step-spec =
     (λ c κs. search needs)
     (λ c. search needs)
     (λ c κs.
-    let a = c .before .before .before .before .before .before .before .before .args in
-    let p = c .before .before .before .before .before .before .before .before .pre in
+    let a = c .before .before .before .before .before .before .before .before .before .args in
+    let p = c .before .before .before .before .before .before .before .before .before .pre in
     let q = sym (c .before .before .before .before .before .kind-at .ensures) ∙ c .before .before .before .k .given .1 in
-    (p .0, kind-within (a .s .now) W.Start (a .m .at) _ q, p .1, p .2, taken-long (a .s .now) W.Start (a .m .at) (header-long (a .s .now) (a .m .at)) _ q))
+    (p .0, kind-within (a .s .now) W.Start (a .m .at) _ q, p .1, p .2, p .3, taken-long (a .s .now) W.Start (a .m .at) (header-long (a .s .now) (a .m .at)) _ q))
     (λ c. search needs)
     (λ c. search needs)
     (λ c.
-    let a = c .before .before .before .before .before .before .before .before .before .before .before .args in
+    let a = c .before .before .before .before .before .before .before .before .before .before .before .before .args in
     let k = c .before .before .before .before .before .before .before .before .kind-at in
     let o = c .before .before .long-step in
     (o .ensures .0 ∙ record-on _ (a .s .now) (roomOf (a .table .now)) (stateOf (a .table .now) (a .frames .now) (a .m)) W.Start (k .result) (k .ensures) _ _ (c .before .before .before .before .before .before .k .given .1) refl, o .ensures .1))
     (λ c.
-    let a = c .before .before .before .before .before .before .args in
-    let p = c .before .before .before .before .before .before .pre in
+    let a = c .before .before .before .before .before .before .before .args in
+    let p = c .before .before .before .before .before .before .before .pre in
     let k = c .before .before .before .kind-at in
     (record-off _ (a .s .now) (roomOf (a .table .now)) (stateOf (a .table .now) (a .frames .now) (a .m)) W.Start (k .result) (k .ensures) _ (c .before .k2 .given .1), p .1)))
