@@ -24,10 +24,10 @@ int main(void) {
         return 2;
     }
 
-    /* Ask for texts with the setting with which the list was read. */
+    /* Ask for texts with the setting with which the list was read. Without a class book it is read with an empty one. */
     const uint32_t setting = STRELINGA_STRICT;
 
-    uint32_t reply = strelinga_read(stream, bytes, table, WORDS, setting, &place, &rows);
+    uint32_t reply = strelinga_read(stream, bytes, NULL, 0, table, WORDS, setting, &place, &rows);
     if (reply != STRELINGA_DONE) {
         return refused(reply, place);
     }
@@ -42,7 +42,7 @@ int main(void) {
         }
     }
 
-    reply = strelinga_tidy(stream, bytes, table, WORDS, copy, sizeof copy, setting, &place, &length);
+    reply = strelinga_tidy(stream, bytes, NULL, 0, table, WORDS, copy, sizeof copy, setting, &place, &length);
     if (reply != STRELINGA_DONE) {
         return refused(reply, place);
     }

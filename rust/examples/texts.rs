@@ -23,10 +23,11 @@ fn main() -> Result<(), Box<dyn Error>> {
     let mut table = vec![0; 8192 * ROW_WORDS];
     let mut copy = vec![0; 2 * BYTES];
 
-    // Ask for texts with the setting with which the list was read.
+    // Ask for texts with the setting with which the list was read. Without a class book it is read with an empty one.
     let setting = Setting::Strict;
+    let book = [];
 
-    match read(&stream, &mut table, setting) {
+    match read(&stream, &book, &mut table, setting) {
         Ok(count) => println!("accepted {count}"),
         Err(e) => refused(e.refusal, e.place),
     }
@@ -39,7 +40,7 @@ fn main() -> Result<(), Box<dyn Error>> {
         }
     }
 
-    match tidy(&stream, &mut table, &mut copy, setting) {
+    match tidy(&stream, &book, &mut table, &mut copy, setting) {
         Ok(length) => println!("tidy copy: {length} of {} bytes", stream.len()),
         Err(e) => refused(e.refusal(), e.place()),
     }

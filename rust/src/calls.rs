@@ -8,6 +8,8 @@ extern "C" {
     fn strelinga_read(
         stream: *const u8,
         bytes: usize,
+        book: *const u8,
+        book_bytes: usize,
         table: *mut u32,
         words: usize,
         setting: u32,
@@ -38,6 +40,8 @@ extern "C" {
     fn strelinga_tidy(
         stream: *const u8,
         bytes: usize,
+        book: *const u8,
+        book_bytes: usize,
         table: *mut u32,
         words: usize,
         out: *mut u8,
@@ -50,8 +54,12 @@ extern "C" {
     fn strelinga_say_the_same(
         a: *const u8,
         a_bytes: usize,
+        a_book: *const u8,
+        a_book_bytes: usize,
         b: *const u8,
         b_bytes: usize,
+        b_book: *const u8,
+        b_book_bytes: usize,
         table: *mut u32,
         words: usize,
         first: *mut u8,
@@ -81,12 +89,14 @@ pub(crate) struct Comparison {
     pub list: u64,
 }
 
-pub(crate) fn read(stream: &[u8], table: &mut [u32], setting: Setting) -> Reply {
+pub(crate) fn read(stream: &[u8], book: &[u8], table: &mut [u32], setting: Setting) -> Reply {
     let (mut place, mut value) = (0, 0);
     let number = unsafe {
         strelinga_read(
             stream.as_ptr(),
             stream.len(),
+            book.as_ptr(),
+            book.len(),
             table.as_mut_ptr(),
             table.len(),
             setting.number(),
@@ -133,12 +143,20 @@ pub(crate) fn text_view(
     (number, from, length)
 }
 
-pub(crate) fn tidy(stream: &[u8], table: &mut [u32], out: &mut [u8], setting: Setting) -> Reply {
+pub(crate) fn tidy(
+    stream: &[u8],
+    book: &[u8],
+    table: &mut [u32],
+    out: &mut [u8],
+    setting: Setting,
+) -> Reply {
     let (mut place, mut value) = (0, 0);
     let number = unsafe {
         strelinga_tidy(
             stream.as_ptr(),
             stream.len(),
+            book.as_ptr(),
+            book.len(),
             table.as_mut_ptr(),
             table.len(),
             out.as_mut_ptr(),
@@ -152,8 +170,8 @@ pub(crate) fn tidy(stream: &[u8], table: &mut [u32], out: &mut [u8], setting: Se
 }
 
 pub(crate) fn say_the_same(
-    a: &[u8],
-    b: &[u8],
+    [a, a_book]: [&[u8]; 2],
+    [b, b_book]: [&[u8]; 2],
     table: &mut [u32],
     first: &mut [u8],
     second: &mut [u8],
@@ -164,8 +182,12 @@ pub(crate) fn say_the_same(
         strelinga_say_the_same(
             a.as_ptr(),
             a.len(),
+            a_book.as_ptr(),
+            a_book.len(),
             b.as_ptr(),
             b.len(),
+            b_book.as_ptr(),
+            b_book.len(),
             table.as_mut_ptr(),
             table.len(),
             first.as_mut_ptr(),

@@ -3,7 +3,8 @@
 //!
 //! The jobs are proved; this crate only calls them, and nothing proves the calls. Everything is lent by the caller: a table is 32-bit words,
 //! eight to a row, an output is bytes. Any bytes and any sizes are taken, none at all too. Nothing is allocated, nothing is kept after a
-//! call, and nothing is shared, so calls on separate memory may run at once. A [`Setting`] says which length prefixes are taken.
+//! call, and nothing is shared, so calls on separate memory may run at once. A [`Setting`] says which length prefixes are taken, and a class book
+//! gives the types of classes that are written without; no bytes are an empty book, which is always good.
 //!
 //! ```no_run
 //! # use strelinga::Setting;
@@ -11,7 +12,7 @@
 //! # let stream = Vec::new();
 //! let mut table = vec![0; strelinga::ROW_WORDS * stream.len()];
 //! let setting = Setting::Strict; // ask for texts with the setting with which the list was read
-//! let count = strelinga::read(&stream, &mut table, setting)?;
+//! let count = strelinga::read(&stream, &[], &mut table, setting)?;
 //! for (number, row) in strelinga::rows(&table).enumerate() {
 //!     if let Some(text) = strelinga::text(&stream, &table, number, setting) {
 //!         println!("row {number} at {}: {}", row.offset(), String::from_utf8_lossy(text));
@@ -55,9 +56,14 @@ impl Setting {
 }
 
 /// Reads a stream into a table of rows and answers how many there are. The words after the last row are 0; after a refusal all are. An end
-/// word counts the prefix as it is written.
-pub fn read(stream: &[u8], table: &mut [u32], setting: Setting) -> Result<usize, Refused> {
-    let reply = calls::read(stream, table, setting);
+/// word counts the prefix as it is written. The class book is judged first: a bad entry is [`Refusal::BadBook`], at its place in the book.
+pub fn read(
+    stream: &[u8],
+    book: &[u8],
+    table: &mut [u32],
+    setting: Setting,
+) -> Result<usize, Refused> {
+    let reply = calls::read(stream, book, table, setting);
     match reply.number {
         0 => Ok(reply.value as usize),
         _ => Err(refused(&reply)),
@@ -94,11 +100,12 @@ pub fn text<'s>(stream: &'s [u8], table: &[u32], row: usize, setting: Setting) -
 /// either setting.
 pub fn tidy(
     stream: &[u8],
+    book: &[u8],
     table: &mut [u32],
     out: &mut [u8],
     setting: Setting,
 ) -> Result<usize, TidyError> {
-    let reply = calls::tidy(stream, table, out, setting);
+    let reply = calls::tidy(stream, book, table, out, setting);
     match reply.number {
         0 => Ok(reply.value as usize),
         _ => Err(not_tidied(&reply)),
@@ -106,17 +113,22 @@ pub fn tidy(
 }
 
 /// Whether two lists say the same. The tidy copies go to the fronts of `first` and `second`, and the table serves both readings, the second
-/// last. Where the first list has no copy the second is not looked at, and the second output is unchanged. Each list has a setting of its own.
+/// last. Where the first list has no copy the second is not looked at, and the second output is unchanged. Each list has a class book and
+/// a setting of its own.
+#[allow(clippy::too_many_arguments)]
 pub fn say_the_same(
     a: &[u8],
+    a_book: &[u8],
     b: &[u8],
+    b_book: &[u8],
     table: &mut [u32],
     first: &mut [u8],
     second: &mut [u8],
     a_setting: Setting,
     b_setting: Setting,
 ) -> Result<bool, NotCompared> {
-    let answer = calls::say_the_same(a, b, table, first, second, [a_setting, b_setting]);
+    let settings = [a_setting, b_setting];
+    let answer = calls::say_the_same([a, a_book], [b, b_book], table, first, second, settings);
     match answer.reply.number {
         0 => Ok(answer.same != 0),
         _ => Err(NotCompared { list: list(answer.list), error: not_tidied(&answer.reply) }),

@@ -48,13 +48,15 @@ pub enum Refusal {
     OutFull,
     /// 21: the row has no text, or it is padded and was asked for in strict. Ask with the setting with which the list was read.
     NoSuchRow,
+    /// 22: an entry of the class book that is cut short or has a bad first byte, prefix, text, type or code. Its place is counted in the book.
+    BadBook,
     /// A number that is none of these. The library of this version answers none; one of another version may.
     Unknown(u32),
 }
 
 impl Refusal {
-    /// The 21 refusals that have a name, in the order of their numbers.
-    pub const NAMED: [Refusal; 21] = [
+    /// The 22 refusals that have a name, in the order of their numbers.
+    pub const NAMED: [Refusal; 22] = [
         Refusal::TooLarge,
         Refusal::CutShort,
         Refusal::UnknownKind,
@@ -76,6 +78,7 @@ impl Refusal {
         Refusal::NoObject,
         Refusal::OutFull,
         Refusal::NoSuchRow,
+        Refusal::BadBook,
     ];
 
     /// The refusal with this number; [`Refusal::Unknown`] where no refusal has it, 0 included.
@@ -84,7 +87,7 @@ impl Refusal {
         Refusal::NAMED.get(place).copied().unwrap_or(Refusal::Unknown(number))
     }
 
-    /// Its number, 1 to 21; of an unknown one the number that came back.
+    /// Its number, 1 to 22; of an unknown one the number that came back.
     pub fn number(self) -> u32 {
         match self {
             Refusal::TooLarge => 1,
@@ -108,6 +111,7 @@ impl Refusal {
             Refusal::NoObject => 19,
             Refusal::OutFull => 20,
             Refusal::NoSuchRow => 21,
+            Refusal::BadBook => 22,
             Refusal::Unknown(number) => number,
         }
     }
@@ -136,6 +140,7 @@ impl Refusal {
             Refusal::NoObject => "NO OBJECT",
             Refusal::OutFull => "OUT FULL",
             Refusal::NoSuchRow => "NO SUCH ROW",
+            Refusal::BadBook => "BAD BOOK",
             Refusal::Unknown(_) => "UNKNOWN",
         }
     }
@@ -150,7 +155,7 @@ impl Display for Refusal {
 
 impl Error for Refusal {}
 
-/// A refused reading: the refusal and its place, an offset in the stream.
+/// A refused reading: the refusal and its place, an offset in the stream or, of [`Refusal::BadBook`], in the class book.
 #[derive(Clone, Copy, Debug, PartialEq, Eq, Hash)]
 pub struct Refused {
     /// Its name and number.
@@ -159,10 +164,11 @@ pub struct Refused {
     pub place: usize,
 }
 
-/// `2 CUT SHORT at 27`.
+/// `2 CUT SHORT at 27`, and `22 BAD BOOK at 11 of the book`.
 impl Display for Refused {
     fn fmt(&self, f: &mut Formatter<'_>) -> fmt::Result {
-        write!(f, "{} at {}", self.refusal, self.place)
+        let of_what = if self.refusal == Refusal::BadBook { " of the book" } else { "" };
+        write!(f, "{} at {}{of_what}", self.refusal, self.place)
     }
 }
 

@@ -1,9 +1,10 @@
 //! Streams written by hand, with what a right reader answers to each: the
 //! counter examples and the points where a wording could be taken two ways.
 
-use crate::reader::Setting;
+use crate::reader::{Setting, Terms, UNTYPED_TAKEN};
 use crate::stream::Stream;
 
+mod books;
 mod settings;
 
 pub const WORDS: usize = 512;
@@ -26,6 +27,8 @@ use Outcome::{Accepted, Refused};
 pub struct Case {
     pub what: String,
     pub stream: Vec<u8>,
+    /// The class book.
+    pub book: Vec<u8>,
     pub words: usize,
     pub out: usize,
     pub setting: Setting,
@@ -39,6 +42,7 @@ fn case(what: &str, stream: Stream, reading: Outcome) -> Case {
     Case {
         what: what.into(),
         stream: stream.0,
+        book: Vec::new(),
         words: WORDS,
         out: OUT,
         setting: Setting::Strict,
@@ -48,6 +52,11 @@ fn case(what: &str, stream: Stream, reading: Outcome) -> Case {
 }
 
 impl Case {
+    /// Its setting with its book.
+    pub fn terms(&self) -> Terms<'_> {
+        self.setting.with(&self.book)
+    }
+
     fn words(self, words: usize) -> Case {
         Case { words, ..self }
     }
@@ -66,10 +75,24 @@ impl Case {
 }
 
 pub fn cases() -> Vec<Case> {
-    under_strict().into_iter().chain(settings::cases()).collect()
+    under_strict().into_iter().chain(settings::cases()).chain(books::cases()).collect()
 }
 
-/// Those that are not about the settings, each with what a strict reader
+/// Those that are about the class book.
+pub fn with_books() -> Vec<Case> {
+    books::cases()
+}
+
+/// A number that kinds 2 and 3 give, which is 4 where they are not taken.
+const fn untyped(number: u32) -> u32 {
+    if UNTYPED_TAKEN {
+        number
+    } else {
+        4
+    }
+}
+
+/// Those that are not about the settings or the class book, each with what a strict reader
 /// answers.
 pub fn under_strict() -> Vec<Case> {
     let groups = [
@@ -182,10 +205,10 @@ fn headers() -> Vec<Case> {
 }
 
 fn kind_bytes() -> Vec<Case> {
-    let first = [(6, 5), (12, 5), (11, 5), (2, 4), (22, 4), (18, 3), (255, 3)];
+    let first = [(6, 5), (12, 5), (11, 5), (2, untyped(5)), (22, 4), (18, 3), (255, 3)];
     let top = [
-        (2, 4),
-        (3, 4),
+        (2, untyped(2)),
+        (3, untyped(2)),
         (21, 4),
         (22, 4),
         (18, 3),
@@ -213,7 +236,7 @@ fn kind_bytes() -> Vec<Case> {
         let what = format!("kind {kind} and a full table");
         case(&what, Stream::new().bytes(&[kind]), Refused(number, 17)).words(8)
     };
-    cases.extend([full(18, 3), full(3, 4), full(9, 5), full(11, 16)]);
+    cases.extend([full(18, 3), full(3, untyped(2)), full(9, 5), full(11, 16)]);
     cases
 }
 
@@ -222,7 +245,11 @@ fn slot_kinds() -> Vec<Case> {
     let mut try_all = |what: &str, start: Stream, wrong: &[u8]| {
         let place = start.0.len();
         for &kind in wrong {
-            let number = if matches!(kind, 3 | 21) { 4 } else { 5 };
+            let number = match kind {
+                3 => untyped(5),
+                21 => 4,
+                _ => 5,
+            };
             let what = format!("kind {kind} in {what}");
             cases.push(case(&what, start.clone().bytes(&[kind]), Refused(number, place)));
         }

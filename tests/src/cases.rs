@@ -1,11 +1,14 @@
-//! The streams on which the proved reader is compared with this one: made from
-//! a seed, written by hand, and real lists.
+//! The streams on which the proved reader is compared with this one, some with a
+//! class book: made from a seed, written by hand, and real lists.
 
+use crate::books;
 use crate::by_hand::{self, Outcome};
 use crate::corpus;
-use crate::generate::{self, Random};
+use crate::generate::{self, Class, Random};
 use crate::padding::{badly_padded, padded};
-use crate::reader::{read_records, Setting, LAST_TICK, OPEN_LIMIT, ROW_WORDS};
+use crate::reader::{
+    read_records, Reply, Setting, Terms, LAST_TICK, OPEN_LIMIT, ROW_WORDS, UNTYPED_TAKEN,
+};
 use crate::show::MOST_WORDS;
 use crate::stream::{Member, Stream};
 use std::path::Path;
@@ -14,6 +17,8 @@ use std::path::Path;
 pub struct Case {
     pub what: String,
     pub stream: Vec<u8>,
+    /// The class book, mostly without entries.
+    pub book: Vec<u8>,
     /// Words of the table.
     pub words: usize,
     /// An output that it is tidied into besides the usual ones.
@@ -26,6 +31,11 @@ pub struct Case {
 }
 
 impl Case {
+    /// The setting with the case's own book.
+    pub fn terms(&self, setting: Setting) -> Terms<'_> {
+        setting.with(&self.book)
+    }
+
     /// What is known of the outcome under a setting.
     pub fn known_under(&self, setting: Setting) -> Option<&Known> {
         self.known.as_ref().filter(|_| self.setting == setting)
@@ -42,6 +52,15 @@ pub struct Known {
     pub copy: Option<String>,
 }
 
+/// What is noted holds where kinds 2 and 3 are taken. Where they are not, nothing
+/// is known of a stream that one of them stops.
+pub fn held(known: Known, stream: &[u8], terms: Terms) -> Option<Known> {
+    let refusal = read_records(stream, usize::MAX, terms).err();
+    let not_taken = refusal.filter(|refusal| refusal.number == Reply::NotTaken as u32);
+    let stopped = not_taken.is_some_and(|refusal| matches!(stream[refusal.place], 2 | 3));
+    (UNTYPED_TAKEN || !stopped).then_some(known)
+}
+
 /// Every stream that was written by hand.
 pub fn by_hand() -> Vec<Case> {
     by_hand::cases().into_iter().map(hand_written).collect()
@@ -56,7 +75,8 @@ fn hand_written(case: by_hand::Case) -> Case {
     let copy = case.copy.and_then(Result::ok).map(|copy| corpus::copy_note(&copy));
     let known = Some(Known { answer: Some(answer), rows: None, copy });
     let (words, room, setting) = (case.words, Some(case.out), case.setting);
-    Case { what, stream: case.stream, words, room, setting, known, is_list: false }
+    let by_hand::Case { stream, book, .. } = case;
+    Case { what, stream, book, words, room, setting, known, is_list: false }
 }
 
 /// Every list of a folder, with what its expected.tsv says.
@@ -67,10 +87,11 @@ pub fn lists(folder: &Path) -> Result<Vec<Case>, String> {
 
 fn list(folder: &Path, name: &str, outcome: &str) -> Result<Case, String> {
     let stream = std::fs::read(folder.join(name)).map_err(|error| format!("{name}: {error}"))?;
-    let known = Some(known(outcome).ok_or(format!("{name}: what is {outcome:?}?"))?);
+    let known = known(outcome).ok_or(format!("{name}: what is {outcome:?}?"))?;
     let (words, setting) = (corpus::ROWS * ROW_WORDS, Setting::Strict);
+    let known = held(known, &stream, setting.into());
     let what = format!("list {name}");
-    Ok(Case { what, stream, words, room: None, setting, known, is_list: true })
+    Ok(Case { what, stream, book: Vec::new(), words, room: None, setting, known, is_list: true })
 }
 
 /// What an outcome of expected.tsv says of the reading and the copy, whose note
@@ -98,11 +119,12 @@ pub fn from_hex(digits: &str) -> Option<Vec<u8>> {
 }
 
 /// At least `count` streams, the first half valid, lenient where not strict, the
-/// other damaged. Some of the damaged ones come from `lists`.
-pub fn generated(seed: u64, count: usize, lists: &[Case]) -> Vec<Case> {
+/// other damaged. Some of the damaged ones come from `lists`. With `books` about
+/// half of them have a class book, most of these also records of kinds 2 and 3.
+pub fn generated(seed: u64, count: usize, lists: &[Case], books: bool) -> Vec<Case> {
     let usual = |list: &&Case| list.stream.len() <= LONGEST_TO_DAMAGE;
     let lists = lists.iter().filter(usual).collect();
-    let mut maker = Maker { random: Random::new(seed), lists, cases: Vec::new() };
+    let mut maker = Maker { random: Random::new(seed), lists, books, cases: Vec::new() };
     for _ in 0..count.div_ceil(2) {
         maker.valid();
     }
@@ -124,16 +146,36 @@ const TOO_MANY: usize = 4;
 struct Maker<'l> {
     random: Random,
     lists: Vec<&'l Case>,
+    books: bool,
     cases: Vec<Case>,
+}
+
+/// A stream that is accepted with a book of these entries, and the rows that it
+/// needs.
+struct Booked {
+    stream: Vec<u8>,
+    entries: Vec<Class<'static>>,
+    rows: usize,
+}
+
+impl Booked {
+    fn book(&self) -> Vec<u8> {
+        books::bytes(&self.entries)
+    }
 }
 
 impl Maker<'_> {
     /// `rows` are those that the stream needs, or about so many.
     fn push(&mut self, what: &str, stream: Vec<u8>, rows: usize) {
+        self.push_with(what, stream, Vec::new(), rows);
+    }
+
+    fn push_with(&mut self, what: &str, stream: Vec<u8>, book: Vec<u8>, rows: usize) {
         let words = table_words(rows, &mut self.random);
         self.cases.push(Case {
             what: what.to_string(),
             stream,
+            book,
             words,
             room: None,
             setting: Setting::Strict,
@@ -143,21 +185,24 @@ impl Maker<'_> {
     }
 
     fn valid(&mut self) {
+        if self.books && self.random.chance(50) {
+            return self.valid_with_book();
+        }
         match self.random.below(10) {
             0 => {
                 let open = 1 + self.random.below(OPEN_LIMIT);
-                let stream = nested(open, &mut self.random);
-                let rows = rows_of(&stream);
+                let (stream, _) = nested(open, false, &mut self.random);
+                let rows = rows_of(&stream, &[]);
                 self.push("valid, nested", stream, rows);
             }
             1 | 2 => {
                 let whole = self.whole();
-                let stream = padded(&whole, &mut self.random);
-                self.push("valid, padded", stream, rows_of(&whole));
+                let stream = padded(&whole, &[], &mut self.random);
+                self.push("valid, padded", stream, rows_of(&whole, &[]));
             }
             _ => {
                 let stream = self.whole();
-                let rows = rows_of(&stream);
+                let rows = rows_of(&stream, &[]);
                 self.push("valid", stream, rows);
             }
         }
@@ -173,12 +218,85 @@ impl Maker<'_> {
         }
     }
 
+    fn valid_with_book(&mut self) {
+        match self.random.below(10) {
+            0 if UNTYPED_TAKEN => {
+                let open = 1 + self.random.below(OPEN_LIMIT);
+                let (stream, book) = nested(open, true, &mut self.random);
+                let rows = rows_of(&stream, &book);
+                self.push_with("valid, nested, with a book", stream, book, rows);
+            }
+            1 | 2 => {
+                let whole = self.whole_with_book();
+                let stream = padded(&whole.stream, &whole.book(), &mut self.random);
+                self.push_with("valid, padded, with a book", stream, whole.book(), whole.rows);
+            }
+            _ => {
+                let whole = self.whole_with_book();
+                let book = whole.book();
+                self.push_with("valid, with a book", whole.stream, book, whole.rows);
+            }
+        }
+    }
+
+    /// Some are long, and few have a book without entries.
+    fn whole_with_book(&mut self) -> Booked {
+        let (long, empty) = (self.random.chance(25), self.random.chance(5));
+        loop {
+            let list = generate::list(&mut self.random);
+            let entries = books::made_for(&list, &mut self.random);
+            if entries.is_empty() && !empty {
+                continue;
+            }
+            let stream = generate::pack_with(&entries, &list, &mut self.random);
+            if long || stream.len() <= generate::USUAL_BYTES {
+                let rows = rows_of(&stream, &books::bytes(&entries));
+                return Booked { stream, entries, rows };
+            }
+        }
+    }
+
+    /// The stream is damaged, or the book, or the book is another.
+    fn damaged_with_book(&mut self) {
+        let whole = self.whole_with_book();
+        let (book, random) = (whole.book(), &mut self.random);
+        let (what, stream, book) = match random.below(20) {
+            0..=6 => ("damaged", generate::damaged(&whole.stream, random), book),
+            7 => ("badly padded", badly_padded(&whole.stream, &book, random), book),
+            8..=13 => ("damaged book", whole.stream, books::damaged(&whole.entries, random)),
+            14 => {
+                let stream = padded(&whole.stream, &book, random);
+                ("padded, damaged book", stream, books::damaged(&whole.entries, random))
+            }
+            15 | 16 => {
+                let mut entries = whole.entries;
+                entries.truncate(random.below(entries.len() + 1));
+                ("entries left out", whole.stream, books::bytes(&entries))
+            }
+            17 => {
+                let stream = generate::damaged(&whole.stream, random);
+                ("damaged, damaged book", stream, books::damaged(&whole.entries, random))
+            }
+            18 => ("book of another list", whole.stream, self.whole_with_book().book()),
+            _ => {
+                let open = OPEN_LIMIT + 1 + random.below(TOO_MANY);
+                let (stream, book) = nested(open, true, random);
+                let book = if random.chance(20) { Vec::new() } else { book };
+                return self.push_with("nested too deep, with a book", stream, book, 3 * open);
+            }
+        };
+        self.push_with(&format!("{what}, with a book"), stream, book, whole.rows);
+    }
+
     fn damaged(&mut self) {
+        if self.books && self.random.chance(50) {
+            return self.damaged_with_book();
+        }
         match self.random.below(200) {
             0 => self.cuts(),
             1..=5 => {
                 let open = OPEN_LIMIT + 1 + self.random.below(TOO_MANY);
-                let stream = nested(open, &mut self.random);
+                let (stream, _) = nested(open, false, &mut self.random);
                 self.push("nested too deep", stream, 3 * open);
             }
             6..=25 => {
@@ -192,24 +310,24 @@ impl Maker<'_> {
             }
             46..=49 => {
                 let mut stream = self.whole();
-                let rows = rows_of(&stream);
+                let rows = rows_of(&stream, &[]);
                 stream.extend(edge_bytes(1 + self.random.below(3), &mut self.random));
                 self.push("bytes after the end", stream, rows);
             }
             50..=69 => {
                 let whole = self.whole();
-                let stream = badly_padded(&whole, &mut self.random);
-                self.push("badly padded", stream, rows_of(&whole));
+                let stream = badly_padded(&whole, &[], &mut self.random);
+                self.push("badly padded", stream, rows_of(&whole, &[]));
             }
             70..=99 => {
                 let whole = self.whole();
-                let stream = padded(&whole, &mut self.random);
+                let stream = padded(&whole, &[], &mut self.random);
                 self.damage("padded and damaged", &stream);
             }
             100..=104 if !self.lists.is_empty() => {
                 let list = self.lists[self.random.below(self.lists.len())];
-                let stream = padded(&list.stream, &mut self.random);
-                self.push(&format!("padded {}", list.what), stream, rows_of(&list.stream));
+                let stream = padded(&list.stream, &[], &mut self.random);
+                self.push(&format!("padded {}", list.what), stream, rows_of(&list.stream, &[]));
             }
             _ => {
                 let whole = self.whole();
@@ -220,13 +338,13 @@ impl Maker<'_> {
 
     fn damage(&mut self, what: &str, whole: &[u8]) {
         let stream = generate::damaged(whole, &mut self.random);
-        self.push(what, stream, rows_of(whole));
+        self.push(what, stream, rows_of(whole, &[]));
     }
 
     /// One stream, cut at every place.
     fn cuts(&mut self) {
         let whole = generate::valid(&mut self.random);
-        let rows = rows_of(&whole);
+        let rows = rows_of(&whole, &[]);
         for place in 0..whole.len() {
             self.push(&format!("cut at {place}"), whole[..place].to_vec(), rows);
         }
@@ -234,9 +352,10 @@ impl Maker<'_> {
 }
 
 /// Rows that a stream needs, padded or not, at most those of the largest table.
-pub fn rows_of(stream: &[u8]) -> usize {
+pub fn rows_of(stream: &[u8], book: &[u8]) -> usize {
     let most = MOST_WORDS / ROW_WORDS;
-    read_records(stream, most, Setting::Lenient).map_or(most, |reading| reading.records.len())
+    let reading = read_records(stream, most, Setting::Lenient.with(book));
+    reading.map_or(most, |reading| reading.records.len())
 }
 
 /// Mostly more than enough words; else the sizes at which a reader could go
@@ -259,11 +378,13 @@ pub fn table_words(rows: usize, random: &mut Random) -> usize {
 }
 
 /// Objects one in the other, `open` of them at once, with nulls on both sides
-/// of the slot that holds the next.
-fn nested(open: usize, random: &mut Random) -> Vec<u8> {
+/// of the slot that holds the next; and a book with their class. Untyped ones
+/// leave the types to the book, mostly.
+fn nested(open: usize, untyped: bool, random: &mut Random) -> (Vec<u8>, Vec<u8>) {
     let (before, after) = (random.below(3), random.below(3));
     let slots = before + 1 + after;
     let members: Vec<Member> = vec![("", 2, &[]); slots];
+    let names = vec![""; slots];
     let array_outside = random.chance(30);
     let first_class = if array_outside { 2 } else { 1 };
     let mut stream = Stream::new();
@@ -273,6 +394,8 @@ fn nested(open: usize, random: &mut Random) -> Vec<u8> {
             stream.objects(id, slots as i32)
         } else if known {
             stream.by_id(id, first_class)
+        } else if untyped && random.chance(80) {
+            stream.untyped_system(id, "P", &names)
         } else {
             stream.system(id, "P", &members)
         };
@@ -282,7 +405,7 @@ fn nested(open: usize, random: &mut Random) -> Vec<u8> {
     for _ in 0..open {
         stream = nulls(stream, after);
     }
-    stream.end().0
+    (stream.end().0, Stream::default().entry("P", None, &members).0)
 }
 
 fn nulls(stream: Stream, count: usize) -> Stream {
@@ -408,14 +531,16 @@ fn edge_whole(random: &mut Random) -> String {
 #[cfg(test)]
 mod tests {
     use super::*;
-    use crate::show::{found, MOST_BYTES};
+    use crate::reader::{UNTYPED_CLASS, UNTYPED_SYSTEM_CLASS};
+    use crate::show::{found, MOST_BOOK, MOST_BYTES};
 
     #[test]
     fn the_first_half_is_valid() {
-        for case in generated(7, 2_000, &[]).into_iter().take(1_000) {
-            let enough = found(&case.stream, MOST_WORDS, Setting::Lenient);
+        let made = [false, true].map(|books| generated(7, 2_000, &[], books));
+        for case in made.into_iter().flat_map(|cases| cases.into_iter().take(1_000)) {
+            let enough = found(&case.stream, MOST_WORDS, case.terms(Setting::Lenient));
             assert!(enough.outcome.is_ok(), "{}: {:02X?}", enough.answer, case.stream);
-            let strict = found(&case.stream, MOST_WORDS, Setting::Strict);
+            let strict = found(&case.stream, MOST_WORDS, case.terms(Setting::Strict));
             let is_padded = case.what.contains("padded");
             assert!(strict.outcome.is_ok() || is_padded, "{}", strict.answer);
         }
@@ -424,9 +549,10 @@ mod tests {
     /// Of the first thousand, which are valid, with what they need.
     #[test]
     fn tables_have_all_the_odd_sizes() {
-        let cases: Vec<Case> = generated(7, 2_000, &[]).into_iter().take(1_000).collect();
+        let cases: Vec<Case> = generated(7, 2_000, &[], true).into_iter().take(1_000).collect();
+        let enough = |case: &Case| rows_of(&case.stream, &case.book) * ROW_WORDS;
         let with = |odd: fn(usize, usize) -> bool| {
-            cases.iter().filter(|case| odd(case.words, rows_of(&case.stream) * ROW_WORDS)).count()
+            cases.iter().filter(|case| odd(case.words, enough(case))).count()
         };
         assert!(with(|words, _| words == 0) > 10);
         assert!(with(|words, _| words == 7) > 0);
@@ -438,9 +564,9 @@ mod tests {
 
     #[test]
     fn one_seed_gives_the_same_streams() {
-        let all = |seed| -> Vec<(Vec<u8>, usize)> {
-            let cases = generated(seed, 500, &[]).into_iter();
-            cases.map(|case| (case.stream, case.words)).collect()
+        let all = |seed| -> Vec<(Vec<u8>, Vec<u8>, usize)> {
+            let cases = generated(seed, 500, &[], true).into_iter();
+            cases.map(|case| (case.stream, case.book, case.words)).collect()
         };
         assert_eq!(all(3), all(3));
         assert_ne!(all(3), all(4));
@@ -448,8 +574,37 @@ mod tests {
 
     #[test]
     fn everything_fits_the_comparing_program() {
-        for case in generated(5, 2_000, &[]).iter().chain(&by_hand()) {
+        for case in generated(5, 2_000, &[], true).iter().chain(&by_hand()) {
             assert!(case.stream.len() <= MOST_BYTES && case.words <= MOST_WORDS);
+            assert!(case.book.len() <= MOST_BOOK);
+        }
+    }
+
+    #[test]
+    fn without_books_none_has_one() {
+        assert!(generated(5, 2_000, &[], false).iter().all(|case| case.book.is_empty()));
+    }
+
+    /// Both kinds are accepted and refused with every reply that is about books.
+    #[test]
+    fn books_and_untyped_classes_come_often() {
+        let mut seen = [0; 32];
+        let mut untyped = [0; 2];
+        for case in generated(5, 4_000, &[], true) {
+            let reading = read_records(&case.stream, usize::MAX, case.terms(Setting::Lenient));
+            let number = reading.as_ref().err().map_or(0, |refusal| refusal.number);
+            seen[number as usize] += usize::from(!case.book.is_empty());
+            for record in reading.iter().flat_map(|reading| &reading.records) {
+                let kinds = [UNTYPED_SYSTEM_CLASS, UNTYPED_CLASS];
+                for (seen, kind) in untyped.iter_mut().zip(kinds) {
+                    *seen += usize::from(record.row.kind == kind);
+                }
+            }
+        }
+        assert!(seen[0] > 1_000 && seen[22] > 100, "{seen:?}");
+        if UNTYPED_TAKEN {
+            assert!(seen[23] > 50 && seen[15] > 10, "{seen:?}");
+            assert!(untyped.iter().all(|&untyped| untyped > 300), "{untyped:?}");
         }
     }
 }

@@ -2,13 +2,14 @@
 
 use crate::by_hand::{cases, counter_examples, Case, Outcome};
 use crate::reader::Setting::{Lenient, Strict};
+use crate::reader::UNTYPED_TAKEN;
 use crate::{read, row_answer, row_text, tidy};
 
 const DIRT: u32 = 0xDEAD_BEEF;
 
 fn outcome(case: &Case) -> Outcome {
     let mut table = vec![DIRT; case.words];
-    match read(&case.stream, &mut table, case.setting) {
+    match read(&case.stream, &mut table, case.terms()) {
         Ok(rows) => {
             assert!(table[rows * 8..].iter().all(|word| *word == 0), "{}", case.what);
             Outcome::Accepted(rows)
@@ -23,9 +24,9 @@ fn outcome(case: &Case) -> Outcome {
 fn check_tidy(case: &Case) {
     let mut table = vec![DIRT; case.words];
     let mut out = vec![0xA5; case.out];
-    let answer = tidy(&case.stream, &mut table, &mut out, case.setting);
+    let answer = tidy(&case.stream, &mut table, &mut out, case.terms());
     let mut reading = vec![0; case.words];
-    let rows = read(&case.stream, &mut reading, case.setting);
+    let rows = read(&case.stream, &mut reading, case.terms());
     match answer {
         Ok(length) => {
             assert_eq!(table, reading, "{}", case.what);
@@ -74,13 +75,15 @@ fn tidy_copies_by_hand_hold() {
 
 #[test]
 fn every_refusal_but_the_first_occurs() {
-    let mut seen = [false; 21];
+    let mut seen = [false; 24];
     for case in cases() {
         if let Outcome::Refused(number, _) = case.reading {
             seen[number as usize] = true;
         }
         seen[20] |= matches!(case.copy, Some(Err(_)));
     }
+    seen[21] = true; // Text views alone are refused with it.
+    seen[23] |= !UNTYPED_TAKEN;
     assert!(seen[2..].iter().all(|seen| *seen), "{seen:?}");
 }
 

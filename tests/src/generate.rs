@@ -1,7 +1,7 @@
-//! Makes small lists from a seed, packs one list in many ways, and damages
-//! streams.
+//! Makes small lists from a seed, packs one list in many ways, with a class book
+//! or without, and damages streams.
 
-use crate::reader::{DECIMAL, LAST_TICK};
+use crate::reader::{DECIMAL, LAST_TICK, UNTYPED_TAKEN};
 use crate::stream::{Member, Stream};
 
 /// Splitmix64: enough for choosing, and the same everywhere.
@@ -61,6 +61,15 @@ pub struct Class<'a> {
     pub name: &'a str,
     pub library: Option<&'a str>,
     pub members: Vec<(&'a str, Type<'a>)>,
+}
+
+impl Class<'_> {
+    /// Whether a record of kind 2 or 3 of either class has the same names.
+    pub fn has_names_of(&self, other: &Class) -> bool {
+        let names = |class: &Self| class.members.iter().map(|(name, _)| *name).collect::<Vec<_>>();
+        let other_names: Vec<&str> = other.members.iter().map(|(name, _)| *name).collect();
+        self.name == other.name && self.library == other.library && names(self) == other_names
+    }
 }
 
 /// What fills one slot. Values have their code, and Decimals no prefix. A
@@ -280,11 +289,13 @@ const FEW_LIBRARIES: usize = 60;
 
 struct Packer<'r, 'a> {
     random: &'r mut Random,
+    /// The entries of the class book, in order.
+    book: &'r [Class<'a>],
     stream: Stream,
     /// ObjectIds by object order.
     ids: Vec<i32>,
     packed: usize,
-    /// Classes that stand in a record of kind 4 or 5, with its ObjectId.
+    /// Classes that stand in a record of kind 2 to 5, with its ObjectId.
     classes: Vec<(Class<'a>, i32)>,
     libraries: Vec<(i32, &'a str)>,
     /// Chance in a hundred of an unneeded record before a kind byte.
@@ -293,12 +304,18 @@ struct Packer<'r, 'a> {
 
 /// One of the many streams that say what the list says.
 pub fn pack(list: &List, random: &mut Random) -> Vec<u8> {
+    pack_with(&[], list, random)
+}
+
+/// One of the many that say it to a reader with this book.
+pub fn pack_with<'a>(book: &[Class<'a>], list: &List<'a>, random: &mut Random) -> Vec<u8> {
     let ids = object_ids(list, random);
     let litter = random.pick(&[0, 0, 5, 15]);
     let root = ids[list.root % ids.len()];
     let header = random.pick(&[root, 1, -1, 0, 77]);
     let mut packer = Packer {
         random,
+        book,
         stream: Stream::default().header(root, header),
         ids,
         packed: 0,
@@ -462,6 +479,9 @@ impl<'a> Packer<'_, 'a> {
         class.library.into_iter().for_each(|library| self.need(library));
         let id = self.next_id();
         self.classes.push((class.clone(), id));
+        if self.is_in_book(class) && self.random.chance(75) {
+            return self.untyped_class(id, class);
+        }
         let types = class.members.iter().map(|(_, slot_type)| self.type_parts(slot_type));
         let types: Vec<(u8, Vec<u8>)> = types.collect();
         let member = |at: usize| (class.members[at].0, types[at].0, types[at].1.as_slice());
@@ -471,6 +491,23 @@ impl<'a> Packer<'_, 'a> {
             Some(name) => {
                 let library = self.library_id(name);
                 self.put(|stream| stream.class(id, class.name, &members, library));
+            }
+        }
+    }
+
+    /// Whether the book gives the class its own types.
+    fn is_in_book(&self, class: &Class) -> bool {
+        let first = self.book.iter().find(|entry| entry.has_names_of(class));
+        UNTYPED_TAKEN && first.is_some_and(|entry| entry == class)
+    }
+
+    fn untyped_class(&mut self, id: i32, class: &Class<'a>) {
+        let names: Vec<&str> = class.members.iter().map(|(name, _)| *name).collect();
+        match class.library {
+            None => self.put(|stream| stream.untyped_system(id, class.name, &names)),
+            Some(name) => {
+                let library = self.library_id(name);
+                self.put(|stream| stream.untyped(id, class.name, &names, library));
             }
         }
     }
@@ -556,11 +593,14 @@ impl<'a> Packer<'_, 'a> {
     }
 }
 
+/// Bytes of a stream of a usual size.
+pub const USUAL_BYTES: usize = 140;
+
 /// A stream of a usual size that a right reader accepts.
 pub fn valid(random: &mut Random) -> Vec<u8> {
     loop {
         let stream = pack(&list(random), random);
-        if stream.len() <= 140 {
+        if stream.len() <= USUAL_BYTES {
             return stream;
         }
     }
@@ -580,7 +620,10 @@ pub fn damaged(stream: &[u8], random: &mut Random) -> Vec<u8> {
 fn damage(bytes: &mut Vec<u8>, random: &mut Random) {
     // The header takes few damages: most of them end in the same refusal.
     let start = if bytes.len() > 18 && random.chance(90) { 17 } else { 0 };
-    let at = start + random.below(bytes.len() - start);
+    damage_at(start + random.below(bytes.len() - start), bytes, random);
+}
+
+pub(crate) fn damage_at(at: usize, bytes: &mut Vec<u8>, random: &mut Random) {
     match random.below(8) {
         0 => bytes.truncate(at),
         1 => bytes[at] ^= 1 << random.below(8),

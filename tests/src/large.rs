@@ -47,7 +47,7 @@ fn case(what: &str, stream: Stream, words: usize, outcome: Outcome) -> Case {
     });
     let known = Some(Known { answer, rows: None, copy: None });
     let (what, stream, setting) = (format!("large: {what}"), stream.0, Setting::Strict);
-    Case { what, stream, words, room: None, setting, known, is_list: false }
+    Case { what, stream, book: Vec::new(), words, room: None, setting, known, is_list: false }
 }
 
 fn items(count: usize) -> Stream {
@@ -115,6 +115,7 @@ fn whole(list: &Case) -> Case {
     Case {
         what: format!("large: whole {}", list.what),
         stream: list.stream.clone(),
+        book: Vec::new(),
         words: list.stream.len() * ROW_WORDS,
         room: None,
         setting: Setting::Strict,

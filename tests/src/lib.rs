@@ -3,6 +3,8 @@
 //! with it; and a third, written for speed.
 
 pub mod asked;
+pub mod book;
+pub mod books;
 pub mod by_hand;
 pub mod cases;
 pub mod changes;
@@ -23,7 +25,7 @@ pub mod tidy;
 pub mod tidying;
 pub mod views;
 
-pub use reader::{read, row_answer, row_text, Refusal, Setting};
+pub use reader::{read, row_answer, row_text, Refusal, Setting, Terms};
 pub use same::same;
 pub use tidy::tidy;
 

@@ -4,7 +4,7 @@
 //! of the output and the outcome as in lists/expected.tsv, but `full` before a
 //! needed length and `unknown` where the copy was not noted. All are strict.
 
-use crate::cases::{from_hex, known, Case};
+use crate::cases::{from_hex, held, known, Case};
 use crate::reader::Setting;
 
 const NOTED: &str = include_str!("../outside.tsv");
@@ -22,13 +22,16 @@ fn case(number: usize, line: &str) -> Option<Case> {
     let [hex, words, room, outcome] = parts[..] else {
         return None;
     };
+    let stream = if hex == "-" { Vec::new() } else { from_hex(hex)? };
+    let known = held(known(outcome)?, &stream, Setting::Strict.into());
     Some(Case {
         what: format!("outside {number}"),
-        stream: if hex == "-" { Vec::new() } else { from_hex(hex)? },
+        stream,
+        book: Vec::new(),
         words: words.parse().ok()?,
         room: Some(room.parse().ok()?),
         setting: Setting::Strict,
-        known: Some(known(outcome)?),
+        known,
         is_list: false,
     })
 }
@@ -61,7 +64,8 @@ mod tests {
         let cases = cases().unwrap();
         assert_eq!(cases.len(), 657);
         let mut unknown = 0;
-        for (case, line) in cases.iter().zip(NOTED.lines()) {
+        for (case, line) in cases.iter().zip(NOTED.lines()).filter(|(case, _)| case.known.is_some())
+        {
             let (_, noted) = line.rsplit_once('\t').unwrap();
             let found = outcome(case);
             if let Some(reading) = noted.strip_suffix(" tidy unknown") {
@@ -75,7 +79,7 @@ mod tests {
     }
 
     /// What is written by hand is noted, with the same table and output, but for
-    /// the streams of the two settings.
+    /// the streams of the two settings and those with a class book.
     #[test]
     fn those_by_hand_are_among_them() {
         let noted: HashSet<(Vec<u8>, usize, usize)> = cases()
@@ -88,6 +92,7 @@ mod tests {
             |case: &&by_hand::Case| noted.contains(&(case.stream.clone(), case.words, case.out));
         let count = by_hand.iter().filter(there).count();
         assert_eq!((noted.len(), by_hand.len(), count), (657, 537, 537));
-        assert_eq!(by_hand::cases().len() - by_hand.len(), 1_104);
+        let with_books = by_hand::with_books().len();
+        assert_eq!(by_hand::cases().len() - by_hand.len() - with_books, 1_104);
     }
 }

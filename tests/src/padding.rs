@@ -28,11 +28,11 @@ pub fn at(stream: &[u8], place: usize) -> Option<(usize, usize)> {
     Some((number, last + 1))
 }
 
-/// The stream with a share of its prefixes, or all, in any number of bytes that
-/// they fit in.
-pub fn padded(stream: &[u8], random: &mut Random) -> Vec<u8> {
+/// The stream, which is read with this book, with a share of its prefixes, or
+/// all, in any number of bytes that they fit in.
+pub fn padded(stream: &[u8], book: &[u8], random: &mut Random) -> Vec<u8> {
     let share = random.pick(&[100, 100, 50, 15]);
-    rewritten(stream, &prefixes(stream), |prefix| match random.chance(share) {
+    rewritten(stream, &prefixes(stream, book), |prefix| match random.chance(share) {
         true => any_form(prefix.number, random),
         false => stream[prefix.place.clone()].to_vec(),
     })
@@ -40,8 +40,8 @@ pub fn padded(stream: &[u8], random: &mut Random) -> Vec<u8> {
 
 /// The stream with every prefix in so many bytes, or in the fewest more that it
 /// fits in.
-pub fn padded_to(stream: &[u8], bytes: usize) -> Vec<u8> {
-    rewritten(stream, &prefixes(stream), |prefix| {
+pub fn padded_to(stream: &[u8], book: &[u8], bytes: usize) -> Vec<u8> {
+    rewritten(stream, &prefixes(stream, book), |prefix| {
         let form = (bytes..=MOST_BYTES).find_map(|bytes| in_bytes(prefix.number, bytes));
         form.unwrap_or_else(|| stream[prefix.place.clone()].to_vec())
     })
@@ -49,9 +49,9 @@ pub fn padded_to(stream: &[u8], bytes: usize) -> Vec<u8> {
 
 /// A padded stream that ends badly: one prefix with a bad fifth byte, or the
 /// stream cut inside the padding of one. As it is where it has no prefix.
-pub fn badly_padded(stream: &[u8], random: &mut Random) -> Vec<u8> {
-    let stream = padded(stream, random);
-    let all = prefixes(&stream);
+pub fn badly_padded(stream: &[u8], book: &[u8], random: &mut Random) -> Vec<u8> {
+    let stream = padded(stream, book, random);
+    let all = prefixes(&stream, book);
     if all.is_empty() {
         return stream;
     }

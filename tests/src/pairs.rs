@@ -4,24 +4,31 @@
 use crate::cases::{rows_of, table_words, Case};
 use crate::generate::{self, Random};
 use crate::padding::padded;
-use crate::reader::{read_records, Refusal, Setting};
+use crate::reader::{read_records, Refusal, Setting, Terms};
 use crate::said;
 use crate::same::same;
 use crate::show::{byte_trace, littered, trace, MOST_WORDS};
 use crate::tidy::tidy;
-use crate::tidying::{copy_in, MOST_ROWS};
+use crate::tidying::{copy_in, packing, Packing, MOST_ROWS};
 
-/// Two streams with the setting of each, the sizes of the table and of the two
-/// outputs.
+/// Two streams with the class book and the setting of each, the sizes of the
+/// table and of the two outputs.
 pub struct Pair {
     pub what: String,
     pub streams: [Vec<u8>; 2],
+    pub books: [Vec<u8>; 2],
     pub settings: [Setting; 2],
     pub words: usize,
     pub rooms: [usize; 2],
     /// Both are packings of one list, so they say the same where both have
     /// copies.
     pub one_list: bool,
+}
+
+impl Pair {
+    pub fn terms(&self) -> [Terms<'_>; 2] {
+        [0, 1].map(|list| self.settings[list].with(&self.books[list]))
+    }
 }
 
 /// What the job hands out besides the table and the outputs.
@@ -52,13 +59,13 @@ pub fn found_pair(pair: &Pair) -> (Comparison, String) {
     let [a, b] = &pair.streams;
     let (mut table, mut first) = littered(pair.words, pair.rooms[0]);
     let (_, mut second) = littered(0, pair.rooms[1]);
-    let [of_a, of_b] = pair.settings;
+    let [of_a, of_b] = pair.terms();
     let answer = match tidy(a, &mut table, &mut first, of_a) {
         Err(refusal) => refused(1, &refusal),
         Ok(_) => match tidy(b, &mut table, &mut second, of_b) {
             Err(refusal) => refused(2, &refusal),
             Ok(_) => {
-                let same = u64::from(same([a, b], pair.settings));
+                let same = u64::from(same([a, b], pair.terms()));
                 Comparison { number: 0, same, list: 0, place: 0, needed: 0 }
             }
         },
@@ -80,6 +87,7 @@ const TRIES: usize = 12;
 
 struct Maker<'c> {
     random: Random,
+    books: bool,
     cases: &'c [Case],
     /// Numbers of those that are accepted leniently with the largest table, and
     /// of the others.
@@ -89,67 +97,75 @@ struct Maker<'c> {
 
 /// So many pairs of the cases, made from the seed; none where no case is
 /// accepted or none refused. Accepted ones have their turn in order, each once
-/// or more where there are no more of them than pairs.
-pub fn pairs(seed: u64, count: usize, cases: &[Case]) -> Vec<Pair> {
-    let accepted = |at: &usize| is_whole(&cases[*at].stream, Setting::Lenient);
+/// or more where there are no more of them than pairs. With `books` most of the
+/// other packings leave types to a class book.
+pub fn pairs(seed: u64, count: usize, cases: &[Case], books: bool) -> Vec<Pair> {
+    let accepted = |at: &usize| is_whole(&cases[*at].stream, cases[*at].terms(Setting::Lenient));
     let (whole, broken): (Vec<usize>, Vec<usize>) = (0..cases.len()).partition(accepted);
     if whole.is_empty() || broken.is_empty() {
         return Vec::new();
     }
     let turns = whole.len();
-    let mut maker = Maker { random: Random::new(seed), cases, whole, broken };
+    let mut maker = Maker { random: Random::new(seed), books, cases, whole, broken };
     (0..count).map(|number| maker.pair(number * turns / count)).collect()
 }
 
-fn is_whole(stream: &[u8], setting: Setting) -> bool {
-    read_records(stream, MOST_ROWS, setting).is_ok()
+fn is_whole(stream: &[u8], terms: Terms) -> bool {
+    read_records(stream, MOST_ROWS, terms).is_ok()
 }
 
 impl Maker<'_> {
     /// An accepted stream and another, either of them first.
     fn pair(&mut self, turn: usize) -> Pair {
         let case = &self.cases[self.whole[turn]];
+        let own = || (case.stream.clone(), case.book.clone());
         let kind = self.random.below(12);
         let (how, other) = match kind {
-            0..=2 => ("another packing", repacked(&case.stream, &mut self.random)),
-            3 => ("itself padded", padded(&case.stream, &mut self.random)),
+            0..=2 => ("another packing", repacked(case, self.books, &mut self.random)),
+            3 => ("itself padded", padded_packing(own(), &mut self.random)),
             4 => {
-                let packed = repacked(&case.stream, &mut self.random);
-                ("another packing, padded", padded(&packed, &mut self.random))
+                let packed = repacked(case, self.books, &mut self.random);
+                ("another packing, padded", padded_packing(packed, &mut self.random))
             }
-            5..=8 => ("a change of it", changed(&case.stream, &mut self.random)),
+            5..=8 => ("a change of it", changed(case, &mut self.random)),
             9 => {
                 let next = self.whole[(turn + 1) % self.whole.len()];
-                ("its neighbour", self.cases[next].stream.clone())
+                ("its neighbour", self.packing_of(next))
             }
             _ => {
                 let broken = self.random.pick(&self.broken);
-                ("a refused one", self.cases[broken].stream.clone())
+                ("a refused one", self.packing_of(broken))
             }
         };
         let what = format!("{} and {how}", case.what);
-        let mut streams = [case.stream.clone(), other];
+        let mut packings = [own(), other];
         if self.random.chance(50) {
-            streams.reverse();
+            packings.reverse();
         }
-        self.sized(what, streams, kind <= 4)
+        self.sized(what, packings, kind <= 4)
+    }
+
+    fn packing_of(&self, case: usize) -> Packing {
+        (self.cases[case].stream.clone(), self.cases[case].book.clone())
     }
 
     /// The table has a size for either or both.
-    fn sized(&mut self, what: String, streams: [Vec<u8>; 2], one_list: bool) -> Pair {
-        let rows = [rows_of(&streams[0]), rows_of(&streams[1])];
+    fn sized(&mut self, what: String, packings: [Packing; 2], one_list: bool) -> Pair {
+        let [a, b] = &packings;
+        let rows = [rows_of(&a.0, &a.1), rows_of(&b.0, &b.1)];
         let most = rows[0].max(rows[1]);
         let rows = self.random.pick(&[most, most, most, rows[0], rows[1]]);
         let words = table_words(rows, &mut self.random);
-        let rooms = [self.room(&streams[0]), self.room(&streams[1])];
-        let settings = [self.setting(&streams[0]), self.setting(&streams[1])];
+        let rooms = [self.room(a), self.room(b)];
+        let settings = [self.setting(a), self.setting(b)];
         let what = format!("{what}, {settings:?}");
-        Pair { what, streams, settings, words, rooms, one_list }
+        let [(a, book_a), (b, book_b)] = packings;
+        Pair { what, streams: [a, b], books: [book_a, book_b], settings, words, rooms, one_list }
     }
 
     /// Either, but mostly the lenient one for a stream that it alone accepts.
-    fn setting(&mut self, stream: &[u8]) -> Setting {
-        let strict = if is_whole(stream, Setting::Strict) { 50 } else { 15 };
+    fn setting(&mut self, (stream, book): &Packing) -> Setting {
+        let strict = if is_whole(stream, Setting::Strict.with(book)) { 50 } else { 15 };
         match self.random.chance(strict) {
             true => Setting::Strict,
             false => Setting::Lenient,
@@ -158,8 +174,8 @@ impl Maker<'_> {
 
     /// Mostly as large as the copy or larger; else one byte too small, or
     /// empty.
-    fn room(&mut self, stream: &[u8]) -> usize {
-        let copy = copy_in(stream, MOST_WORDS, Setting::Lenient);
+    fn room(&mut self, (stream, book): &Packing) -> usize {
+        let copy = copy_in(stream, MOST_WORDS, Setting::Lenient.with(book));
         let length = copy.map_or(stream.len() % 64, |copy| copy.len());
         match self.random.below(16) {
             0 => 0,
@@ -171,28 +187,32 @@ impl Maker<'_> {
 }
 
 /// A stream that says the same, itself where it has too many nulls.
-fn repacked(stream: &[u8], random: &mut Random) -> Vec<u8> {
-    let reading = read_records(stream, MOST_ROWS, Setting::Lenient);
+fn repacked(case: &Case, books: bool, random: &mut Random) -> Packing {
+    let reading = read_records(&case.stream, MOST_ROWS, case.terms(Setting::Lenient));
     let reading = reading.expect("a whole list is accepted");
     let runs = reading.records.iter().filter(|record| record.row.is_null_run());
     let nulls: u64 = runs.map(|record| u64::from(record.row.count)).sum();
     if nulls > MOST_NULLS {
-        return stream.to_vec();
+        return (case.stream.clone(), case.book.clone());
     }
-    generate::pack(&said::list(&reading), random)
+    packing(&said::list(&reading), books, random)
+}
+
+fn padded_packing((stream, book): Packing, random: &mut Random) -> Packing {
+    (padded(&stream, &book, random), book)
 }
 
 /// The list with a small change, mostly accepted, which may say something else
 /// or not.
-fn changed(stream: &[u8], random: &mut Random) -> Vec<u8> {
-    let mut other = generate::damaged(stream, random);
+fn changed(case: &Case, random: &mut Random) -> Packing {
+    let mut other = generate::damaged(&case.stream, random);
     for _ in 1..TRIES {
-        if is_whole(&other, Setting::Lenient) {
+        if is_whole(&other, case.terms(Setting::Lenient)) {
             break;
         }
-        other = generate::damaged(stream, random);
+        other = generate::damaged(&case.stream, random);
     }
-    other
+    (other, case.book.clone())
 }
 
 #[cfg(test)]
@@ -208,7 +228,7 @@ mod tests {
 
     fn all() -> Vec<(Pair, Comparison)> {
         let with_answer = |pair| (found_pair(&pair).0, pair);
-        let made = pairs(7, 2_000, &generated(7, 4_000, &[])).into_iter();
+        let made = pairs(7, 2_000, &generated(7, 4_000, &[], true), true).into_iter();
         made.map(with_answer).map(|(answer, pair)| (pair, answer)).collect()
     }
 
@@ -233,8 +253,9 @@ mod tests {
             let of = |pair: &Pair| pair.settings == settings;
             assert!(with(&all, |pair, answer| of(pair) && answer.same == 1) > 30, "{settings:?}");
             let padded = |pair: &Pair, list: usize| {
-                !is_whole(&pair.streams[list], Setting::Strict)
-                    && is_whole(&pair.streams[list], settings[list])
+                let (stream, book) = (&pair.streams[list], &pair.books[list]);
+                !is_whole(stream, Setting::Strict.with(book))
+                    && is_whole(stream, settings[list].with(book))
             };
             let padded =
                 |list| with(&all, |pair, a| of(pair) && a.number == 0 && padded(pair, list));
@@ -261,12 +282,16 @@ mod tests {
     #[test]
     fn tables_and_outputs_have_all_the_odd_sizes() {
         let all = all();
-        let most = |pair: &Pair| pair.streams.iter().map(|one| rows_of(one)).max();
+        let rows = |pair: &Pair, list: usize| rows_of(&pair.streams[list], &pair.books[list]);
+        let most = |pair: &Pair| rows(pair, 0).max(rows(pair, 1));
         assert!(with(&all, |pair, _| pair.words == 0) > 10);
         assert!(with(&all, |pair, _| pair.words % ROW_WORDS > 0) > 50);
-        assert!(with(&all, |pair, _| most(pair) == Some(pair.words / ROW_WORDS)) > 50);
+        assert!(with(&all, |pair, _| most(pair) == pair.words / ROW_WORDS) > 50);
         for list in [0, 1] {
-            let copy = |pair: &Pair| copy_in(&pair.streams[list], MOST_WORDS, Setting::Lenient);
+            let copy = |pair: &Pair| {
+                let terms = Setting::Lenient.with(&pair.books[list]);
+                copy_in(&pair.streams[list], MOST_WORDS, terms)
+            };
             let length = |pair: &Pair| copy(pair).map(|copy| copy.len());
             assert!(with(&all, |pair, _| pair.rooms[list] == 0) > 20);
             assert!(with(&all, |pair, _| length(pair) == Some(pair.rooms[list])) > 100);

@@ -1,5 +1,6 @@
 //! Reads a stream into a table of rows.
 
+use crate::book::Book;
 use std::collections::HashMap;
 use std::ops::Range;
 
@@ -8,8 +9,14 @@ pub const OPEN_LIMIT: usize = 64;
 pub const SLOT_LIMIT: u64 = 2_147_483_647;
 pub const ROW_WORDS: usize = 8;
 
+/// Whether kinds 2 and 3 are taken. Where not they give 4, and a class book is
+/// judged all the same.
+pub const UNTYPED_TAKEN: bool = false;
+
 pub const HEADER: u8 = 0;
 pub const CLASS_BY_ID: u8 = 1;
+pub const UNTYPED_SYSTEM_CLASS: u8 = 2;
+pub const UNTYPED_CLASS: u8 = 3;
 pub const SYSTEM_CLASS: u8 = 4;
 pub const CLASS: u8 = 5;
 pub const STRING: u8 = 6;
@@ -48,6 +55,26 @@ impl Setting {
     pub fn is_lenient(self) -> bool {
         self == Setting::Lenient
     }
+
+    /// With this class book.
+    pub fn with(self, book: &[u8]) -> Terms<'_> {
+        Terms { setting: self, book }
+    }
+}
+
+/// What a reading is given besides the stream and the table. A setting alone
+/// stands for itself with a book that has no entries.
+#[derive(Clone, Copy, PartialEq, Eq, Debug)]
+pub struct Terms<'b> {
+    pub setting: Setting,
+    /// The class book, which is strict under either setting.
+    pub book: &'b [u8],
+}
+
+impl From<Setting> for Terms<'_> {
+    fn from(setting: Setting) -> Self {
+        setting.with(&[])
+    }
 }
 
 #[derive(Clone, Copy, PartialEq, Eq, Debug)]
@@ -73,6 +100,8 @@ pub enum Reply {
     NoObject = 19,
     OutFull = 20,
     NoSuchRow = 21,
+    BadBook = 22,
+    NotInBook = 23,
 }
 
 /// `needed` is the needed length of reply 20 and 0 with all others.
@@ -94,7 +123,7 @@ impl Refusal {
 }
 
 /// What a field gives; its place is that of the record around it.
-type Field<T> = Result<T, Reply>;
+pub(crate) type Field<T> = Result<T, Reply>;
 
 /// The type of a member or item with its own detail. A library stands by name,
 /// because only the name is ever compared.
@@ -172,6 +201,8 @@ impl Row {
         matches!(
             self.kind,
             CLASS_BY_ID
+                | UNTYPED_SYSTEM_CLASS
+                | UNTYPED_CLASS
                 | SYSTEM_CLASS
                 | CLASS
                 | STRING
@@ -207,16 +238,16 @@ pub struct Prefix {
     pub number: usize,
 }
 
-struct Cursor<'a> {
+pub(crate) struct Cursor<'a> {
     stream: &'a [u8],
-    at: usize,
+    pub(crate) at: usize,
     setting: Setting,
     /// Those that were passed.
     prefixes: Vec<Prefix>,
 }
 
 impl<'a> Cursor<'a> {
-    fn new(stream: &'a [u8], at: usize, setting: Setting) -> Cursor<'a> {
+    pub(crate) fn new(stream: &'a [u8], at: usize, setting: Setting) -> Cursor<'a> {
         Cursor { stream, at, setting, prefixes: Vec::new() }
     }
 
@@ -227,7 +258,7 @@ impl<'a> Cursor<'a> {
         Ok(taken)
     }
 
-    fn byte(&mut self) -> Field<u8> {
+    pub(crate) fn byte(&mut self) -> Field<u8> {
         Ok(self.bytes(1)?[0])
     }
 
@@ -299,7 +330,7 @@ impl<'a> Cursor<'a> {
         self.bytes(length)
     }
 
-    fn text(&mut self) -> Field<&'a [u8]> {
+    pub(crate) fn text(&mut self) -> Field<&'a [u8]> {
         let text = self.prefixed()?;
         if std::str::from_utf8(text).is_ok() {
             Ok(text)
@@ -308,7 +339,7 @@ impl<'a> Cursor<'a> {
         }
     }
 
-    fn primitive_code(&mut self) -> Field<u8> {
+    pub(crate) fn primitive_code(&mut self) -> Field<u8> {
         match self.byte()? {
             code @ (1..=3 | 5..=16) => Ok(code),
             _ => Err(Reply::BadType),
@@ -461,9 +492,9 @@ impl Expected {
     fn takes(self, kind: u8) -> bool {
         match self {
             Expected::Start => kind == HEADER,
-            Expected::TopLevel => matches!(kind, 1 | 4 | 5 | 6 | 7 | 11 | 12 | 15 | 16 | 17),
+            Expected::TopLevel => matches!(kind, 1..=7 | 11 | 12 | 15..=17),
             Expected::StringSlot => matches!(kind, 6 | 9 | 10 | 12 | 13 | 14),
-            Expected::ObjectSlot => matches!(kind, 1 | 4 | 5 | 6 | 8 | 9 | 10 | 12 | 13 | 14),
+            Expected::ObjectSlot => matches!(kind, 1..=6 | 8..=10 | 12..=14),
             Expected::ArraySlot => matches!(kind, 9 | 10 | 12 | 13 | 14),
             Expected::MemberValue(_) => false,
         }
@@ -515,8 +546,9 @@ impl<'a> Found<'a> {
     }
 }
 
-struct Reader<'a> {
+struct Reader<'a, 'b> {
     cursor: Cursor<'a>,
+    book: Book<'b>,
     rows: usize,
     records: Vec<Record<'a>>,
     classes: Vec<Class<'a>>,
@@ -529,27 +561,37 @@ struct Reader<'a> {
 }
 
 /// Reads with room for `rows` rows.
-pub fn read_records(stream: &[u8], rows: usize, setting: Setting) -> Result<Reading<'_>, Refusal> {
+pub fn read_records<'a, 'b>(
+    stream: &'a [u8],
+    rows: usize,
+    terms: impl Into<Terms<'b>>,
+) -> Result<Reading<'a>, Refusal> {
     if stream.len() > STREAM_LIMIT {
         return Err(Refusal::at(Reply::TooLarge, 0));
     }
-    let mut reader = Reader::new(stream, rows, setting);
+    let mut reader = Reader::new(stream, rows, terms.into())?;
     reader.stream()?;
     Ok(Reading { records: reader.records, classes: reader.classes })
 }
 
-/// The prefixes that a lenient reading passes, up to a refusal.
-pub fn prefixes(stream: &[u8]) -> Vec<Prefix> {
-    let mut reader = Reader::new(stream, usize::MAX, Setting::Lenient);
+/// The prefixes that a lenient reading with this book passes, up to a refusal.
+pub fn prefixes(stream: &[u8], book: &[u8]) -> Vec<Prefix> {
+    let Ok(mut reader) = Reader::new(stream, usize::MAX, Setting::Lenient.with(book)) else {
+        return Vec::new();
+    };
     // What was passed counts, whatever comes of the reading.
     let _ = reader.stream();
     reader.cursor.prefixes
 }
 
 /// Fills the table with the rows of the stream and answers their number.
-pub fn read(stream: &[u8], table: &mut [u32], setting: Setting) -> Result<usize, Refusal> {
+pub fn read<'b>(
+    stream: &[u8],
+    table: &mut [u32],
+    terms: impl Into<Terms<'b>>,
+) -> Result<usize, Refusal> {
     table.fill(0);
-    let reading = read_records(stream, table.len() / ROW_WORDS, setting)?;
+    let reading = read_records(stream, table.len() / ROW_WORDS, terms)?;
     fill(table, &reading);
     Ok(reading.records.len())
 }
@@ -591,10 +633,12 @@ pub fn row_answer(stream: &[u8], table: &[u32], row: usize, setting: Setting) ->
     }
 }
 
-impl<'a> Reader<'a> {
-    fn new(stream: &'a [u8], rows: usize, setting: Setting) -> Reader<'a> {
-        Reader {
-            cursor: Cursor::new(stream, 0, setting),
+impl<'a, 'b> Reader<'a, 'b> {
+    /// The book is judged before the stream is read.
+    fn new(stream: &'a [u8], rows: usize, terms: Terms<'b>) -> Result<Reader<'a, 'b>, Refusal> {
+        Ok(Reader {
+            cursor: Cursor::new(stream, 0, terms.setting),
+            book: Book::judged(terms.book)?,
             rows,
             records: Vec::new(),
             classes: Vec::new(),
@@ -602,7 +646,7 @@ impl<'a> Reader<'a> {
             objects: HashMap::new(),
             libraries: HashMap::new(),
             open: Vec::new(),
-        }
+        })
     }
 
     fn stream(&mut self) -> Result<(), Refusal> {
@@ -663,7 +707,8 @@ impl<'a> Reader<'a> {
     fn kind(&mut self, expected: Expected) -> Field<u8> {
         match self.cursor.byte()? {
             18..=20 | 23..=255 => Err(Reply::UnknownKind),
-            2 | 3 | 21 | 22 => Err(Reply::NotTaken),
+            21 | 22 => Err(Reply::NotTaken),
+            UNTYPED_SYSTEM_CLASS | UNTYPED_CLASS if !UNTYPED_TAKEN => Err(Reply::NotTaken),
             kind if expected.takes(kind) => Ok(kind),
             _ => Err(Reply::WrongPlace),
         }
@@ -673,6 +718,7 @@ impl<'a> Reader<'a> {
         match kind {
             HEADER => self.header(),
             CLASS_BY_ID => self.class_by_id(),
+            UNTYPED_SYSTEM_CLASS | UNTYPED_CLASS => self.untyped_class(kind),
             SYSTEM_CLASS | CLASS => self.class(kind),
             STRING => self.string(),
             BINARY_ARRAY => self.binary_array(),
@@ -793,21 +839,37 @@ impl<'a> Reader<'a> {
         let name = self.cursor.text()?;
         let members = self.members()?;
         let library = if kind == CLASS { Some(self.library_named()?) } else { None };
-        let class = Class { name, library, members };
+        Ok(self.object_of_new_class(id, Class { name, library, members }))
+    }
+
+    /// The fields leave the types out; after them the book is asked.
+    fn untyped_class(&mut self, kind: u8) -> Field<Found<'a>> {
+        let id = self.class_object_id()?;
+        let name = self.cursor.text()?;
+        let names = self.member_names()?;
+        let library = if kind == UNTYPED_CLASS { Some(self.library_named()?) } else { None };
+        let types = self.book.types(name, library, &names).ok_or(Reply::NotInBook)?;
+        let members = names.into_iter().zip(types).collect();
+        Ok(self.object_of_new_class(id, Class { name, library, members }))
+    }
+
+    fn object_of_new_class(&mut self, id: i32, class: Class<'a>) -> Found<'a> {
         self.run_rooms.push(run_room(&class));
         self.classes.push(class);
-        Ok(self.object_of_class(id, self.classes.len() - 1, 0))
+        self.object_of_class(id, self.classes.len() - 1, 0)
+    }
+
+    /// Their count stands before them.
+    fn member_names(&mut self) -> Field<Vec<&'a [u8]>> {
+        let count = self.cursor.count()?;
+        (0..count).map(|_| self.cursor.text()).collect()
     }
 
     /// All names, then all type bytes, then the infos.
     fn members(&mut self) -> Field<Vec<(&'a [u8], SlotType<'a>)>> {
-        let count = self.cursor.count()?;
-        let mut names = Vec::new();
-        for _ in 0..count {
-            names.push(self.cursor.text()?);
-        }
+        let names = self.member_names()?;
         let mut type_bytes = Vec::new();
-        for _ in 0..count {
+        for _ in 0..names.len() {
             type_bytes.push(self.cursor.type_byte()?);
         }
         let mut members = Vec::new();

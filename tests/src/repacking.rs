@@ -1,10 +1,13 @@
 //! One list packed in many ways has one tidy copy, and lists that say
 //! different things have different ones.
 
-use crate::generate::{damaged, list, pack, valid, List, Random};
+use crate::books;
+use crate::generate::{damaged, list, pack, pack_with, valid, List, Random};
 use crate::padding::{badly_padded, padded, padded_to};
 use crate::reader::Setting::{self, Lenient, Strict};
-use crate::reader::{prefixes, read, read_records, Detail, Items, Prefix, Record, SlotType};
+use crate::reader::{
+    prefixes, read, read_records, Detail, Items, Prefix, Record, SlotType, UNTYPED_TAKEN,
+};
 use crate::said;
 use crate::same::same;
 use crate::tidy::{copy_of, tidy};
@@ -30,12 +33,64 @@ fn packings_say_the_same() {
                 assert!(same([&streams[0], stream], [Strict, setting]));
                 assert!(same([&first, stream], [Lenient, setting]));
             }
-            let padded = padded(stream, &mut random);
+            let padded = padded(stream, &[], &mut random);
             assert_eq!(copy(&padded, Lenient).as_ref(), Some(&first), "{list:?}");
             assert!(same([&first, &padded], [Strict, Lenient]));
             assert!(same([&padded, &streams[0]], [Lenient, Strict]));
         }
     }
+}
+
+/// Packings with a class book, each with its own, have the copy of the others,
+/// and the copy is read without a book.
+#[test]
+fn packings_with_books_say_the_same() {
+    let mut random = Random::new(22);
+    let mut untyped = 0;
+    for _ in 0..4000 {
+        let list = list(&mut random);
+        let plain = pack(&list, &mut random);
+        let first = copy(&plain, Strict).expect("a packed list is accepted");
+        let entries = books::made_for(&list, &mut random);
+        let book = books::bytes(&entries);
+        let stream = pack_with(&entries, &list, &mut random);
+        let padded = padded(&stream, &book, &mut random);
+        untyped += usize::from(copy(&stream, Strict).is_none());
+        for (stream, setting) in [(&stream, Strict), (&stream, Lenient), (&padded, Lenient)] {
+            let reading = read_records(stream, usize::MAX, setting.with(&book)).expect("accepted");
+            assert_eq!(copy_of(&reading), first, "{list:?}");
+            assert!(same([stream, &plain], [setting.with(&book), Strict.into()]));
+            assert!(same([&first, stream], [Lenient.into(), setting.with(&book)]));
+        }
+    }
+    assert!(untyped > 1000 || !UNTYPED_TAKEN, "{untyped}");
+}
+
+/// Of streams with a damaged book that are accepted still, some say something
+/// else than before; their copies are equal exactly where they say the same.
+#[test]
+fn same_exactly_where_copies_are_equal_with_damaged_books() {
+    let mut random = Random::new(23);
+    let (mut alike, mut different, mut refused) = (0, 0, 0);
+    for _ in 0..20_000 {
+        let list = list(&mut random);
+        let entries = books::made_for(&list, &mut random);
+        let stream = pack_with(&entries, &list, &mut random);
+        let all = [books::bytes(&entries), books::damaged(&entries, &mut random)];
+        let terms = [Strict.with(&all[0]), Strict.with(&all[1])];
+        let copies = terms.map(|terms| read_records(&stream, usize::MAX, terms));
+        let [one, Ok(other)] = copies else {
+            refused += 1;
+            assert!(!same([&stream; 2], terms));
+            continue;
+        };
+        let is_same = copy_of(&one.expect("accepted")) == copy_of(&other);
+        assert_eq!(same([&stream; 2], terms), is_same);
+        alike += usize::from(is_same);
+        different += usize::from(!is_same);
+    }
+    assert!(alike > 100 && refused > 1000, "{alike} {refused}");
+    assert!(different > 10 || !UNTYPED_TAKEN, "{different}");
 }
 
 /// Padding changes no word of a row but offset and end, and what is said not at
@@ -47,7 +102,7 @@ fn padded_streams_say_the_same() {
     for _ in 0..4000 {
         let whole = valid(&mut random);
         let bytes = 2 + random.below(4);
-        let stream = padded_to(&whole, bytes);
+        let stream = padded_to(&whole, &[], bytes);
         let reading = read_records(&whole, usize::MAX, Strict).unwrap();
         let padded = read_records(&stream, usize::MAX, Lenient).expect("padding is taken");
         assert_eq!(said::list(&reading), said::list(&padded));
@@ -57,7 +112,7 @@ fn padded_streams_say_the_same() {
             assert_eq!((a, b), (c, d));
         }
         let longer = stream.len() - whole.len();
-        assert_eq!(longer, prefixes(&whole).len() * (bytes - 1), "{whole:02X?}");
+        assert_eq!(longer, prefixes(&whole, &[]).len() * (bytes - 1), "{whole:02X?}");
         let strict = read_records(&stream, usize::MAX, Strict);
         assert_eq!(strict.err().map(|refusal| refusal.number), (longer > 0).then_some(7));
         seen[bytes] += usize::from(longer > 0);
@@ -70,7 +125,7 @@ fn padded_streams_say_the_same() {
 fn the_padded_sample_says_what_the_sample_says() {
     let sample = include_bytes!("../../samples/jaw.nrbf");
     let other = include_bytes!("../../samples/jaw-padded.nrbf");
-    assert_eq!(padded_to(sample, 2), other);
+    assert_eq!(padded_to(sample, &[], 2), other);
     assert!(same([sample, other], [Strict, Lenient]));
     assert!(!same([sample, other], [Lenient, Strict]));
 }
@@ -81,14 +136,14 @@ fn padding_leaves_nothing_out() {
     let mut random = Random::new(21);
     let mut found = std::collections::HashSet::new();
     for _ in 0..6000 {
-        let stream = padded(&valid(&mut random), &mut random);
+        let stream = padded(&valid(&mut random), &[], &mut random);
         let reading = read_records(&stream, usize::MAX, Lenient).unwrap();
         for Record { row, detail } in &reading.records {
             let of_decimals =
                 matches!(detail, Detail::Array(array) if matches!(array.items, Items::Decimals(_)));
             let own = row.offset as usize..row.end as usize;
             let inside = |prefix: &&Prefix| own.contains(&prefix.place.start);
-            for prefix in prefixes(&stream).iter().filter(inside) {
+            for prefix in prefixes(&stream, &[]).iter().filter(inside) {
                 found.insert((row.kind, of_decimals, prefix.place.len()));
             }
         }
@@ -108,7 +163,7 @@ fn padding_leaves_nothing_out() {
 fn copies_of_padded_streams_are_strict() {
     let mut random = Random::new(19);
     for _ in 0..4000 {
-        let stream = padded(&valid(&mut random), &mut random);
+        let stream = padded(&valid(&mut random), &[], &mut random);
         let first = copy(&stream, Lenient).expect("padding is taken");
         let [strict, lenient] = Setting::BOTH.map(|setting| {
             let mut table = vec![0; 8 * first.len()];
@@ -126,8 +181,8 @@ fn badly_padded_streams_are_refused() {
     let mut random = Random::new(20);
     let mut seen = [0; 20];
     for _ in 0..4000 {
-        let stream = badly_padded(&valid(&mut random), &mut random);
-        if prefixes(&stream).is_empty() && copy(&stream, Lenient).is_some() {
+        let stream = badly_padded(&valid(&mut random), &[], &mut random);
+        if prefixes(&stream, &[]).is_empty() && copy(&stream, Lenient).is_some() {
             continue;
         }
         let refusal = read_records(&stream, usize::MAX, Lenient).expect_err("bad padding");
@@ -152,7 +207,7 @@ fn tidying_twice_is_tidying_once() {
 fn the_copy_fits_the_table() {
     let mut random = Random::new(13);
     for _ in 0..4000 {
-        let stream = padded(&valid(&mut random), &mut random);
+        let stream = padded(&valid(&mut random), &[], &mut random);
         let rows = read_records(&stream, usize::MAX, Lenient).unwrap().records.len();
         let mut table = vec![0; rows * 8];
         let mut out = vec![0; 4096];
@@ -173,7 +228,8 @@ fn same_exactly_where_copies_are_equal() {
         let (mut alike, mut different) = (0, 0);
         for _ in 0..30_000 {
             let whole = valid(&mut random);
-            let whole = if settings[0].is_lenient() { padded(&whole, &mut random) } else { whole };
+            let whole =
+                if settings[0].is_lenient() { padded(&whole, &[], &mut random) } else { whole };
             let other = damaged(&whole, &mut random);
             let Some(other_copy) = copy(&other, settings[1]) else {
                 assert!(!same([&whole, &other], settings));
@@ -213,7 +269,7 @@ fn damaged_streams_are_answered() {
     let mut random = Random::new(16);
     for _ in 0..60_000 {
         let whole = valid(&mut random);
-        let whole = if random.chance(50) { padded(&whole, &mut random) } else { whole };
+        let whole = if random.chance(50) { padded(&whole, &[], &mut random) } else { whole };
         let stream = damaged(&whole, &mut random);
         for setting in Setting::BOTH {
             if let Ok(reading) = read_records(&stream, usize::MAX, setting) {

@@ -6,7 +6,7 @@ use crate::tidying::Demand;
 use std::fmt::Display;
 
 /// Replies by number, 0 for a stream that was read or a copy that was written.
-pub const REPLIES: [&str; 21] = [
+pub const REPLIES: [&str; 24] = [
     "accepted, written",
     "TOO LARGE",
     "CUT SHORT",
@@ -28,6 +28,9 @@ pub const REPLIES: [&str; 21] = [
     "NO ROOT",
     "NO OBJECT",
     "OUT FULL",
+    "NO SUCH ROW",
+    "BAD BOOK",
+    "NOT IN BOOK",
 ];
 
 /// More differences than these say nothing new.
@@ -142,7 +145,8 @@ impl Report {
         println!("{:>22}{:>20}{:>20}", "", "read", "tidied");
         let settings = ["strict", "lenient"];
         print_counts("", "reply", settings, settings);
-        for (number, name) in REPLIES.iter().enumerate() {
+        let of_views = Reply::NoSuchRow as usize;
+        for (number, name) in REPLIES.iter().enumerate().filter(|(number, _)| *number != of_views) {
             let number_shown = number.to_string();
             print_counts(&number_shown, name, self.read.0[number], self.tidied.0[number]);
         }

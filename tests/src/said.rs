@@ -38,7 +38,7 @@ impl<'a> Teller<'_, 'a> {
         match &record.detail {
             Detail::Text(text) => Object::String(name(text)),
             Detail::Class(class) => {
-                Object::OfClass(of_class(&self.reading.classes[*class]), self.fillings(row))
+                Object::OfClass(self::class(&self.reading.classes[*class]), self.fillings(row))
             }
             Detail::Array(array) => {
                 let mut fillings = self.fillings(row);
@@ -92,7 +92,8 @@ fn name(text: &[u8]) -> &str {
     from_utf8(text).expect("text is UTF-8")
 }
 
-fn of_class<'a>(class: &reader::Class<'a>) -> Class<'a> {
+/// The class as a packed list has it.
+pub fn class<'a>(class: &reader::Class<'a>) -> Class<'a> {
     let members = class.members.iter();
     Class {
         name: name(class.name),

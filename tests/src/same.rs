@@ -1,7 +1,7 @@
 //! Whether two lists say the same, taken straight from the rule and not by way
 //! of tidy copies, so that the two can be held against each other.
 
-use crate::reader::{self, Detail, Reading, Record, Setting};
+use crate::reader::{self, Detail, Reading, Record, Terms};
 
 /// One list as the rule looks at it.
 struct Said<'r, 'a> {
@@ -14,9 +14,11 @@ struct Said<'r, 'a> {
 }
 
 /// False also where a stream is refused: a refused stream says nothing. Each is
-/// read under its own setting.
-pub fn same(streams: [&[u8]; 2], settings: [Setting; 2]) -> bool {
-    let [a, b] = [0, 1].map(|list| read_whole(streams[list], settings[list]));
+/// read under its own setting and with its own book.
+pub fn same<'b>(streams: [&[u8]; 2], terms: [impl Into<Terms<'b>>; 2]) -> bool {
+    let [of_a, of_b] = terms.map(Into::into);
+    let [a, b] =
+        [(streams[0], of_a), (streams[1], of_b)].map(|(stream, of)| read_whole(stream, of));
     let (Some(a), Some(b)) = (a, b) else {
         return false;
     };
@@ -36,8 +38,8 @@ pub fn same(streams: [&[u8]; 2], settings: [Setting; 2]) -> bool {
     }
 }
 
-fn read_whole(stream: &[u8], setting: Setting) -> Option<Reading<'_>> {
-    reader::read_records(stream, usize::MAX, setting).ok()
+fn read_whole<'a>(stream: &'a [u8], terms: Terms) -> Option<Reading<'a>> {
+    reader::read_records(stream, usize::MAX, terms).ok()
 }
 
 /// Compares the records that are next and passes what agrees.
@@ -77,7 +79,7 @@ fn agree_in_detail(a: &Said, one: &Record, b: &Said, other: &Record) -> bool {
 
 fn kind_alike(record: &Record) -> u8 {
     match record.row.kind {
-        reader::CLASS_BY_ID | reader::SYSTEM_CLASS | reader::CLASS => reader::CLASS,
+        reader::CLASS_BY_ID..=reader::CLASS => reader::CLASS,
         kind => kind,
     }
 }

@@ -3,11 +3,12 @@
 
 use crate::corpus::refused;
 use crate::fast;
-use crate::reader::{read, Refusal, Reply, Setting};
+use crate::reader::{read, Refusal, Reply, Setting, Terms};
 use crate::tidy::tidy;
 
 /// What the comparing programs have space for.
 pub const MOST_BYTES: usize = 600_000;
+pub const MOST_BOOK: usize = 65_536;
 pub const MOST_WORDS: usize = 8_192;
 pub const MOST_ROOM: usize = 1_000_000;
 pub const MOST_STREAMS: usize = 1_000_000;
@@ -28,6 +29,13 @@ pub fn send(stream: &[u8], others: &[usize], sent: &mut Vec<u8>) {
         sent.extend_from_slice(&(size as u32).to_le_bytes());
     }
     sent.extend_from_slice(stream);
+}
+
+/// The same with the length of a class book as a last size, and the book's bytes
+/// behind the stream's.
+pub fn send_with_book(stream: &[u8], others: &[usize], book: &[u8], sent: &mut Vec<u8>) {
+    send(stream, &[others, &[book.len()]].concat(), sent);
+    sent.extend_from_slice(book);
 }
 
 /// The words of a table that is lent as it stands.
@@ -51,16 +59,18 @@ pub fn littered(words: usize, room: usize) -> (Vec<u32>, Vec<u8>) {
     (vec![LITTER_WORD; words], vec![LITTER_BYTE; room])
 }
 
-type Read = fn(&[u8], &mut [u32], Setting) -> Result<usize, Refusal>;
-type Tidy = fn(&[u8], &mut [u32], &mut [u8], Setting) -> Result<usize, Refusal>;
-
-pub fn found(stream: &[u8], words: usize, setting: Setting) -> Found {
-    found_by(read, stream, words, setting)
+pub fn found<'b>(stream: &[u8], words: usize, terms: impl Into<Terms<'b>>) -> Found {
+    let terms = terms.into();
+    found_by(|table| read(stream, table, terms), words, terms.setting)
 }
 
-fn found_by(read: Read, stream: &[u8], words: usize, setting: Setting) -> Found {
+fn found_by(
+    read: impl FnOnce(&mut [u32]) -> Result<usize, Refusal>,
+    words: usize,
+    setting: Setting,
+) -> Found {
     let (mut table, _) = littered(words, 0);
-    let outcome = read(stream, &mut table, setting);
+    let outcome = read(&mut table);
     let answer = match &outcome {
         Ok(rows) => format!("accepted {rows}"),
         Err(refusal) => refused(refusal),
@@ -69,18 +79,23 @@ fn found_by(read: Read, stream: &[u8], words: usize, setting: Setting) -> Found 
     Found { setting, answer, outcome, table, out: None }
 }
 
-pub fn found_tidying(stream: &[u8], words: usize, room: usize, setting: Setting) -> Found {
-    found_tidying_by(tidy, stream, [words, room], setting)
+pub fn found_tidying<'b>(
+    stream: &[u8],
+    words: usize,
+    room: usize,
+    terms: impl Into<Terms<'b>>,
+) -> Found {
+    let terms = terms.into();
+    found_tidying_by(|table, out| tidy(stream, table, out, terms), [words, room], terms.setting)
 }
 
 fn found_tidying_by(
-    tidy: Tidy,
-    stream: &[u8],
+    tidy: impl FnOnce(&mut [u32], &mut [u8]) -> Result<usize, Refusal>,
     [words, room]: [usize; 2],
     setting: Setting,
 ) -> Found {
     let (mut table, mut out) = littered(words, room);
-    let outcome = tidy(stream, &mut table, &mut out, setting);
+    let outcome = tidy(&mut table, &mut out);
     let answer = match &outcome {
         Ok(length) => written(*length),
         Err(refusal) if is_full(refusal) => format!("full {}", refusal.needed),
@@ -101,11 +116,15 @@ fn is_full(refusal: &Refusal) -> bool {
 impl Found {
     /// What the fast reader or tidier, lent the same, answers or leaves
     /// otherwise.
-    pub fn fast_fault(&self, stream: &[u8]) -> Option<String> {
-        let words = self.table.len();
+    pub fn fast_fault(&self, stream: &[u8], book: &[u8]) -> Option<String> {
+        let (words, terms) = (self.table.len(), self.setting.with(book));
         let fast = match &self.out {
-            None => found_by(fast::read, stream, words, self.setting),
-            Some(out) => found_tidying_by(fast::tidy, stream, [words, out.len()], self.setting),
+            None => found_by(|table| fast::read(stream, table, terms), words, self.setting),
+            Some(out) => {
+                let tidy =
+                    |table: &mut [u32], out: &mut [u8]| fast::tidy(stream, table, out, terms);
+                found_tidying_by(tidy, [words, out.len()], self.setting)
+            }
         };
         if fast.answer != self.answer {
             return Some(format!("fast         {}, not {}", fast.answer, self.answer));
@@ -150,6 +169,12 @@ mod tests {
     use super::*;
     use crate::stream::Stream;
 
+    /// System class A with the member x, an Int32.
+    const BOOK: &[u8] = b"\0\x01A\x01\x01x\0\x08";
+
+    /// The same and an entry that begins with 2.
+    const BAD_BOOK: &[u8] = b"\0\x01A\x01\x01x\0\x08\x02";
+
     /// The comparing programs' own samples say the same of the form of both
     /// sides.
     #[test]
@@ -157,12 +182,23 @@ mod tests {
         let mut sent = Vec::new();
         let mut lines = String::new();
         let array = Stream::new().objects(1, 3).nulls(3).end().0;
-        for (stream, words) in [(&[][..], 16), (&array[..], 35)] {
-            send(stream, &[words], &mut sent);
-            lines += &(found(stream, words, Setting::Strict).line() + "\n");
+        for (stream, words, book) in
+            [(&[][..], 16, &[][..]), (&array, 35, &[]), (&array, 35, BOOK), (&array, 35, BAD_BOOK)]
+        {
+            send_with_book(stream, &[words], book, &mut sent);
+            lines += &(found(stream, words, Setting::Strict.with(book)).line() + "\n");
         }
         assert_eq!(sent, include_bytes!("../../crates/compare/stdin"));
         assert_eq!(lines, include_str!("../../crates/compare/stdout"));
+    }
+
+    /// The sizes, the book's length last; the stream, then the book.
+    #[test]
+    fn a_book_goes_behind_its_stream() {
+        let (mut plain, mut sent) = (Vec::new(), Vec::new());
+        send(b"stream", &[16, 4, 3], &mut plain);
+        send_with_book(b"stream", &[16, 4], b"abc", &mut sent);
+        assert_eq!(sent, [plain, b"abc".to_vec()].concat());
     }
 
     #[test]
@@ -170,15 +206,18 @@ mod tests {
         let mut sent = Vec::new();
         let mut lines = String::new();
         let array = Stream::rooted(7).objects(7, 3).null().nulls(2).end().0;
-        for (stream, words, room) in [
-            (&[][..], 16, 4),
-            (&array, 48, 40),
-            (&array, 43, 29),
-            (&array, 40, 28),
-            (&array, 39, 40),
+        for (stream, words, room, book) in [
+            (&[][..], 16, 4, &[][..]),
+            (&array, 48, 40, &[]),
+            (&array, 43, 29, &[]),
+            (&array, 40, 28, &[]),
+            (&array, 39, 40, &[]),
+            (&array, 48, 40, BOOK),
+            (&array, 48, 40, BAD_BOOK),
         ] {
-            send(stream, &[words, room], &mut sent);
-            lines += &(found_tidying(stream, words, room, Setting::Strict).line() + "\n");
+            send_with_book(stream, &[words, room], book, &mut sent);
+            let found = found_tidying(stream, words, room, Setting::Strict.with(book));
+            lines += &(found.line() + "\n");
         }
         assert_eq!(sent, include_bytes!("../../crates/compare_tidy/stdin"));
         assert_eq!(lines, include_str!("../../crates/compare_tidy/stdout"));

@@ -57,11 +57,37 @@ impl Stream {
         self.bytes(&[5]).class_info(id, name, members).int(library)
     }
 
-    fn class_info(self, id: i32, name: &str, members: &[Member]) -> Stream {
-        let mut stream = self.int(id).text(name).int(members.len() as i32);
-        for (name, _, _) in members {
-            stream = stream.text(name);
+    /// Kind 2.
+    pub fn untyped_system(self, id: i32, name: &str, members: &[&str]) -> Stream {
+        self.bytes(&[2]).untyped_info(id, name, members)
+    }
+
+    /// Kind 3.
+    pub fn untyped(self, id: i32, name: &str, members: &[&str], library: i32) -> Stream {
+        self.bytes(&[3]).untyped_info(id, name, members).int(library)
+    }
+
+    fn untyped_info(self, id: i32, name: &str, members: &[&str]) -> Stream {
+        let start = self.int(id).text(name).int(members.len() as i32);
+        members.iter().fold(start, |stream, name| stream.text(name))
+    }
+
+    /// An entry of a class book; a system class has no library.
+    pub fn entry(self, name: &str, library: Option<&str>, members: &[Member]) -> Stream {
+        let mut book = self.bytes(&[u8::from(library.is_some())]).text(name);
+        if let Some(library) = library {
+            book = book.text(library);
         }
+        let start = book.bytes(&[members.len() as u8]);
+        let put = |book: Stream, (name, type_byte, info): &Member| {
+            book.text(name).bytes(&[*type_byte]).bytes(info)
+        };
+        members.iter().fold(start, put)
+    }
+
+    fn class_info(self, id: i32, name: &str, members: &[Member]) -> Stream {
+        let names: Vec<&str> = members.iter().map(|(name, _, _)| *name).collect();
+        let mut stream = self.untyped_info(id, name, &names);
         for (_, type_byte, _) in members {
             stream = stream.bytes(&[*type_byte]);
         }

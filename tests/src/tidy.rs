@@ -1,8 +1,6 @@
 //! Writes the tidy copy.
 
-use crate::reader::{
-    self, Array, Class, Detail, Items, Reading, Record, Refusal, Setting, SlotType,
-};
+use crate::reader::{self, Array, Class, Detail, Items, Reading, Record, Refusal, SlotType, Terms};
 use std::collections::HashMap;
 
 #[derive(Clone, Copy)]
@@ -33,14 +31,14 @@ struct Writer<'r, 'a> {
 
 /// Writes the tidy copy and answers its length; the table gets the reading of
 /// the stream.
-pub fn tidy(
+pub fn tidy<'b>(
     stream: &[u8],
     table: &mut [u32],
     out: &mut [u8],
-    setting: Setting,
+    terms: impl Into<Terms<'b>>,
 ) -> Result<usize, Refusal> {
     table.fill(0);
-    let reading = reader::read_records(stream, table.len() / reader::ROW_WORDS, setting)?;
+    let reading = reader::read_records(stream, table.len() / reader::ROW_WORDS, terms)?;
     let copy = copy_of(&reading);
     if copy.len() > out.len() || copy.len() > reader::STREAM_LIMIT {
         return Err(Refusal::out_full(copy.len()));

@@ -7,6 +7,8 @@ extern "C" {
     fn strelinga_read(
         stream: *const u8,
         bytes: usize,
+        book: *const u8,
+        book_bytes: usize,
         table: *mut u32,
         words: usize,
         setting: u32,
@@ -37,6 +39,8 @@ extern "C" {
     fn strelinga_tidy(
         stream: *const u8,
         bytes: usize,
+        book: *const u8,
+        book_bytes: usize,
         table: *mut u32,
         words: usize,
         out: *mut u8,
@@ -49,8 +53,12 @@ extern "C" {
     fn strelinga_say_the_same(
         a: *const u8,
         a_bytes: usize,
+        a_book: *const u8,
+        a_book_bytes: usize,
         b: *const u8,
         b_bytes: usize,
+        b_book: *const u8,
+        b_book_bytes: usize,
         table: *mut u32,
         words: usize,
         first: *mut u8,
@@ -81,21 +89,32 @@ pub const STRICT: u32 = 0;
 
 // The jobs take any bytes, words and settings; pointers and counts below are those of live slices that do not overlap.
 
-pub fn read(stream: &[u8], table: &mut [u32], setting: u32) -> Answer {
+pub fn read(stream: &[u8], book: &[u8], table: &mut [u32], setting: u32) -> Answer {
     let (mut place, mut value) = (0, 0);
-    let (bytes, words) = (stream.len(), table.len());
-    let (stream, table) = (stream.as_ptr(), table.as_mut_ptr());
-    let number =
-        unsafe { strelinga_read(stream, bytes, table, words, setting, &mut place, &mut value) };
+    let number = unsafe {
+        strelinga_read(
+            stream.as_ptr(),
+            stream.len(),
+            book.as_ptr(),
+            book.len(),
+            table.as_mut_ptr(),
+            table.len(),
+            setting,
+            &mut place,
+            &mut value,
+        )
+    };
     Answer { number, place, value }
 }
 
-pub fn tidy(stream: &[u8], table: &mut [u32], out: &mut [u8], setting: u32) -> Answer {
+pub fn tidy(stream: &[u8], book: &[u8], table: &mut [u32], out: &mut [u8], setting: u32) -> Answer {
     let (mut place, mut value) = (0, 0);
     let number = unsafe {
         strelinga_tidy(
             stream.as_ptr(),
             stream.len(),
+            book.as_ptr(),
+            book.len(),
             table.as_mut_ptr(),
             table.len(),
             out.as_mut_ptr(),
@@ -133,8 +152,8 @@ pub fn text_view(stream: &[u8], table: &[u32], row: u64, setting: u32) -> (u32, 
 
 /// What is handed out holds a pattern before, as the table and the outputs do.
 pub fn say_the_same(
-    a: &[u8],
-    b: &[u8],
+    [a, a_book]: [&[u8]; 2],
+    [b, b_book]: [&[u8]; 2],
     table: &mut [u32],
     first: &mut [u8],
     second: &mut [u8],
@@ -145,8 +164,12 @@ pub fn say_the_same(
         strelinga_say_the_same(
             a.as_ptr(),
             a.len(),
+            a_book.as_ptr(),
+            a_book.len(),
             b.as_ptr(),
             b.len(),
+            b_book.as_ptr(),
+            b_book.len(),
             table.as_mut_ptr(),
             table.len(),
             first.as_mut_ptr(),

@@ -42,7 +42,7 @@ impl Subject {
     pub fn read(&mut self) -> Times {
         let Subject { stream, table, rows, .. } = self;
         let proved = best(|| {
-            let answer = bench::read(stream, table, STRICT);
+            let answer = bench::read(stream, &[], table, STRICT);
             assert_eq!((answer.number, answer.value), (0, *rows as u64), "at {}", answer.place);
         });
         let left = table.clone();
@@ -57,7 +57,7 @@ impl Subject {
         let Subject { stream, table, out, .. } = self;
         let length = out.len();
         let proved = best(|| {
-            let answer = bench::tidy(stream, table, out, STRICT);
+            let answer = bench::tidy(stream, &[], table, out, STRICT);
             assert_eq!((answer.number, answer.value), (0, length as u64), "at {}", answer.place);
         });
         let left = (table.clone(), out.clone());

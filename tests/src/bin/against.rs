@@ -5,7 +5,8 @@
 //! output; and the fast ones with the independent ones, on the same. Every stream
 //! is read and tidied under both settings. RUN with its words runs the comparing
 //! program whose name comes after them. PROGRAM has the C forms linked; it
-//! compares pairs, shows texts and takes large streams.
+//! compares pairs, shows texts and takes large streams. The programs get a class
+//! book with every stream, and half of those made from a seed have entries in it.
 
 use independent_reader::asked::{ask, Asked};
 use independent_reader::cases::{self, Case};
@@ -18,7 +19,8 @@ use independent_reader::pairs::{found_pair, pairs, Pair, NOT_THE_SAME};
 use independent_reader::reader::Setting;
 use independent_reader::report::Report;
 use independent_reader::show::{
-    found, found_tidying, send, send_table, Found, MOST_BYTES, MOST_ROOM, MOST_STREAMS, MOST_WORDS,
+    found, found_tidying, send, send_table, send_with_book, Found, MOST_BOOK, MOST_BYTES,
+    MOST_ROOM, MOST_STREAMS, MOST_WORDS,
 };
 use independent_reader::tidying::{self, copy_part, part_of, Demand, Tidying};
 use independent_reader::views::{found_views, planted, rows_asked};
@@ -72,7 +74,8 @@ fn main() -> ExitCode {
 fn compare_all() -> Result<usize, String> {
     let wishes = Wishes::from(std::env::args().skip(1))?;
     let lists = wishes.lists()?;
-    let (by_hand, outside, changes) = (cases::by_hand(), outside::cases()?, wishes.changes()?);
+    let (by_hand, changes) = (cases::by_hand(), wishes.changes()?);
+    let outside = outside::cases()?;
     let (hand, noted, changed, real) = (by_hand.len(), outside.len(), changes.len(), lists.len());
     let large = if wishes.linked.is_some() { large(&lists) } else { Vec::new() };
     println!(
@@ -89,7 +92,7 @@ fn compare_all() -> Result<usize, String> {
     let mut seed = wishes.seed;
     for first in (0..wishes.count).step_by(BATCH) {
         let count = BATCH.min(wishes.count - first);
-        let made = cases::generated(seed, count, &lists).into_iter().take(count);
+        let made = cases::generated(seed, count, &lists, true).into_iter().take(count);
         let counts = [count / STREAMS_A_REPACKING, count / STREAMS_A_PAIR];
         wishes.compare_batch(seed, counts, made, &mut report)?;
         seed = seeds.draw();
@@ -111,7 +114,8 @@ struct Wishes {
 impl Wishes {
     fn from(mut words: impl Iterator<Item = String>) -> Result<Wishes, String> {
         let (run, seed, count) = (Vec::new(), USUAL_SEED, USUAL_COUNT);
-        let mut wishes = Wishes { run, seed, count, lists: None, changes: None, linked: None };
+        let (lists, changes, linked) = (None, None, None);
+        let mut wishes = Wishes { run, seed, count, lists, changes, linked };
         while let Some(word) = words.next() {
             match word.as_str() {
                 "--seed" => wishes.seed = number(words.next())?,
@@ -157,20 +161,29 @@ impl Wishes {
         report: &mut Report,
     ) -> Result<(), String> {
         let cases: Vec<Case> = cases.collect();
-        held_to_limits(cases.iter().map(|case| (&*case.what, &*case.stream, case.words, 0)))?;
+        held_to_limits(
+            cases
+                .iter()
+                .map(|case| (&*case.what, size_of(&case.stream, &case.book), case.words, 0)),
+        )?;
         for setting in Setting::BOTH {
             let programs = self.programs([READING, LINKED_READING], setting, seed as usize);
-            compare_reading(&programs, setting, &cases, report)?;
+            self.compare_reading(&programs, setting, &cases, report)?;
         }
         let mut tidyings: Vec<Tidying> = cases.iter().flat_map(tidying::of_case).collect();
-        tidyings.extend(tidying::repacked(seed, repackings, &cases));
-        held_to_limits(tidyings.iter().map(|one| (&*one.what, &*one.stream, one.words, one.room)))?;
+        tidyings.extend(tidying::repacked(seed, repackings, &cases, true));
+        held_to_limits(
+            tidyings
+                .iter()
+                .map(|one| (&*one.what, size_of(&one.stream, &one.book), one.words, one.room)),
+        )?;
         let programs = |setting| self.programs([TIDYING, LINKED_TIDYING], setting, seed as usize);
-        compare_tidying(programs, &tidyings, report)?;
+        self.compare_tidying(programs, &tidyings, report)?;
         match &self.linked {
             Some(linked) => {
                 compare_views(linked, seed, &cases, report)?;
-                compare_pairs(linked, seed, &pairs(seed, pair_count, &cases), report)
+                let pairs = pairs(seed, pair_count, &cases, true);
+                self.compare_pairs(linked, seed, &pairs, report)
             }
             None => Ok(()),
         }
@@ -186,11 +199,113 @@ impl Wishes {
             let program =
                 |job, setting| vec![linked_program(linked, job, number_of(setting, turn))];
             for setting in Setting::BOTH {
-                compare_reading(&program(LINKED_READING, setting), setting, case, report)?;
+                self.compare_reading(&program(LINKED_READING, setting), setting, case, report)?;
             }
             let tidyings = tidying::of_case(&case[0]);
-            compare_tidying(|setting| program(LINKED_TIDYING, setting), &tidyings, report)?;
+            self.compare_tidying(|setting| program(LINKED_TIDYING, setting), &tidyings, report)?;
             compare_views(linked, turn as u64, case, report)?;
+        }
+        Ok(())
+    }
+
+    /// Each program is held to the same.
+    fn compare_reading(
+        &self,
+        programs: &[Vec<String>],
+        setting: Setting,
+        cases: &[Case],
+        report: &mut Report,
+    ) -> Result<(), String> {
+        let mut sent = Vec::new();
+        for case in cases {
+            send_with_book(&case.stream, &[case.words], &case.book, &mut sent);
+        }
+        let asked = ask_all(programs, &sent, cases.len(), report)?;
+        for (number, case) in cases.iter().enumerate() {
+            let found = found(&case.stream, case.words, case.terms(setting));
+            report.read.count(setting, &found.outcome);
+            report.sizes.count_table(case.words, &found.outcome);
+            let mut faults: Vec<String> =
+                found.fast_fault(&case.stream, &case.book).into_iter().collect();
+            for asked in &asked {
+                let line = line_of(asked, number);
+                faults.extend(differing(&found.line(), line));
+                faults.extend(against_known(case, &found, line));
+            }
+            let what = format!("{}, {setting:?}", case.what);
+            note(report, &what, &[&case.stream, &case.book], &[case.words], &faults);
+        }
+        Ok(())
+    }
+
+    /// The programs of a setting are each held to the same; what is demanded of
+    /// copies holds between all.
+    fn compare_tidying(
+        &self,
+        programs: impl Fn(Setting) -> Vec<Vec<String>>,
+        tidyings: &[Tidying],
+        report: &mut Report,
+    ) -> Result<(), String> {
+        let mut copies = Copies::default();
+        for setting in Setting::BOTH {
+            let under: Vec<&Tidying> =
+                tidyings.iter().filter(|one| one.setting == setting).collect();
+            let mut sent = Vec::new();
+            for one in &under {
+                send_with_book(&one.stream, &[one.words, one.room], &one.book, &mut sent);
+            }
+            let asked = ask_all(&programs(setting), &sent, under.len(), report)?;
+            for (number, one) in under.into_iter().enumerate() {
+                let found = found_tidying(&one.stream, one.words, one.room, one.terms());
+                report.tidied.count(setting, &found.outcome);
+                report.sizes.count_output(one.room, &found.outcome);
+                report.count_demand(&one.demand);
+                let mut faults: Vec<String> =
+                    found.fast_fault(&one.stream, &one.book).into_iter().collect();
+                for asked in &asked {
+                    let line = line_of(asked, number);
+                    faults.extend(differing(&found.line(), line));
+                    faults.extend(copies.fault(one, &found, line));
+                }
+                note(report, &one.what, &[&one.stream, &one.book], &[one.words, one.room], &faults);
+            }
+        }
+        report.packed += copies.of_group.len();
+        Ok(())
+    }
+
+    /// Whether the two of a pair say the same.
+    fn compare_pairs(
+        &self,
+        linked: &str,
+        seed: u64,
+        pairs: &[Pair],
+        report: &mut Report,
+    ) -> Result<(), String> {
+        let mut random = Random::new(seed);
+        let mut sent = Vec::new();
+        for Pair { streams: [a, b], books, settings, words, rooms, .. } in pairs {
+            let numbers = settings.map(|setting| number_of(setting, random.below(BATCH)) as usize);
+            let mut others = vec![b.len(), *words, rooms[0], rooms[1], numbers[0], numbers[1]];
+            others.extend(books.iter().map(Vec::len));
+            send(a, &others, &mut sent);
+            sent.extend_from_slice(b);
+            books.iter().for_each(|book| sent.extend_from_slice(book));
+        }
+        let asked = ask(&[linked.to_string(), LINKED_COMPARING.to_string()], sent)?;
+        note_program(&asked, pairs.len(), report);
+        for (number, pair) in pairs.iter().enumerate() {
+            let line = line_of(&asked, number);
+            let (answer, right) = found_pair(pair);
+            report.pairs.count(&answer);
+            let mut faults = differing(&right, line);
+            if pair.one_list && line.starts_with(NOT_THE_SAME) {
+                faults.push(format!("packings of one list, not the same: {line}"));
+            }
+            report.pairs.differences += usize::from(!faults.is_empty());
+            let sizes = [pair.words, pair.rooms[0], pair.rooms[1]];
+            let all = pair.streams.iter().chain(&pair.books).collect::<Vec<_>>();
+            note(report, &pair.what, &all, &sizes, &faults);
         }
         Ok(())
     }
@@ -213,77 +328,23 @@ fn number<T: std::str::FromStr>(word: Option<String>) -> Result<T, String> {
     word.and_then(|word| word.parse().ok()).ok_or(USAGE.to_string())
 }
 
+fn size_of(stream: &[u8], book: &[u8]) -> [usize; 2] {
+    [stream.len(), book.len()]
+}
+
 /// The program would stop at a stream that it has no space for.
 fn held_to_limits<'c>(
-    all: impl ExactSizeIterator<Item = (&'c str, &'c [u8], usize, usize)>,
+    all: impl ExactSizeIterator<Item = (&'c str, [usize; 2], usize, usize)>,
 ) -> Result<(), String> {
     if all.len() > MOST_STREAMS {
         return Err(format!("the program takes at most {MOST_STREAMS} streams"));
     }
-    for (what, stream, words, room) in all {
-        if stream.len() > MOST_BYTES || words > MOST_WORDS || room > MOST_ROOM {
+    for (what, [stream, book], words, room) in all {
+        let too_long = stream > MOST_BYTES || book > MOST_BOOK;
+        if too_long || words > MOST_WORDS || room > MOST_ROOM {
             return Err(format!("{what}: the program has no space for it"));
         }
     }
-    Ok(())
-}
-
-/// Each program is held to the same.
-fn compare_reading(
-    programs: &[Vec<String>],
-    setting: Setting,
-    cases: &[Case],
-    report: &mut Report,
-) -> Result<(), String> {
-    let mut sent = Vec::new();
-    cases.iter().for_each(|case| send(&case.stream, &[case.words], &mut sent));
-    let asked = ask_all(programs, &sent, cases.len(), report)?;
-    for (number, case) in cases.iter().enumerate() {
-        let found = found(&case.stream, case.words, setting);
-        report.read.count(setting, &found.outcome);
-        report.sizes.count_table(case.words, &found.outcome);
-        let mut faults: Vec<String> = found.fast_fault(&case.stream).into_iter().collect();
-        for asked in &asked {
-            let line = line_of(asked, number);
-            faults.extend(differing(&found.line(), line));
-            faults.extend(against_known(case, &found, line));
-        }
-        let what = format!("{}, {setting:?}", case.what);
-        note(report, &what, &[&case.stream], &[case.words], &faults);
-    }
-    Ok(())
-}
-
-/// The programs of a setting are each held to the same; what is demanded of
-/// copies holds between all.
-fn compare_tidying(
-    programs: impl Fn(Setting) -> Vec<Vec<String>>,
-    tidyings: &[Tidying],
-    report: &mut Report,
-) -> Result<(), String> {
-    let mut copies = Copies::default();
-    for setting in Setting::BOTH {
-        let under: Vec<&Tidying> = tidyings.iter().filter(|one| one.setting == setting).collect();
-        let mut sent = Vec::new();
-        for one in &under {
-            send(&one.stream, &[one.words, one.room], &mut sent);
-        }
-        let asked = ask_all(&programs(setting), &sent, under.len(), report)?;
-        for (number, one) in under.into_iter().enumerate() {
-            let found = found_tidying(&one.stream, one.words, one.room, setting);
-            report.tidied.count(setting, &found.outcome);
-            report.sizes.count_output(one.room, &found.outcome);
-            report.count_demand(&one.demand);
-            let mut faults: Vec<String> = found.fast_fault(&one.stream).into_iter().collect();
-            for asked in &asked {
-                let line = line_of(asked, number);
-                faults.extend(differing(&found.line(), line));
-                faults.extend(copies.fault(one, &found, line));
-            }
-            note(report, &one.what, &[&one.stream], &[one.words, one.room], &faults);
-        }
-    }
-    report.packed += copies.of_group.len();
     Ok(())
 }
 
@@ -298,7 +359,7 @@ fn compare_views(
     let mut random = Random::new(seed);
     let mut asked_of: Vec<(&Case, Vec<u32>)> = Vec::new();
     for case in cases {
-        asked_of.push((case, found(&case.stream, case.words, Setting::Lenient).table));
+        asked_of.push((case, found(&case.stream, case.words, case.terms(Setting::Lenient)).table));
         asked_of.push((case, planted(&case.stream, &mut random)));
     }
     let mut sent = Vec::new();
@@ -319,37 +380,6 @@ fn compare_views(
             let what = format!("{}, texts, {setting:?}", case.what);
             note(report, &what, &[&case.stream], &[table.len()], &faults);
         }
-    }
-    Ok(())
-}
-
-/// Whether the two of a pair say the same.
-fn compare_pairs(
-    linked: &str,
-    seed: u64,
-    pairs: &[Pair],
-    report: &mut Report,
-) -> Result<(), String> {
-    let mut random = Random::new(seed);
-    let mut sent = Vec::new();
-    for Pair { streams: [a, b], settings, words, rooms, .. } in pairs {
-        let numbers = settings.map(|setting| number_of(setting, random.below(BATCH)) as usize);
-        send(a, &[b.len(), *words, rooms[0], rooms[1], numbers[0], numbers[1]], &mut sent);
-        sent.extend_from_slice(b);
-    }
-    let asked = ask(&[linked.to_string(), LINKED_COMPARING.to_string()], sent)?;
-    note_program(&asked, pairs.len(), report);
-    for (number, pair) in pairs.iter().enumerate() {
-        let line = line_of(&asked, number);
-        let (answer, right) = found_pair(pair);
-        report.pairs.count(&answer);
-        let mut faults = differing(&right, line);
-        if pair.one_list && line.starts_with(NOT_THE_SAME) {
-            faults.push(format!("packings of one list, not the same: {line}"));
-        }
-        report.pairs.differences += usize::from(!faults.is_empty());
-        let sizes = [pair.words, pair.rooms[0], pair.rooms[1]];
-        note(report, &pair.what, &pair.streams, &sizes, &faults);
     }
     Ok(())
 }
@@ -391,7 +421,7 @@ fn differing(right: &str, line: &str) -> Vec<String> {
     vec![format!("program      {line}"), format!("independent  {right}")]
 }
 
-/// One stream or more.
+/// One stream or more, and their books behind them.
 fn note(
     report: &mut Report,
     what: &str,

@@ -1,10 +1,10 @@
 //! Prints what the listing program prints for standard input or for each file
 //! named; with `--tidy` also the tidy copy in hex, with `--lenient` under the
-//! lenient setting; with `--corpus DIR` holds a folder of lists against its
+//! lenient setting, with `--book FILE` with a class book; with `--corpus DIR` holds a folder of lists against its
 //! expected.tsv.
 
 use independent_reader::corpus::{self, copy_note, refused};
-use independent_reader::{read, tidy, Setting};
+use independent_reader::{read, tidy, Setting, Terms};
 use std::io::Read;
 use std::path::Path;
 use std::process::ExitCode;
@@ -27,16 +27,21 @@ fn main() -> ExitCode {
         true => Setting::Lenient,
         false => Setting::Strict,
     };
+    let book = match book(&mut arguments) {
+        Ok(book) => book,
+        Err(why) => return fail(&why),
+    };
+    let terms = setting.with(&book);
     if arguments.is_empty() {
         let mut stream = Vec::new();
         return match std::io::stdin().read_to_end(&mut stream) {
-            Ok(_) => show(&stream, setting, with_tidy),
+            Ok(_) => show(&stream, terms, with_tidy),
             Err(error) => fail(&error.to_string()),
         };
     }
     for name in &arguments {
         match std::fs::read(name) {
-            Ok(stream) => drop(show(&stream, setting, with_tidy)),
+            Ok(stream) => drop(show(&stream, terms, with_tidy)),
             Err(error) => return fail(&format!("{name}: {error}")),
         }
     }
@@ -50,25 +55,36 @@ fn taken(arguments: &mut Vec<String>, switch: &str) -> bool {
     there
 }
 
+/// The class book whose file is named behind `--book`; neither word is among the
+/// arguments afterwards.
+fn book(arguments: &mut Vec<String>) -> Result<Vec<u8>, String> {
+    let Some(at) = arguments.iter().position(|argument| argument == "--book") else {
+        return Ok(Vec::new());
+    };
+    let words: Vec<String> = arguments.drain(at..arguments.len().min(at + 2)).collect();
+    let name = words.get(1).ok_or("--book needs a file")?;
+    std::fs::read(name).map_err(|error| format!("{name}: {error}"))
+}
+
 fn fail(why: &str) -> ExitCode {
     eprintln!("{why}");
     ExitCode::FAILURE
 }
 
-fn show(stream: &[u8], setting: Setting, with_tidy: bool) -> ExitCode {
-    print!("{}", listing(stream, setting));
+fn show(stream: &[u8], terms: Terms, with_tidy: bool) -> ExitCode {
+    print!("{}", listing(stream, terms));
     if with_tidy {
-        println!("{}", tidy_line(stream, setting));
+        println!("{}", tidy_line(stream, terms));
     }
     ExitCode::SUCCESS
 }
 
-fn listing(stream: &[u8], setting: Setting) -> String {
+fn listing(stream: &[u8], terms: Terms) -> String {
     if stream.len() > LISTING_BYTES {
         return "refused 1 at 0\n".to_string();
     }
     let mut table = vec![0; LISTING_ROWS * 8];
-    match read(stream, &mut table, setting) {
+    match read(stream, &mut table, terms) {
         Ok(rows) => format!("accepted {rows}\n{}", row_lines(&table[..rows * 8])),
         Err(refusal) => format!("{}\n", refused(&refusal)),
     }
@@ -79,10 +95,10 @@ fn row_lines(words: &[u32]) -> String {
     words.chunks(8).map(line).collect()
 }
 
-fn tidy_line(stream: &[u8], setting: Setting) -> String {
+fn tidy_line(stream: &[u8], terms: Terms) -> String {
     let mut table = vec![0; TIDY_ROWS * 8];
     let mut out = vec![0; TIDY_BYTES];
-    match tidy(stream, &mut table, &mut out, setting) {
+    match tidy(stream, &mut table, &mut out, terms) {
         Ok(length) => out[..length].iter().map(|byte| format!("{byte:02X}")).collect(),
         Err(refusal) => format!("tidy {}", refused(&refusal)),
     }

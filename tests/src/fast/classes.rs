@@ -13,8 +13,8 @@ pub struct Firsts {
 }
 
 /// The own library, 0 for a system class, and the bytes from the name to the
-/// last info, each LibraryId replaced by the first library with its name, and
-/// each padded prefix by the shortest.
+/// last info, of which the book may say the last, each LibraryId replaced by the
+/// first library with its name, and each padded prefix by the shortest.
 #[derive(PartialEq, Eq, Hash)]
 struct Content<'a> {
     library: u32,
@@ -52,6 +52,10 @@ fn content<'a>(stream: &'a [u8], class: &Class, found: &Found, libraries: &[u32]
     let padded = found.padded_in(class.from, class.to);
     if !padded.is_empty() {
         bytes = Cow::Owned(unpadded(&bytes, class.from, padded));
+    }
+    let spelled = found.spelled_of(class);
+    if !spelled.is_empty() {
+        bytes.to_mut().extend_from_slice(spelled);
     }
     Content { library, bytes }
 }

@@ -2,7 +2,7 @@
 //! then written.
 
 use super::classes::Firsts;
-use super::found::{prefix, Found, Padded, Use};
+use super::found::{prefix, Class, Found, Padded, Use};
 use crate::reader::*;
 
 /// Bytes of a kind and a number.
@@ -158,13 +158,14 @@ impl<'n, 'a, S: Sink> Walk<'n, 'a, S> {
             REFERENCE => self.head(REFERENCE, self.number_of(id)),
             CLASS_BY_ID => {
                 self.number += 1;
-                let first = self.next_class();
+                let (_, first) = self.next_class();
                 self.later_object(first);
             }
-            SYSTEM_CLASS | CLASS => {
+            SYSTEM_CLASS | CLASS | UNTYPED_SYSTEM_CLASS | UNTYPED_CLASS => {
                 self.number += 1;
                 match self.next_class() {
-                    first if first < self.number => self.later_object(first),
+                    (_, first) if first < self.number => self.later_object(first),
+                    (class, _) if kind < SYSTEM_CLASS => self.spelled_out(class),
                     _ => self.naming_libraries(kind, offset, end),
                 }
             }
@@ -214,12 +215,12 @@ impl<'n, 'a, S: Sink> Walk<'n, 'a, S> {
         self.found.objects.get(id).map_or(0, |object| object.number)
     }
 
-    /// The number of the first object of the next object's class.
+    /// The next object's class, and the number of the first object of that.
     #[inline]
-    fn next_class(&mut self) -> u32 {
-        let class = self.found.class_of[self.class_objects];
+    fn next_class(&mut self) -> (&'n Class, u32) {
+        let class = self.found.class_of[self.class_objects] as usize;
         self.class_objects += 1;
-        self.firsts.classes[class as usize]
+        (&self.found.classes[class], self.firsts.classes[class])
     }
 
     #[inline]
@@ -259,6 +260,19 @@ impl<'n, 'a, S: Sink> Walk<'n, 'a, S> {
             from = one.place + 4;
         }
         self.keep(from, end);
+    }
+
+    /// A class whose types the book said; it needs its own library alone.
+    fn spelled_out(&mut self, class: &Class) {
+        let found = self.found;
+        let own = &found.uses[class.first_use..class.last_use];
+        own.iter().for_each(|one| self.need(one));
+        self.head(if class.is_system { SYSTEM_CLASS } else { CLASS }, self.number);
+        self.keep(class.from, class.to);
+        self.sink.put_all(found.spelled_of(class));
+        for one in own {
+            self.sink.put(self.library_numbers[self.first(one)].to_le_bytes());
+        }
     }
 
     fn first(&self, one: &Use) -> usize {

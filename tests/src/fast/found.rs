@@ -15,6 +15,8 @@ pub struct Found<'a> {
     pub library_ids: Ids,
     /// The names.
     pub libraries: Vec<&'a [u8]>,
+    /// Type bytes and infos that the book said, class by class.
+    pub spelled: Vec<u8>,
     /// In the order of the stream.
     pub uses: Vec<Use>,
     /// In the order of the stream; none where it was read strictly.
@@ -23,7 +25,7 @@ pub struct Found<'a> {
     pub forward: Vec<usize>,
 }
 
-/// A record of kind 4 or 5.
+/// A record of kind 2 to 5.
 #[derive(Clone, Copy)]
 pub struct Class {
     pub row: u32,
@@ -32,9 +34,12 @@ pub struct Class {
     pub count: u32,
     /// Where the types of its slots stand.
     pub types: usize,
-    /// The bytes from its name to its last info.
+    /// The bytes from its name to its last info, or to its last member name
+    /// where the book said the types.
     pub from: usize,
     pub to: usize,
+    /// What the book said, from one place of `spelled` to another.
+    pub spelled: (usize, usize),
     /// Its uses of libraries, the last its own where it has one.
     pub first_use: usize,
     pub last_use: usize,
@@ -66,10 +71,17 @@ impl Found<'_> {
             class_of: Vec::new(),
             library_ids: Ids::new(),
             libraries: Vec::new(),
+            spelled: Vec::new(),
             uses: Vec::new(),
             padded: Vec::new(),
             forward: Vec::new(),
         }
+    }
+
+    /// The types of a class that stand in the book alone.
+    pub fn spelled_of(&self, class: &Class) -> &[u8] {
+        let (from, to) = class.spelled;
+        &self.spelled[from..to]
     }
 
     /// The padded prefixes from one place to another.

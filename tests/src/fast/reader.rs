@@ -1,5 +1,6 @@
 //! One pass over the stream, record by record.
 
+use super::book::Book;
 use super::cursor::{Cursor, Field};
 use super::found::{Class, Found, Use};
 use super::slots::{self, taken, Frame, Opened, Slot};
@@ -22,6 +23,7 @@ impl Heading {
 
 struct Reader<'a, 't> {
     cursor: Cursor<'a>,
+    book: Book,
     table: &'t mut [u32],
     found: Found<'a>,
     /// The innermost open object, and those around it.
@@ -31,13 +33,10 @@ struct Reader<'a, 't> {
 }
 
 /// After a refusal the table is as the reading left it.
-pub fn read<'a>(
-    stream: &'a [u8],
-    table: &mut [u32],
-    setting: Setting,
-) -> Result<Found<'a>, Refusal> {
+pub fn read<'a>(stream: &'a [u8], table: &mut [u32], terms: Terms) -> Result<Found<'a>, Refusal> {
     let mut reader = Reader {
-        cursor: Cursor::new(stream, setting),
+        cursor: Cursor::new(stream, terms.setting),
+        book: Book::judged(terms.book)?,
         table,
         found: Found::new(),
         frame: Frame::TOP,
@@ -123,6 +122,7 @@ impl<'a> Reader<'a, '_> {
             }
             LIBRARY => return self.library(place),
             SYSTEM_CLASS | CLASS => self.class(kind)?,
+            UNTYPED_SYSTEM_CLASS | UNTYPED_CLASS => self.untyped_class(kind)?,
             BINARY_ARRAY => self.binary_array()?,
             PRIMITIVE_ARRAY => self.primitive_array()?,
             OBJECT_ARRAY => self.slot_array(slots::AT_OBJECT)?,
@@ -236,12 +236,13 @@ impl<'a> Reader<'a, '_> {
         self.write_row(LIBRARY, place, [0, 0], &Heading::new(id, 0))
     }
 
-    fn library_use(&mut self) -> Field<()> {
+    /// Answers the library's name.
+    fn library_use(&mut self) -> Field<&'a [u8]> {
         let place = self.cursor.place();
         let id = self.cursor.positive_id()?;
         let library = self.found.library_ids.get(id).ok_or(Reply::NoLibrary)?.value;
         self.found.uses.push(Use { place, library });
-        Ok(())
+        Ok(self.found.libraries[library as usize])
     }
 
     #[inline]
@@ -263,15 +264,44 @@ impl<'a> Reader<'a, '_> {
         if !is_system {
             self.library_use()?;
         }
+        let (row, number, last_use, spelled) = (0, 0, 0, (0, 0));
+        Ok(self.new_class(
+            id,
+            Class { row, number, count, types, from, to, spelled, first_use, last_use, is_system },
+        ))
+    }
+
+    /// The book says the types.
+    fn untyped_class(&mut self, kind: u8) -> Field<Heading> {
+        let id = self.class_object_id()?;
+        let (from, first_use) = (self.cursor.place(), self.found.uses.len());
+        let name = self.cursor.text()?;
+        let count = self.cursor.count()?;
+        let names: Vec<&[u8]> = (0..count).map(|_| self.cursor.text()).collect::<Field<_>>()?;
+        let (to, is_system) = (self.cursor.place(), kind == UNTYPED_SYSTEM_CLASS);
+        let library = if is_system { None } else { Some(self.library_use()?) };
+        let entry = self.book.entry(name, library, &names).ok_or(Reply::NotInBook)?;
+        let (types, start) = (self.types.len(), self.found.spelled.len());
+        self.types.extend_from_slice(&entry.slots);
+        self.found.spelled.extend_from_slice(&entry.spelled);
+        let spelled = (start, self.found.spelled.len());
+        let (row, number, last_use) = (0, 0, 0);
+        Ok(self.new_class(
+            id,
+            Class { row, number, count, types, from, to, spelled, first_use, last_use, is_system },
+        ))
+    }
+
+    /// The class gets its row, its object's number and the end of its uses.
+    fn new_class(&mut self, id: i32, class: Class) -> Heading {
         let Found { rows, objects, uses, classes, .. } = &self.found;
         let (row, number, last_use) = (*rows as u32, objects.len() as u32, uses.len());
         let at = classes.len() as u32;
-        let class = Class { row, number, count, types, from, to, first_use, last_use, is_system };
         self.found.class_ids.insert(id, at);
         self.found.class_of.push(at);
-        self.found.classes.push(class);
-        let opened = (count > 0).then(|| Opened::members(types));
-        Ok(Heading { opened, ..Heading::new(id, count) })
+        self.found.classes.push(Class { row, number, last_use, ..class });
+        let opened = (class.count > 0).then(|| Opened::members(class.types));
+        Heading { opened, ..Heading::new(id, class.count) }
     }
 
     /// All names, then all type bytes, then the infos; the types are kept.

@@ -1,6 +1,6 @@
 //! What may stand in a slot, and the innermost open object.
 
-use crate::reader::Reply;
+use crate::reader::{Reply, UNTYPED_TAKEN};
 
 /// A slot takes a primitive value of a code, or records of the kinds whose bits
 /// are set.
@@ -16,10 +16,13 @@ pub const AT_OBJECT: usize = 1;
 pub const AT_STRING: usize = 2;
 
 pub const START: u32 = bits(&[0]);
-pub const TOP: Slot = Slot::Records(bits(&[1, 4, 5, 6, 7, 11, 12, 15, 16, 17]));
-pub const OBJECT: Slot = Slot::Records(bits(&[1, 4, 5, 6, 8, 9, 10, 12, 13, 14]));
+pub const TOP: Slot = Slot::Records(UNTYPED | bits(&[1, 4, 5, 6, 7, 11, 12, 15, 16, 17]));
+pub const OBJECT: Slot = Slot::Records(UNTYPED | bits(&[1, 4, 5, 6, 8, 9, 10, 12, 13, 14]));
 pub const STRING: Slot = Slot::Records(bits(&[6, 9, 10, 12, 13, 14]));
 pub const ARRAY: Slot = Slot::Records(bits(&[9, 10, 12, 13, 14]));
+
+/// Kinds that stand where 4 and 5 do.
+const UNTYPED: u32 = if UNTYPED_TAKEN { bits(&[2, 3]) } else { 0 };
 
 const fn bits(kinds: &[u8]) -> u32 {
     let (mut set, mut at) = (0, 0);
@@ -37,7 +40,8 @@ pub fn taken(kind: u8, kinds: u32) -> Result<u8, Reply> {
         return Ok(kind);
     }
     Err(match kind {
-        2 | 3 | 21 | 22 => Reply::NotTaken,
+        21 | 22 => Reply::NotTaken,
+        2 | 3 if !UNTYPED_TAKEN => Reply::NotTaken,
         0..=17 => Reply::WrongPlace,
         _ => Reply::UnknownKind,
     })

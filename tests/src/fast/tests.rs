@@ -1,6 +1,7 @@
 //! The fast reader and tidier answer and leave what the clear ones do.
 
 use crate::cases::{by_hand, generated, lists, Case};
+use crate::changes;
 use crate::large::large;
 use crate::padding::padded_to;
 use crate::reader::Setting;
@@ -11,8 +12,9 @@ use std::path::Path;
 fn agrees_on(cases: &[Case]) {
     for case in cases {
         for setting in Setting::BOTH {
-            let clear = found(&case.stream, case.words, setting);
-            assert_eq!(clear.fast_fault(&case.stream), None, "{}, {setting:?}", case.what);
+            let clear = found(&case.stream, case.words, case.terms(setting));
+            let fault = clear.fast_fault(&case.stream, &case.book);
+            assert_eq!(fault, None, "{}, {setting:?}", case.what);
         }
         agrees_in_tidying(&of_case(case));
     }
@@ -20,8 +22,8 @@ fn agrees_on(cases: &[Case]) {
 
 fn agrees_in_tidying(tidyings: &[Tidying]) {
     for one in tidyings {
-        let clear = found_tidying(&one.stream, one.words, one.room, one.setting);
-        assert_eq!(clear.fast_fault(&one.stream), None, "{}", one.what);
+        let clear = found_tidying(&one.stream, one.words, one.room, one.terms());
+        assert_eq!(clear.fast_fault(&one.stream, &one.book), None, "{}", one.what);
     }
 }
 
@@ -36,21 +38,30 @@ fn on_streams_by_hand() {
 
 #[test]
 fn on_generated_streams() {
-    agrees_on(&generated(11, 4_000, &real_lists()));
+    for books in [false, true] {
+        agrees_on(&generated(11, 4_000, &real_lists(), books));
+    }
+}
+
+#[test]
+fn on_cases_of_changes() {
+    agrees_on(&changes::cases(&Path::new(env!("CARGO_MANIFEST_DIR")).join("changes")).unwrap());
 }
 
 #[test]
 fn on_real_lists_and_packings_of_them() {
     let lists = real_lists();
     agrees_on(&lists);
-    agrees_in_tidying(&repacked(11, 200, &lists));
+    for books in [false, true] {
+        agrees_in_tidying(&repacked(11, 200, &lists, books));
+    }
 }
 
 /// All prefixes of one list in the same number of bytes.
 #[test]
 fn on_real_lists_with_padded_prefixes() {
     for bytes in 2..=5 {
-        let padded = |list: Case| Case { stream: padded_to(&list.stream, bytes), ..list };
+        let padded = |list: Case| Case { stream: padded_to(&list.stream, &[], bytes), ..list };
         let short = |list: &Case| list.stream.len() <= 65_536;
         agrees_on(&real_lists().into_iter().filter(short).map(padded).collect::<Vec<_>>());
     }

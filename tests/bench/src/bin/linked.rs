@@ -1,9 +1,10 @@
 //! `linked read|tidy|view|same SETTING`: takes streams from standard input as the proved
 //! comparing programs do and prints the same lines, but calls the C forms and
 //! has space for streams, tables and outputs of any size. `view` takes the
-//! words of each table too and prints what its rows show. SETTING is the number
-//! that the jobs are given. `same` takes none: a second stream and the settings of
-//! both come with each, and it prints what the comparing job answers and leaves.
+//! words of each table too, and no class book, and prints what its rows show. SETTING
+//! is the number that the jobs are given. `same` takes none: a second stream, the
+//! settings of both and their books come with each, and it prints what the comparing
+//! job answers and leaves.
 
 use independent_reader::show::{byte_trace, littered, trace};
 use independent_reader::views::{rows_asked, Views};
@@ -53,10 +54,10 @@ fn refused(answer: &bench::Answer) -> String {
 }
 
 fn read(input: &mut impl Read, bytes: usize, setting: u32) -> io::Result<String> {
-    let words = next_size(input)?;
-    let stream = taken(input, bytes)?;
+    let (words, book_bytes) = (next_size(input)?, next_size(input)?);
+    let (stream, book) = (taken(input, bytes)?, taken(input, book_bytes)?);
     let (mut table, _) = littered(words, 0);
-    let answer = bench::read(&stream, &mut table, setting);
+    let answer = bench::read(&stream, &book, &mut table, setting);
     let said = match answer.number {
         0 => format!("accepted {}", answer.value),
         _ => refused(&answer),
@@ -65,10 +66,10 @@ fn read(input: &mut impl Read, bytes: usize, setting: u32) -> io::Result<String>
 }
 
 fn tidy(input: &mut impl Read, bytes: usize, setting: u32) -> io::Result<String> {
-    let (words, room) = (next_size(input)?, next_size(input)?);
-    let stream = taken(input, bytes)?;
+    let (words, room, book_bytes) = (next_size(input)?, next_size(input)?, next_size(input)?);
+    let (stream, book) = (taken(input, bytes)?, taken(input, book_bytes)?);
     let (mut table, mut out) = littered(words, room);
-    let answer = bench::tidy(&stream, &mut table, &mut out, setting);
+    let answer = bench::tidy(&stream, &book, &mut table, &mut out, setting);
     let said = match answer.number {
         0 => format!("written {}", answer.value),
         20 => format!("full {}", answer.value),
@@ -99,9 +100,13 @@ fn same(input: &mut impl Read, bytes: usize) -> io::Result<String> {
     let (other_bytes, words) = (next_size(input)?, next_size(input)?);
     let (room, other_room) = (next_size(input)?, next_size(input)?);
     let settings = [next_size(input)? as u32, next_size(input)? as u32];
+    let book_bytes = [next_size(input)?, next_size(input)?];
     let (a, b) = (taken(input, bytes)?, taken(input, other_bytes)?);
+    let (a_book, b_book) = (taken(input, book_bytes[0])?, taken(input, book_bytes[1])?);
     let (mut table, mut first) = littered(words, room);
     let (_, mut second) = littered(0, other_room);
-    let answer = bench::say_the_same(&a, &b, &mut table, &mut first, &mut second, settings);
+    let lists = ([&a[..], &a_book], [&b[..], &b_book]);
+    let answer =
+        bench::say_the_same(lists.0, lists.1, &mut table, &mut first, &mut second, settings);
     Ok(answer.line(&table, [&first, &second]))
 }
