@@ -9,7 +9,17 @@ use bench::STRICT;
 use independent_reader::reader::ROW_WORDS;
 use std::ffi::{c_char, c_int, c_void, CString};
 
-type Read = unsafe extern "C" fn(*const u8, usize, *mut u32, usize, u32, *mut u64, *mut u64) -> u32;
+type Read = unsafe extern "C" fn(
+    *const u8,
+    usize,
+    *const u8,
+    usize,
+    *mut u32,
+    usize,
+    u32,
+    *mut u64,
+    *mut u64,
+) -> u32;
 
 type TextView =
     unsafe extern "C" fn(*const u8, usize, *const u32, usize, u64, u32, *mut u64, *mut u64) -> u32;
@@ -78,8 +88,10 @@ impl Library {
         let (mut place, mut rows) = (0, 0);
         let (start, words) = (table.as_mut_ptr(), table.len());
         let (bytes, stream) = (stream.len(), stream.as_ptr());
-        let number =
-            unsafe { (self.read)(stream, bytes, start, words, STRICT, &mut place, &mut rows) };
+        let (book, none) = (std::ptr::null(), 0);
+        let number = unsafe {
+            (self.read)(stream, bytes, book, none, start, words, STRICT, &mut place, &mut rows)
+        };
         assert_eq!(number, 0, "refused at {place}");
         rows as usize
     }
