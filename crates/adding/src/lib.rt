@@ -1,4 +1,6 @@
 // What every step is made of: the row of a record, and one row more.
+#![tactic(auto)]
+
 ghost use Rattle.std.specs.Prelude.{◌≡◌, List, ℕ, ◌+◌, ◌-◌, ◌≤◌, ◌<◌};
 ghost use Rattle.format.specs.Rows.{room_of};
 ghost use Rattle.format.specs.Machine.{row_in, row_apart, add};

@@ -1,5 +1,7 @@
 // The fields of the array records with one length: kinds 15, 16 and 17. Every field is judged where it stands. Numbers like 2.4.3.3 are sections
 // of MS-NRBF.
+#![tactic(auto)]
+
 ghost use Rattle.std.specs.Prelude.{◌≤◌, ◌<◌, ◌≡◌, length};
 ghost use Rattle.format.specs.Types.{alike};
 ghost use Rattle.format.specs.Rows.{room_of, rows_of};

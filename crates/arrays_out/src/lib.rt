@@ -1,5 +1,7 @@
 // The record of an array as the tidy copy has it: the libraries that it needs first, then its fields, then the items of a primitive one. `anew` is the code
 // whose items are written anew.
+#![tactic(auto)]
+
 ghost use Rattle.std.specs.Prelude.{◌++◌, ◌≡◌, ◌&&◌, ◌+◌, ◌-◌, ◌≤◌, ◌<◌, get_or, eqb};
 ghost use Rattle.format.specs.Rows.{rows_of, room_of};
 ghost use Rattle.put.specs.Out.{between};

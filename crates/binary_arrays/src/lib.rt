@@ -1,5 +1,7 @@
 // Arrays of every shape without lower bounds: kind 7, BinaryArray in MS-NRBF (2.4.3.1). The array type, the rank, the lengths and their product,
 // the type of the items.
+#![tactic(auto)]
+
 ghost use Rattle.std.specs.Prelude.{◌≤◌, ◌<◌, ◌≡◌, length};
 ghost use Rattle.format.specs.Rows.{room_of, rows_of};
 ghost use Rattle.format.specs.Records.{items_of, item_type_at, rank_at, array_type_at, binary_array_at};

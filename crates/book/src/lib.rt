@@ -1,5 +1,7 @@
 // The class book, judged entry by entry where it stands; all prefixes are strict. What is bad in an entry is not told, only the place of the
 // first bad one.
+#![tactic(auto)]
+
 ghost use Rattle.std.specs.Prelude.{◌≡◌, get_or};
 ghost use Rattle.format.specs.Values.{on_end, times};
 ghost use Rattle.format.specs.Types.{type_byte_at, name_at};

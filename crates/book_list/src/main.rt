@@ -1,5 +1,7 @@
 // Shows a class book to people: at most 1,048,575 bytes from standard input. Each entry has its place, its class and its library, and its members with
 // their types in words. A bad book is refused with the place of its first bad entry and the bytes around that place.
+#![tactic(auto)]
+
 use format::Refusal;
 use libc::STDIN_FILENO;
 use peeking::{byte_at, on};

@@ -1,5 +1,7 @@
 // The calendar: the date of a day number, and the time of day of a count of ticks. A tick is 100 nanoseconds; day 0 is the 1st of January of
 // the year 1, and every year is one of the Gregorian calendar. Every number is taken.
+#![tactic(auto)]
+
 ghost use Rattle.std.specs.Prelude.{◌≡◌};
 ghost use Rattle.calendar.specs.Calendar.{leap_year, days_of_year, days_of_month, year_of, month_of, date_of, clock_of};
 

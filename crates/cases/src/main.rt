@@ -1,4 +1,6 @@
 // All 14 counter examples and the streams that the arguments name, each with what reading it answers. The stored output has what the rules say.
+#![tactic(auto)]
+
 use format::Setting;
 use libc::STDOUT_FILENO;
 

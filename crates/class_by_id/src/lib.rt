@@ -1,4 +1,6 @@
 // An object of a class that an earlier record describes: kind 1, ClassWithId in MS-NRBF (2.3.2.5).
+#![tactic(auto)]
+
 ghost use Rattle.std.specs.Prelude.{◌+◌, ◌-◌, ◌≤◌, ◌<◌, ◌≡◌, length, get_or};
 ghost use Rattle.format.specs.Rows.{blank, room_of, rows_of, class_row};
 ghost use Rattle.format.specs.Records.{within, first_type, of_class, class_by_id_at};

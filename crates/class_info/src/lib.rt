@@ -1,4 +1,6 @@
 // What a class says of its members: their names, their types, the details of the types, and the library of the class.
+#![tactic(auto)]
+
 ghost use Rattle.std.specs.Prelude.{◌+◌, ◌-◌, ◌≤◌, ◌≡◌, length};
 ghost use Rattle.format.specs.Rows.{room_of, rows_of};
 ghost use Rattle.format.specs.Records.{known_library, own_library_at, info_known, infos_at, members_at};

@@ -1,4 +1,6 @@
 // Class records: the fields of kinds 4 and 5, each judged where it stands. Numbers like 2.3.1.1 are sections of MS-NRBF.
+#![tactic(auto)]
+
 ghost use Rattle.std.specs.Prelude.{◌+◌, ◌-◌, ◌≤◌, ◌<◌, ◌≡◌, length};
 ghost use Rattle.format.specs.Rows.{room_of, rows_of};
 ghost use Rattle.format.specs.Records.{good_class_id, class_at};

@@ -1,4 +1,6 @@
 // One byte, one code of a primitive type and one binary type, judged where they stand.
+#![tactic(auto)]
+
 ghost use Rattle.std.specs.Prelude.{◌≡◌, get_or};
 ghost use Rattle.format.specs.Types.{primitive_of, coded, code_at, type_byte_at};
 

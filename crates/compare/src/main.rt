@@ -1,6 +1,8 @@
 // Reads many streams, one behind another, each with its class book behind it, and before it its length, the size of its table in words and the length of
 // its book (four bytes each, the low byte first), and prints the answer to each and a hash of the words that are left. For comparing with the
 // independent reader. With the word `--lenient` length prefixes may be padded.
+#![tactic(auto)]
+
 ghost use Rattle.std.specs.Prelude.{◌≡◌, length};
 
 use format::{ReadAnswer, Setting};

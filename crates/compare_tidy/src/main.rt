@@ -1,6 +1,8 @@
 // Tidies many streams, one behind another, each with its class book behind it, and before it its length, the size of its table in words, the size of its
 // output in bytes and the length of its book (four bytes each, the low byte first), and prints the answer to each, a hash of the words that are left and
 // one of all bytes of the output. For comparing with the independent tidier. With the word `--lenient` length prefixes may be padded.
+#![tactic(auto)]
+
 ghost use Rattle.std.specs.Prelude.{◌≡◌, length};
 
 use format::{Setting, TidyAnswer};

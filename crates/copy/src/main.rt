@@ -1,6 +1,8 @@
 // The tidy copy: at most 65,535 bytes from standard input, the copy to standard output. A refusal goes to standard error, and nothing to
 // standard output. With the word `--lenient` length prefixes may be padded; the copy has the shortest. After the word `--book` stands the file of a
 // class book of at most 1,048,575 bytes.
+#![tactic(auto)]
+
 ghost use Rattle.std.specs.Prelude.{◌≡◌, length};
 
 use format::{Setting, TidyAnswer};

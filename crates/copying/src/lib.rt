@@ -1,5 +1,7 @@
 // Writes the tidy copy from marked rows, one row after the other: null runs are gathered across rows, and the same traversal measures
 // and writes. `anew` is the code whose values are written anew.
+#![tactic(auto)]
+
 ghost use Rattle.std.specs.Prelude.{◌≡◌, ◌++◌, ◌≤◌, ◌<◌, length};
 ghost use Rattle.format.specs.Rows.{rows_of, room_of};
 ghost use Rattle.format.specs.Says.{is_nulls};

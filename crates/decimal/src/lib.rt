@@ -1,5 +1,7 @@
 // Decimal text: optional minus, digits, optionally a point and digits; its exact value is at most 79228162514264337593543950335 either way.
 // The value is kept in two limbs, so no number here has more than 64 bits.
+#![tactic(auto)]
+
 ghost use Rattle.std.specs.Prelude.{◌≡◌, ◌≤◌};
 ghost use Rattle.format.specs.Values.{refused, whole_digit, fraction_digit, digit, decimal_byte, decimal};
 ghost use Rattle.decimal.specs.Limbs.{Fine, Stands, read};

@@ -1,4 +1,6 @@
 // The details of types and the library of a class, as the tidy copy has them: names with the shortest prefix, libraries by their new numbers.
+#![tactic(auto)]
+
 ghost use Rattle.std.specs.Prelude.{◌+◌, ◌-◌, ◌≤◌, ◌<◌};
 ghost use Rattle.format.specs.Rows.{rows_of, room_of};
 ghost use Rattle.put.specs.Put.{Filled};

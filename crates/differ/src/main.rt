@@ -2,6 +2,8 @@
 // `refused` or `unusable`. Where the lists differ it names the row of the tidy copies in which they first do, and what that row says in each. Options
 // stand after the files. `--lenient` lets length prefixes be padded in both lists, `--lenient-first` and `--lenient-second` in one of them; so `--book`,
 // `--book-first` and `--book-second` go before the file of a class book, of at most 1,048,575 bytes.
+#![tactic(auto)]
+
 ghost use Rattle.std.specs.Prelude.{◌≡◌, not, ◌||◌, length, eqb};
 
 use files::Loaded;

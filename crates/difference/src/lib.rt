@@ -1,5 +1,7 @@
 // Where two tidy copies first differ: how many bytes they have in common from their first on, and the row of a copy that holds the byte at a place.
 // Every pair of copies, every table and every place is taken.
+#![tactic(auto)]
+
 ghost use Rattle.std.specs.Prelude.{◌≡◌};
 ghost use Rattle.difference.specs.Difference.{common_of, row_holding, length_of};
 

@@ -1,5 +1,7 @@
 // Distinct libraries and distinct classes: which rows have equal library names or equal classes, and which of them is the first. Libraries are
 // equal by their names, classes by their own and their members' names, their types and the names of the libraries that they come from.
+#![tactic(auto)]
+
 ghost use Rattle.std.specs.Prelude.{◌≡◌, ◌≤◌, ◌<◌};
 ghost use Rattle.format.specs.Rows.{room_of, rows_of};
 ghost use Rattle.marks.specs.Marks.{first_library, same_info, same_own, same_details, same_class_row, first_class};

@@ -1,4 +1,6 @@
 // The files that words of a call name: lists where a call takes two, and class books. A book that no word names is an empty one.
+#![tactic(auto)]
+
 ghost use Rattle.std.specs.Prelude.{◌≡◌, not, ◌||◌, ◌≤◌, length, eqb};
 
 // Whether a file could be opened, and how many bytes were read from it.

@@ -162,6 +162,7 @@ allowed_forwards =
 pub run_within : {τ : Terms} {room own slot at row k : ℕ} {t : SlotType} {ts : List SlotType} {es : List Entry} {rs : List Rec} {is : List Row} {c : Cur}
     → Slots τ room own slot (t ∷ ts) (cur at row es (nulls k ∷ rs) is) c → k ≤ length (t ∷ ts)
 run_within (a_run t k l p u r d) = l
+run_within {τ = τ} {room = room} {own = own} {slot = slot} {at = at} {row = row} {k = k} {t = t} {ts = ts} {es = es} {rs = rs} {is = is} {c = c} (an_object_rule {c₁ = c₁} _ x23 _) = elim x23 [ ]
 
 -- an array of n slots has n
 slots_of_lem : {τ : Terms} {es : List Entry} {i n kind j m : ℕ} {ts : List SlotType} → Array τ es (object_array i n) kind j m ts → length ts ≡ n
@@ -178,21 +179,29 @@ no_run_past_the_end (one_array i a q b o) =
     let n = slots_of_lem a in
     let l = run_of_body b (omega (arith, n)) in
     omega (arith, n, l)
+no_run_past_the_end {τ = τ} {is = is} (one_object {c₁ = c₁} x3 _) = elim x3 [ ]
 
 -- a run stands over no primitive member
 pub run_over_none : {τ : Terms} {room own slot at row k : ℕ} {t : SlotType} {ts : List SlotType} {es : List Entry} {rs : List Rec} {is : List Row} {c : Cur}
     → Slots τ room own slot (t ∷ ts) (cur at row es (nulls k ∷ rs) is) c → all_take (take k (t ∷ ts)) ≡ true
 run_over_none (a_run t k l p u r d) = p
+run_over_none {τ = τ} {room = room} {own = own} {slot = slot} {at = at} {row = row} {k = k} {t = t} {ts = ts} {es = es} {rs = rs} {is = is} {c = c} (an_object_rule {c₁ = c₁} _ x23 _) = elim x23 [ ]
 
 -- likewise of a run with its count in four bytes
 pub long_run_within : {τ : Terms} {room own slot at row k : ℕ} {t : SlotType} {ts : List SlotType} {es : List Entry} {rs : List Rec} {is : List Row} {c : Cur}
     → Slots τ room own slot (t ∷ ts) (cur at row es (many_nulls k ∷ rs) is) c → (k ≤ length (t ∷ ts)) × (all_take (take k (t ∷ ts)) ≡ true)
 long_run_within (a_long_run t k l p u r d) = (l, p)
+long_run_within {τ = τ} {room = room} {own = own} {slot = slot} {at = at} {row = row} {k = k} {t = t} {ts = ts} {es = es} {rs = rs} {is = is} {c = c} (an_object_rule {c₁ = c₁} _ x23 _) = elim x23 [ ]
 
 -- a class that no earlier record has
 pub no_later_class : {τ : Terms} {rs : List Rec} {is : List Row} → Objects τ (cur 17 1 [] (class_by_id 1 2 ∷ rs) is) → ⊥
 no_later_class (one_object (class_by_id_rule i k e q d) o) = let z : ◌≡◌ {A = ℕ} 0 1 = cc in omega arith
+no_later_class {τ = τ} {rs = rs} (one_array {kind = kind} {i = i} {n = n} {ts = ts} {it = it} {is = is} {c = c} _ x32 _ _ _) = elim x32 [ ]
 
 -- one LibraryId for two libraries
 pub no_library_twice : {τ : Terms} {m n : Prefixed} {rs : List Rec} {is : List Row} → Objects τ (cur 17 1 [] (library 1 m ∷ library 1 n ∷ rs) is) → ⊥
 no_library_twice (one_library i k n q (one_library j l m r d)) = let z : ◌≡◌ {A = ℕ} 0 1 = cc in omega arith
+no_library_twice {τ = τ} {m = m} {n = n} {rs = rs} {is = is} (one_object {c₁ = c₁} x3 _) = elim x3 [ ]
+no_library_twice {τ = τ} {m = m} {n = n} {rs = rs} (one_array {kind = kind} {i = i} {ts = ts} {it = it} {is = is} {c = c} _ x33 _ _ _) = elim x33 [ ]
+no_library_twice {τ = τ} {m = m} {rs = rs} (one_library {it = it} {is = is} i k n q (one_object {c₁ = c₁} x13 _)) = elim x13 [ ]
+no_library_twice {τ = τ} {m = m} {rs = rs} (one_library {it = it} i k n q (one_array {kind = kind} {ts = ts} {is = is} {c = c} _ x43 _ _ _)) = elim x43 [ ]

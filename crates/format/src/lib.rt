@@ -2,6 +2,8 @@
 // counts, rows, frames, and what the readers of fields answer. The definitions that use them stand in specs/, in the order of the
 // format: replies, numbers, prefix, text, values, types, entries, rows, records, machine, view, contents, book, grammar, says, tidy. After them stand the
 // promises of the jobs, and worked examples that hold the definitions.
+#![tactic(auto)]
+
 ghost use Rattle.std.specs.Prelude.{◌≡◌, replicate};
 ghost use Rattle.format.specs.Replies.{number_of};
 ghost use Rattle.format.specs.Machine.{top_level};

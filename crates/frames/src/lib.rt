@@ -1,5 +1,7 @@
 // The open objects as the reader holds them: the frame of the innermost one is the reader's `top`, the frames around it lie in a lent
 // array of words, six to a frame, the outermost one first. An object is opened, its slots are filled, full objects are closed.
+#![tactic(auto)]
+
 ghost use Rattle.std.specs.Prelude.{◌≡◌, ◌∷◌, ◌+◌, ◌-◌, ◌≤◌, ◌<◌, length};
 ghost use Rattle.format.specs.Machine.{close, filled_by, filled, opened};
 ghost use Rattle.frames.specs.Frames.{frame_at, saved, open_of, Holds, Deeper};

@@ -1,4 +1,6 @@
 // The fields of a record, whatever its kind: the one function that asks the kind byte.
+#![tactic(auto)]
+
 ghost use Rattle.std.specs.Prelude.{◌≤◌, ◌<◌, ◌≡◌, true, false, length};
 ghost use Rattle.format.specs.Rows.{room_of, rows_of};
 ghost use Rattle.format.specs.Records.{heading_at};

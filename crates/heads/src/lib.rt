@@ -1,5 +1,7 @@
 // The pieces of records that are numbers alone: heads, the header, an object of a known class, a reference, a run of nulls. Numbers like 2.6.1 are
 // sections of MS-NRBF.
+#![tactic(auto)]
+
 ghost use Rattle.std.specs.Prelude.{◌++◌, ◌+◌};
 ghost use Rattle.format.specs.Numbers.{le_bytes};
 ghost use Rattle.put.specs.Out.{head_out, by_id_out, header_out, run_out};

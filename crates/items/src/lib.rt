@@ -1,4 +1,6 @@
 // Values in a row: the items of an array of primitives.
+#![tactic(auto)]
+
 ghost use Rattle.std.specs.Prelude.{◌≡◌};
 ghost use Rattle.format.specs.Values.{value_at, times, items_at};
 

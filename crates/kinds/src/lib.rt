@@ -1,4 +1,6 @@
 // What may stand where: the kind byte, judged by the place where it stands.
+#![tactic(auto)]
+
 ghost use Rattle.std.specs.Prelude.{◌<◌, ◌≡◌};
 ghost use Rattle.format.specs.declared.Where.TheVariants as W;
 ghost use Rattle.format.specs.Records.{is_kind, not_taken, in_slot, allowed, kind_of, kind_at};

@@ -1,4 +1,6 @@
 // The libraries that a record needs and that no record before it has named, as the tidy copy has them: each right before that record.
+#![tactic(auto)]
+
 ghost use Rattle.std.specs.Prelude.{◌≡◌, ◌+◌, ◌-◌, ◌≤◌, ◌<◌};
 ghost use Rattle.format.specs.Rows.{rows_of, room_of};
 ghost use Rattle.put.specs.Put.{Filled};

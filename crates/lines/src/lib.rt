@@ -1,5 +1,7 @@
 // Prints what reading a stream answers, as the listing has it: unsigned decimal words, one blank between, a newline after every line. What is
 // written cannot be promised; the programs' stored outputs hold it.
+#![tactic(auto)]
+
 use format::ReadAnswer;
 use libc::STDOUT_FILENO;
 

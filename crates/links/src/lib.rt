@@ -1,4 +1,6 @@
 // The links of references: every reference gets the row that it names, wherever that row stands, and so does the header.
+#![tactic(auto)]
+
 ghost use Rattle.std.specs.Prelude.{◌≡◌, ◌≤◌, ◌<◌};
 ghost use Rattle.format.specs.Rows.{room_of, rows_of, link_of};
 ghost use Rattle.links.specs.Links.{has_link, lost_by, Linking};

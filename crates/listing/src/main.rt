@@ -1,5 +1,7 @@
 // The listing: at most 65,535 bytes from standard input, a table of 1,024 rows. With the word `--lenient` length prefixes may be padded; after the word
 // `--book` stands the file of a class book of at most 1,048,575 bytes.
+#![tactic(auto)]
+
 use format::Setting;
 use libc::{STDERR_FILENO, STDIN_FILENO};
 use options::{Choice, Chosen};

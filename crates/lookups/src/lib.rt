@@ -1,4 +1,6 @@
 // Which row a number names: the row of an object, of a class or of a library.
+#![tactic(auto)]
+
 ghost use Rattle.std.specs.Prelude.{◌≡◌, ◌≤◌, ◌<◌, get_or};
 ghost use Rattle.format.specs.Rows.{blank, room_of, rows_of, is_object, is_class, is_untyped, find_from, object_row, class_row, library_row};
 ghost use Rattle.lookups.specs.Find.{id_of, is_of, named};

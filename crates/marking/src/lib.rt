@@ -1,5 +1,7 @@
 // The passes that put all marks into words of rows before anything is written: new numbers of objects, first rows of equal libraries and places of
 // type bytes, first rows of equal classes, new numbers of libraries with the place of the field that needs each first.
+#![tactic(auto)]
+
 ghost use Rattle.std.specs.Prelude.{◌≡◌, ◌≤◌, ◌<◌};
 ghost use Rattle.format.specs.Rows.{room_of, rows_of};
 ghost use Rattle.marks.specs.Marks.{pass, number_one, numbered, place_one, placed, first_one, firsts, needed, marked};

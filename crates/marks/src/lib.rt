@@ -1,5 +1,7 @@
 // The words of rows that tidying marks, and what stands at the places that rows name: the parts from which marks are made and by which the copy is
 // written. `specs/Marks.antt` says what the marks are.
+#![tactic(auto)]
+
 ghost use Rattle.std.specs.Prelude.{◌≡◌, ◌+◌, ◌-◌, ◌*◌, ◌≤◌, set};
 ghost use Rattle.format.specs.Rows.{room_of, rows_of, with_link};
 ghost use Rattle.format.specs.Says.{number_from};

@@ -1,5 +1,7 @@
 // Rows by the names of their words, the slots that they fill, and what the record of a class says of its members: names and primitive codes, found in
 // the stream where the class's row points. Every stream, table and row is taken; a row that is not there has words of 0.
+#![tactic(auto)]
+
 ghost use Rattle.std.specs.Prelude.{◌≡◌};
 ghost use Rattle.members.specs.Members.{word_of, row_in, named_row, depth_of, slots_filled, last_of, has_members, fields_row, names_at};
 ghost use Rattle.members.specs.Members.{after_strings, member_name, after_detail, detail_of, member_code, library_of, class_name};

@@ -1,4 +1,6 @@
 // Libraries are numbered by first need, in the order of the fields that name them: what a field, a class, an item type and a row need.
+#![tactic(auto)]
+
 ghost use Rattle.std.specs.Prelude.{◌≡◌, ◌≤◌};
 ghost use Rattle.format.specs.Rows.{room_of, rows_of};
 ghost use Rattle.marks.specs.Marks.{pass, need, need_info, need_infos, need_own, need_class, need_array, need_one};

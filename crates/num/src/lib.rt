@@ -1,5 +1,7 @@
 // Numbers of two, four and eight bytes at a place, the low byte first, and the sign of an INT32.
 // A number of which a byte is missing answers Short, whatever the place is.
+#![tactic(auto)]
+
 ghost use Rattle.std.specs.Prelude.{◌+◌, ◌*◌, ◌≤◌, length, ◌≡◌};
 ghost use Rattle.format.specs.Bytes.{part};
 ghost use Rattle.format.specs.Numbers.{le, u16_at, u32_at, u64_at, negative};

@@ -1,5 +1,7 @@
 // Writes what a row is in the tidy copy: strings, primitive values and arrays of them with new prefixes and records that are kept here, classes by the
 // crate `writing`, kind 7 by `arrays_out`; and the choice by kind. `anew` is the code whose values are written anew.
+#![tactic(auto)]
+
 ghost use Rattle.std.specs.Prelude.{◌+◌, ◌-◌, ◌≤◌, ◌<◌};
 ghost use Rattle.format.specs.Rows.{rows_of, room_of};
 ghost use Rattle.put.specs.Put.{Filled};

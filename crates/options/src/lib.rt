@@ -1,6 +1,8 @@
 // What the words of a call choose for each list: its setting and its class book. Without an option a list is read strictly and with an empty book;
 // `--lenient` and `--book FILE` are for every list of the call, and with `-first` or `-second` at their end they are for one of two. A call is wrong
 // with any other word where an option may stand, with an option that chooses what was chosen before, and where a file's name is missing.
+#![tactic(auto)]
+
 ghost use Rattle.std.specs.Prelude.{◌≡◌, ◌<◌};
 ghost use Rattle.format.specs.Bytes.{same_bytes};
 ghost use Rattle.options.specs.Options.{setting_word, option_of, names_book, for_one, lenient_first, lenient_second, lenient_both, book_first, book_second, book_both};

@@ -1,5 +1,7 @@
 // What stands at a place of a stream, for programs that show lists: bytes, numbers, the texts of strings, where lengths and values end. Every stream
 // and every place is taken; past the end stand zeros and empty texts.
+#![tactic(auto)]
+
 ghost use Rattle.std.specs.Prelude.{◌+◌, ◌-◌, ◌*◌, ◌≡◌};
 ghost use Rattle.peeking.specs.Peeking.{onward, byte_at, two_at, four_at, eight_at, string_span, after_string};
 ghost use Rattle.peeking.specs.Peeking.{after_lengths, char_size, fixed_size, after_value, is_plain, hidden_by, hidden_at, plain_end};

@@ -1,4 +1,6 @@
 // The length prefix of a text: reading it, its length, and writing it.
+#![tactic(auto)]
+
 ghost use Rattle.std.specs.Prelude.{◌≡◌, ◌+◌, ◌≤◌, ◌<◌, ◌%◌, ◌^◌, length};
 ghost use Rattle.format.specs.Bytes.{laid, Written};
 ghost use Rattle.format.specs.Prefix.{prefix_in, later_least, prefix_at, onto, groups_of, prefix_bytes};

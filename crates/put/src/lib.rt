@@ -1,5 +1,7 @@
 // Writers into the unwritten rest of the output. Each answers the length that its bytes need, whether they fit or not; where they fit
 // they are written.
+#![tactic(auto)]
+
 ghost use Rattle.std.specs.Prelude.{◌≡◌, [], ◌∷◌, ◌+◌};
 ghost use Rattle.format.specs.Numbers.{le_bytes};
 ghost use Rattle.put.specs.Out.{between, text_out, texts_out};

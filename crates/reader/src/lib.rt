@@ -1,5 +1,7 @@
 // Reading a stream into a lent table of rows: the loop over steps, what is judged after the end record, and the words that are
 // left in the table.
+#![tactic(auto)]
+
 ghost use Rattle.std.specs.Prelude.{◌≡◌, ◌≤◌, ◌<◌, length};
 ghost use Rattle.format.specs.Entries.{bad_entry};
 ghost use Rattle.format.specs.Rows.{room_of, rows_of};

@@ -1,5 +1,7 @@
 // What the fields of a record say: a function for each kind that has neither members nor slots, with its name and section in MS-NRBF. Every
 // field is judged where it stands: missing bytes, then its content, before the next one is looked at.
+#![tactic(auto)]
+
 ghost use Rattle.std.specs.Prelude.{◌≤◌, ◌<◌, ◌≡◌, length};
 ghost use Rattle.format.specs.Rows.{room_of, rows_of};
 ghost use Rattle.format.specs.Records.{header_at, string_record_at, typed_primitive_at, reference_at, nulls_at, long_nulls_at, library_at};

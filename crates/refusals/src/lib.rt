@@ -1,5 +1,7 @@
 // Tells people of a refusal: its number, its name, its place, when it is given, and the bytes around the place. What is written cannot be promised; the
 // programs' stored outputs hold it.
+#![tactic(auto)]
+
 use format::Refusal;
 use libc::STDOUT_FILENO;
 use spelling::{number, say};

@@ -1,5 +1,7 @@
 // What the public jobs and the comparing one reply, as numbers: 0 or the number of the refusal, its place, and a value. The forms for C hand
 // these on.
+#![tactic(auto)]
+
 ghost use Rattle.std.specs.Prelude.{◌-◌, ◌≡◌};
 ghost use Rattle.format.specs.Replies.{reply, read_reply, row_reply, tidy_reply, ending_of, list_of, same_of, same_reply};
 ghost use Rattle.replies.specs.Replies.{Answered, text_reply};

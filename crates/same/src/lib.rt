@@ -1,4 +1,6 @@
 // Two parts of one stream, compared.
+#![tactic(auto)]
+
 ghost use Rattle.std.specs.Prelude.{◌≡◌};
 ghost use Rattle.format.specs.Bytes.{same_part};
 

@@ -1,4 +1,6 @@
 // Do two parts lists say the same? Both are tidied, and two lists say the same exactly when their tidy copies are equal, byte for byte.
+#![tactic(auto)]
+
 ghost use Rattle.std.specs.Prelude.{◌≡◌};
 ghost use Rattle.sameness.specs.Sameness.{ComparePromise};
 ghost use Rattle.sameness.specs.Laws.{Against, compared_as};

@@ -1,4 +1,6 @@
 // The shape of an array: its rank, its lengths and their product.
+#![tactic(auto)]
+
 ghost use Rattle.std.specs.Prelude.{◌*◌, ◌≤◌, ◌<◌, ◌≡◌};
 ghost use Rattle.format.specs.Records.{good_rank, lengths_at};
 ghost use Rattle.shapes.specs.Lengths.{capped, judged};

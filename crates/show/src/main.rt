@@ -1,6 +1,8 @@
 // Shows a list to people: at most 65,535 bytes from standard input, a table of 1,024 rows. The rows are those of the listing, with names instead of
 // numbers, indented by owner; a refusal has its name, its number, its place and the bytes around that place. With the word `--lenient` length prefixes may
 // be padded; after the word `--book` stands the file of a class book of at most 1,048,575 bytes.
+#![tactic(auto)]
+
 ghost use Rattle.std.specs.Prelude.{◌≤◌};
 
 use format::{ReadAnswer, Refusal, Row, Setting};

@@ -1,4 +1,6 @@
 // A slot type as a word and back.
+#![tactic(auto)]
+
 ghost use Rattle.std.specs.Prelude.{◌≡◌, ◌+◌, ◌-◌, ◌<◌};
 ghost use Rattle.format.specs.Types.{code_number, primitive_of, coded};
 ghost use Rattle.slot_words.specs.Words.{slot_code, slot_from};

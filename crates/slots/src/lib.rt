@@ -1,4 +1,6 @@
 // The types of the slots that follow a record, one after the other: where the next one stands, and what waits there.
+#![tactic(auto)]
+
 ghost use Rattle.std.specs.Prelude.{◌≤◌, ◌<◌, ◌≡◌, length};
 ghost use Rattle.format.specs.Types.{slot_of, typed_at, past, after_text, after_info, book_typed, next_booked, moved, is_primitive, passed_of};
 

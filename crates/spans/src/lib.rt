@@ -1,5 +1,7 @@
 // The places of strings and details that were judged before: neither the form of a prefix nor a text is judged again. Where what
 // should stand at a place is not all there, the place after it is the place itself.
+#![tactic(auto)]
+
 ghost use Rattle.std.specs.Prelude.{◌≡◌, length};
 ghost use Rattle.format.specs.Text.{span_at};
 ghost use Rattle.format.specs.Types.{past, after_text, after_number, after_info};

@@ -1,5 +1,7 @@
 // Spells out what stands in the bytes of a stream, for people: numbers, texts with their control characters and quotation marks escaped, and primitive values by their
 // code. Every stream and every place is taken. What is written cannot be promised; the programs' stored outputs hold it.
+#![tactic(auto)]
+
 ghost use Rattle.std.specs.Prelude.{◌≤◌, ◌<◌, length};
 ghost use Rattle.floats.specs.Forms.{Small};
 

@@ -1,4 +1,6 @@
 // What a step does once its record's fields, or its member value, are good: one row more, and the open objects after it.
+#![tactic(auto)]
+
 ghost use Rattle.std.specs.Prelude.{◌≡◌, true, ◌-◌, ◌≤◌, ◌<◌, length};
 ghost use Rattle.format.specs.Rows.{room_of};
 ghost use Rattle.format.specs.Machine.{act, value_step, value_head};

@@ -1,5 +1,7 @@
 // Rows whose values keep all their bytes in the tidy copy and follow one another in the stream: their bytes are one part of it. `anew` is the code
 // whose values are written anew.
+#![tactic(auto)]
+
 ghost use Rattle.std.specs.Prelude.{◌≡◌, ◌≤◌, drop};
 ghost use Rattle.format.specs.Rows.{room_of, rows_of};
 ghost use Rattle.stretches.specs.Stretches.{is_plain, is_kept, is_next, stretch};

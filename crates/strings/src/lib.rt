@@ -1,4 +1,6 @@
 // The prefixed string at a place: its length prefix, then its text.
+#![tactic(auto)]
+
 ghost use Rattle.std.specs.Prelude.{◌≡◌};
 ghost use Rattle.format.specs.Text.{string_at};
 

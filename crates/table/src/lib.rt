@@ -1,5 +1,7 @@
 // The rows of the lent run of words: read, written, cleared. Of the crates that the
 // public jobs are made of, only this one knows that a row has eight words and where they lie.
+#![tactic(auto)]
+
 ghost use Rattle.std.specs.Prelude.{◌≡◌, [], ◌∷◌, ◌++◌, ◌+◌, ◌-◌, ◌*◌, ◌≤◌, ◌<◌, length, get_or, set, replicate};
 ghost use Rattle.format.specs.Rows.{blank, room_of, words, rows_of, with_link};
 

@@ -1,4 +1,6 @@
 // A record by what it does: it opens an object, fills its slot, passes a run of nulls, is a library or the end.
+#![tactic(auto)]
+
 ghost use Rattle.std.specs.Prelude.{◌≡◌, List, ℕ, ◌+◌, ◌-◌, ◌≤◌, ◌<◌, length};
 ghost use Rattle.format.specs.Rows.{room_of};
 ghost use Rattle.format.specs.Machine.{object, null_run, ending};

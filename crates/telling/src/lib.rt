@@ -1,5 +1,7 @@
 // Tells people what a row of a table says, with names instead of numbers. It reads the stream and the table that reading it filled, and takes every
 // stream and every table. What is written cannot be promised; the programs' stored outputs hold it.
+#![tactic(auto)]
+
 use format::{Row, RowAnswer, Setting, Span};
 use members::{named_row, row_at};
 use peeking::on;

@@ -1,4 +1,6 @@
 // The four public jobs and the comparing one in the forms that C and Rust call. Nothing else is public to a user.
+#![tactic(auto)]
+
 ghost use Rattle.std.specs.Prelude.{◌≡◌, length};
 ghost use Rattle.format.specs.Rows.{room_of};
 ghost use Rattle.format.specs.Machine.{read_of, read_answer, table_words};

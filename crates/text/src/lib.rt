@@ -1,4 +1,6 @@
 // Well-formed UTF-8 (Unicode 5.0, table 3-7), a scalar at a time, and text of a known length at a place.
+#![tactic(auto)]
+
 ghost use Rattle.std.specs.Prelude.{◌≡◌, ◌≤◌, ◌<◌, length, drop};
 ghost use Rattle.format.specs.Text.{need_of, well_formed, text_at};
 ghost use Rattle.text.specs.Scalars.{has_at, width_of, width_at};

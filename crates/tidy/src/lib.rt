@@ -1,5 +1,7 @@
 // The tidy copy of a parts list. The lent table is the only scratch memory: the rows are marked as they were read, references with their links, and
 // at the end the stream is read again, which leaves the reading in the table whatever stood there.
+#![tactic(auto)]
+
 ghost use Rattle.std.specs.Prelude.{◌≡◌, ◌≤◌, length};
 ghost use Rattle.format.specs.Promises.{TidyPromise};
 ghost use Rattle.tidy.specs.Top.{restored};

@@ -1,5 +1,7 @@
 // What a job leaves in the lent table and output, as hashes that programs print, what stands there before it, and the sizes and bytes of a
 // stream as they come. For comparing with the independent reader and tidier; what is written cannot be promised, what is hashed is.
+#![tactic(auto)]
+
 ghost use Rattle.std.specs.Prelude.{◌<◌, ◌≤◌, ◌≡◌, false, length};
 ghost use Rattle.traces.specs.Traces.{stirred, lanes_of, littered_words, littered_bytes, size_at};
 

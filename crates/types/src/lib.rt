@@ -1,5 +1,7 @@
 // Names, LibraryIds, type bytes and their details at a place, one and in a row. A field whose bytes are missing is cut
 // short, whatever the place is, before its bytes are judged.
+#![tactic(auto)]
+
 ghost use Rattle.std.specs.Prelude.{◌≡◌};
 ghost use Rattle.format.specs.Values.{on_end, times};
 ghost use Rattle.format.specs.Types.{type_byte_at, name_at, positive, library_id_at, info_at};

@@ -1,4 +1,6 @@
 // The forms of a value: bytes, a Boolean, a Char, a Decimal, a DateTime.
+#![tactic(auto)]
+
 ghost use Rattle.std.specs.Prelude.{◌≡◌};
 ghost use Rattle.format.specs.Values.{bytes_at, boolean_at, scalar_at, char_at, decimal_text, decimal_at, date_time_at};
 

@@ -1,5 +1,7 @@
 // A primitive value at a place, by its code: it answers the place after it, or the refusal. Bytes that are
 // missing are cut short, whatever the place is, before the bytes are judged.
+#![tactic(auto)]
+
 ghost use Rattle.std.specs.Prelude.{◌≡◌};
 ghost use Rattle.format.specs.Values.{size_of, value_at};
 

@@ -1,4 +1,6 @@
 // Primitive values as the tidy copy has them: a Decimal after the shortest prefix of its length, any other as it stands in the stream.
+#![tactic(auto)]
+
 ghost use Rattle.put.specs.Put.{Filled};
 ghost use Rattle.pieces.specs.Copy.{value_out, values_out};
 

@@ -1,5 +1,7 @@
 // The row question and the text view: whether a row has text, and that text as a part of the stream. The table may hold any words, so a
 // string record is judged by itself.
+#![tactic(auto)]
+
 ghost use Rattle.std.specs.Prelude.{◌≡◌};
 ghost use Rattle.format.specs.View.{record_text, row_text};
 ghost use Rattle.format.specs.Promises.{QuestionPromise, ViewPromise};

@@ -1,5 +1,7 @@
 // Writes the record of a class from marked rows, the libraries that it needs before it, and its later objects. Every writer takes the unwritten rest of the output and answers the
 // length that its bytes need; so the same functions measure and write.
+#![tactic(auto)]
+
 ghost use Rattle.std.specs.Prelude.{◌++◌, ◌+◌, ◌-◌, ◌≤◌, ◌<◌};
 ghost use Rattle.format.specs.Rows.{rows_of, room_of};
 ghost use Rattle.format.specs.Numbers.{le_bytes};
