@@ -10,7 +10,7 @@ ghost use Rattle.adding.specs.Held.{state_of, after};
 use format::{Head, Reader, Refusal, Row};
 
 // After a step: on, at the end record with the number of rows and the place after it, or refused.
-#[derive(Drop)]
+#[derive(Clone, Copy)]
 pub enum Step {
     Go(Reader),
     Ended(usize, usize),

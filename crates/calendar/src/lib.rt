@@ -55,14 +55,14 @@ pub fn days_of_month(year: u64, month: u64) -> u64
 // ---- the date of a day number
 
 // A year, and a day of it: 1 is the 1st of January.
-#[derive(Drop)]
+#[derive(Clone, Copy)]
 pub struct DayOfYear {
     pub year: u64,
     pub day: u64,
 }
 
 // Month and day are counted from 1.
-#[derive(Drop)]
+#[derive(Clone, Copy)]
 pub struct Date {
     pub year: u64,
     pub month: u64,
@@ -128,7 +128,7 @@ pub fn date_of(day: u64) -> Date
 // ---- the time of day
 
 // The time of day, to the tick: ten million ticks are a second.
-#[derive(Drop)]
+#[derive(Clone, Copy)]
 pub struct Clock {
     pub hours: u64,
     pub minutes: u64,

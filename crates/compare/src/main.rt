@@ -29,7 +29,7 @@ fn show(s: &[u8], book: &[u8], table: &mut [u32], setting: Setting) {
 }
 
 // What stands before a stream.
-#[derive(Drop)]
+#[derive(Clone, Copy)]
 pub struct Sizes {
     pub bytes: usize,
     pub words: usize,

@@ -35,7 +35,7 @@ fn show(s: &[u8], book: &[u8], table: &mut [u32], out: &mut [u8], setting: Setti
 }
 
 // What stands before a stream.
-#[derive(Drop)]
+#[derive(Clone, Copy)]
 pub struct Sizes {
     pub bytes: usize,
     pub words: usize,

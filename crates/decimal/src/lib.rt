@@ -8,7 +8,7 @@ ghost use Rattle.decimal.specs.Limbs.{Fine, Stands, read};
 
 // What has been read. phase: 0 nothing, 1 the minus, 2 the whole part, 3 the point, 4 the fraction, 5 refused.
 // The value of the whole part is hi * 10^15 + lo.
-#[derive(Drop)]
+#[derive(Clone, Copy)]
 pub struct Limbs {
     pub phase: u8,
     pub hi: u64,

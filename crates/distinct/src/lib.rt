@@ -10,7 +10,7 @@ ghost use Rattle.distinct.specs.Members.{first_member, next_member, same_member,
 use format::Row;
 
 // Where a member of a class stands: its name, its type byte and its detail.
-#[derive(Drop)]
+#[derive(Clone, Copy)]
 struct Cursor {
     name: usize,
     kind: usize,

@@ -11,7 +11,7 @@ ghost use Rattle.format.specs.Machine.{top_level};
 // ---- replies
 
 // The refusals, by name. `number_of` has their numbers.
-#[derive(Drop)]
+#[derive(Clone, Copy)]
 pub enum Refusal {
     TooLarge,
     CutShort,
@@ -68,14 +68,14 @@ pub fn number_of(r: Refusal) -> u32
 }
 
 // What reading a stream into a table answers: how many rows, or the refusal and its place.
-#[derive(Drop)]
+#[derive(Clone, Copy)]
 pub enum ReadAnswer {
     Accepted(usize),
     Refused(Refusal, usize),
 }
 
 // What the row question answers.
-#[derive(Drop)]
+#[derive(Clone, Copy)]
 pub enum RowAnswer {
     HasText,
     NoSuchRow,
@@ -83,7 +83,7 @@ pub enum RowAnswer {
 
 // What tidying answers: the copy's length; the refusal of the reading and its place; or, where the copy has no room, the length
 // that it needs.
-#[derive(Drop)]
+#[derive(Clone, Copy)]
 pub enum TidyAnswer {
     Written(usize),
     Refused(Refusal, usize),
@@ -92,7 +92,7 @@ pub enum TidyAnswer {
 
 // What comparing two lists answers: whether they say the same; or the first list whose reading is refused, with the refusal and its place; or the
 // first whose tidy copy has no room, with the length that it needs.
-#[derive(Drop)]
+#[derive(Clone, Copy)]
 pub enum Sameness {
     Same,
     Different,
@@ -105,16 +105,16 @@ pub enum Sameness {
 // ---- the two counts
 
 // The number of an object: an ObjectId, an IdRef, a MetadataId or a RootId.
-#[derive(Drop)]
+#[derive(Clone, Copy)]
 pub struct ObjectNo(pub u32);
 
 // The number of a library: a LibraryId.
-#[derive(Drop)]
+#[derive(Clone, Copy)]
 pub struct LibraryNo(pub u32);
 
 // ---- types
 
-#[derive(Drop)]
+#[derive(Clone, Copy)]
 pub enum PrimitiveCode {
     Boolean,
     Byte,
@@ -134,14 +134,14 @@ pub enum PrimitiveCode {
 }
 
 // What a byte says where a primitive code stands.
-#[derive(Drop)]
+#[derive(Clone, Copy)]
 pub enum Coded {
     Code(PrimitiveCode),
     NoCode,
 }
 
 // The type of a member or an item. The primitive cases hold their code; the other details are told apart by place alone.
-#[derive(Drop)]
+#[derive(Clone, Copy)]
 pub enum SlotType {
     Primitive(PrimitiveCode),
     Text,
@@ -154,7 +154,7 @@ pub enum SlotType {
 }
 
 // The type of a slot, the place of its type byte and the place of its detail. Where all slots are alike `types` is 0.
-#[derive(Drop)]
+#[derive(Clone, Copy)]
 pub struct Typed {
     pub slot: SlotType,
     pub types: u32,
@@ -163,54 +163,54 @@ pub struct Typed {
 
 // ---- fields: what stands at a place
 
-#[derive(Drop)]
+#[derive(Clone, Copy)]
 pub enum Number16 {
     Value(u16, usize),
     Short,
 }
 
-#[derive(Drop)]
+#[derive(Clone, Copy)]
 pub enum Number32 {
     Value(u32, usize),
     Short,
 }
 
-#[derive(Drop)]
+#[derive(Clone, Copy)]
 pub enum Number64 {
     Value(u64, usize),
     Short,
 }
 
 // How length prefixes are judged: strict takes the shortest form alone, lenient any form of at most five bytes whose fifth is at most 7.
-#[derive(Drop)]
+#[derive(Clone, Copy)]
 pub enum Setting {
     Strict,
     Lenient,
 }
 
 // A length prefix: its number, and the place after its bytes.
-#[derive(Drop)]
+#[derive(Clone, Copy)]
 pub enum Prefix {
     Length(u32, usize),
     Fault(Refusal),
 }
 
 // A prefixed string: where its text begins and ends.
-#[derive(Drop)]
+#[derive(Clone, Copy)]
 pub enum Text {
     Part(usize, usize),
     Fault(Refusal),
 }
 
 // Where the text of a string, or what a value says, begins and ends.
-#[derive(Drop)]
+#[derive(Clone, Copy)]
 pub struct Span {
     pub from: usize,
     pub to: usize,
 }
 
 // Any other field: the place after it.
-#[derive(Drop)]
+#[derive(Clone, Copy)]
 pub enum Field {
     End(usize),
     Fault(Refusal),
@@ -218,7 +218,7 @@ pub enum Field {
 
 // The state of the text check between two bytes. need: how many bytes must still follow, 4 where nothing can mend it; the next one
 // lies in lo..=hi.
-#[derive(Drop)]
+#[derive(Clone, Copy)]
 pub struct Utf8 {
     pub need: u8,
     pub lo: u8,
@@ -226,7 +226,7 @@ pub struct Utf8 {
 }
 
 // The lengths of an array: their exact product, and the place after the last.
-#[derive(Drop)]
+#[derive(Clone, Copy)]
 pub enum Slots {
     Product(u32, usize),
     Fault(Refusal),
@@ -236,7 +236,7 @@ pub enum Slots {
 
 // A row of the table: kind; offset; offset after its own bytes; id; owner, a row number plus 1; first slot filled; link, a row number
 // plus 1; count. While a stream is read the link of a class's row is the place of its type bytes, that of a member value's the number of its code.
-#[derive(Drop)]
+#[derive(Clone, Copy)]
 pub struct Row {
     pub kind: u32,
     pub offset: u32,
@@ -251,7 +251,7 @@ pub struct Row {
 // ---- records
 
 // Where a kind byte stands: at the start, at top level, or in a slot that takes strings, objects, or neither.
-#[derive(Drop)]
+#[derive(Clone, Copy)]
 pub enum Where {
     Start,
     Top,
@@ -261,7 +261,7 @@ pub enum Where {
 }
 
 // What a kind byte says where it stands.
-#[derive(Drop)]
+#[derive(Clone, Copy)]
 pub enum Kind {
     Taken(u8),
     Wrong(Refusal),
@@ -269,7 +269,7 @@ pub enum Kind {
 
 // What a record's fields say: its id, the place after them, its count, how many slots wait to be filled, the type of the first of
 // them, and the link word.
-#[derive(Drop)]
+#[derive(Clone, Copy)]
 pub struct Head {
     pub id: u32,
     pub end: usize,
@@ -279,7 +279,7 @@ pub struct Head {
     pub link: u32,
 }
 
-#[derive(Drop)]
+#[derive(Clone, Copy)]
 pub enum Heading {
     Fields(Head),
     Bad(Refusal),
@@ -289,7 +289,7 @@ pub enum Heading {
 
 // An object that is open: the number of its row plus 1, how many slots it has, how many are left, and the type of the next one. The
 // top level is such a frame too, with no slots.
-#[derive(Drop)]
+#[derive(Clone, Copy)]
 pub struct Frame {
     pub owner: u32,
     pub count: u32,
@@ -298,7 +298,7 @@ pub struct Frame {
 }
 
 // A null run over slots: the type of the slot after it, or it meets a primitive slot.
-#[derive(Drop)]
+#[derive(Clone, Copy)]
 pub enum Passed {
     Over(Typed),
     Crossed,
@@ -306,7 +306,7 @@ pub enum Passed {
 
 // The reader between two records: the place, how many rows there are, how many frames are saved below the innermost object, and its
 // frame.
-#[derive(Drop)]
+#[derive(Clone, Copy)]
 pub struct Reader {
     pub at: usize,
     pub rows: usize,

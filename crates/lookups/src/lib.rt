@@ -9,7 +9,7 @@ use format::{LibraryNo, ObjectNo};
 
 // What is looked up, by its number. Object numbers and library numbers are two separate counts; a class is a record of kind 4 or 5 and has the
 // number of its object.
-#[derive(Drop)]
+#[derive(Clone, Copy)]
 enum Wanted {
     Object(ObjectNo),
     Class(ObjectNo),

@@ -12,7 +12,7 @@ use format::Setting;
 use libc::STDERR_FILENO;
 
 // A word as an option.
-#[derive(Drop)]
+#[derive(Clone, Copy)]
 pub enum Word {
     Lenient,
     LenientFirst,
@@ -24,7 +24,7 @@ pub enum Word {
 }
 
 // What is chosen for two lists; a program with one list looks at the first. A book is the number of the word that names its file, 0 where there is none.
-#[derive(Drop)]
+#[derive(Clone, Copy)]
 pub struct Choice {
     pub first: Setting,
     pub second: Setting,
@@ -33,14 +33,14 @@ pub struct Choice {
 }
 
 // What a call chooses.
-#[derive(Drop)]
+#[derive(Clone, Copy)]
 pub enum Chosen {
     Take(Choice),
     Wrong,
 }
 
 // What is chosen by the words before a number.
-#[derive(Drop)]
+#[derive(Clone, Copy)]
 pub enum Before {
     Go(Choice, usize),
     Wrong,

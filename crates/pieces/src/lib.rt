@@ -2,7 +2,7 @@
 #![tactic(auto)]
 
 // Nulls of one object that wait to be written: the row of the object plus 1, and how many.
-#[derive(Drop)]
+#[derive(Clone, Copy)]
 pub struct Gathered {
     pub owner: u32,
     pub count: usize,

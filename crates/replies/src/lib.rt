@@ -9,7 +9,7 @@ ghost use Rattle.replies.specs.Replies.{Answered, text_reply};
 use format::{ReadAnswer, Refusal, RowAnswer, Sameness, Text, TidyAnswer};
 
 // 0 or the refusal's number, the place, and the value: how many rows, how many bytes the text has, or how long the copy is or would be.
-#[derive(Drop)]
+#[derive(Clone, Copy)]
 pub struct Reply {
     pub number: u32,
     pub place: u64,

@@ -9,7 +9,7 @@ ghost use Rattle.stretches.specs.Stretches.{is_plain, is_kept, is_next, stretch}
 use format::Row;
 
 // The row after the last of them, and the place where they end.
-#[derive(Drop)]
+#[derive(Clone, Copy)]
 pub struct Stretch {
     pub next: usize,
     pub end: u32,

@@ -31,7 +31,7 @@ pub fn litter_bytes(out: &mut [u8])
 }
 
 // Two lanes of a hash in which every word counts, and its place.
-#[derive(Drop)]
+#[derive(Clone, Copy)]
 pub struct Lanes {
     pub a: u64,
     pub b: u64,

@@ -16,7 +16,7 @@ use adding::Step;
 use format::{Kind, PrimitiveCode, Reader, Setting, SlotType, Where};
 
 // What a slot waits for: a member value, or a kind byte where one stands.
-#[derive(Drop)]
+#[derive(Clone, Copy)]
 pub enum Due {
     Value(PrimitiveCode),
     Record(Where),
