@@ -122,10 +122,11 @@ def in_antt(text, turn, found, proof):
 
 def in_rust(text, turn):
     camel = {n: new for n, new in turn.items() if re.search(r"[a-z][A-Z]", n)}
+    clauses = {n: new for n, new in turn.items() if not re.fullmatch(r"[a-z0-9_]+", n)}
 
     def line(l):
         code, dash, comment = l.partition("//")
-        return told(code, turn) + dash + (told(comment, camel) if dash else "")
+        return told(code, clauses) + dash + (told(comment, camel) if dash else "")
 
     return "\n".join(line(l) for l in text.split("\n"))
 

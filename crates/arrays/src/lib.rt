@@ -103,7 +103,7 @@ pub fn with_items(
 ) -> Heading
     ensures { result ≡ with_items setting s.now code id count at }
 {
-    match items::items_at_holds(s, code, count, at, setting) {
+    match items::items_at(s, code, count, at, setting) {
         Field::End(end) => plain_head(id, end, count),
         Field::Fault(f) => Heading::Bad(f),
     }

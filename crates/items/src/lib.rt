@@ -27,7 +27,7 @@ fn each_at(s: &[u8], code: PrimitiveCode, n: u32, at: usize, setting: Setting) -
 }
 
 // The n items of a primitive array: numbers in one step, judged values one by one.
-pub fn items_at_holds(s: &[u8], code: PrimitiveCode, n: u32, at: usize, setting: Setting) -> Field
+pub fn items_at(s: &[u8], code: PrimitiveCode, n: u32, at: usize, setting: Setting) -> Field
     ensures { result ≡ items_at setting s.now code n at }
 {
     let size = values::size_of(code);

@@ -70,7 +70,7 @@ fn place_all(s: &[u8], table: &mut [u32], n: usize)
 // ---- the first row of an equal class
 
 // A class's row gets the first row, plus 1, of an equal class as link.
-fn first_one_lem(s: &[u8], table: &mut [u32], n: usize, i: usize)
+fn first_one(s: &[u8], table: &mut [u32], n: usize, i: usize)
     requires { (n ≤ room_of table.old) × (n < 4294967296) }
     ensures { rows_of n table.new ≡ first_one s.now i (rows_of n table.old) }
 {
@@ -88,7 +88,7 @@ fn first_all(s: &[u8], table: &mut [u32], n: usize)
 {
     let mut i: usize = 0;
     while i < n {
-        first_one_lem(s, table, n, i);
+        first_one(s, table, n, i);
         i += 1;
     }
 }

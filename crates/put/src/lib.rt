@@ -88,7 +88,8 @@ pub fn put_part(out: &mut [u8], s: &[u8], a: usize, b: usize) -> usize
     if out.len() < n {
         return n;
     }
-    bytes::copy(&s[a..end], out)
+    out[..n].copy_from_slice(&s[a..end]);
+    n
 }
 
 // ---- texts

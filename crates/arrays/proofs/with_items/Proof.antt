@@ -11,5 +11,5 @@ with_items_spec =
     (λ c. search rules)
     (λ c κs. search rules)
     (λ c. search rules)
-    (λ c. rw (← c.before.before.before.before.items_at_holds.ensures, c.before.before.end.given.1) c.plain-head.ensures)
-    (λ c. rw (← c.before.before.before.items_at_holds.ensures, c.before.f.given.1)))
+    (λ c. rw (← c.before.before.before.before.items_at.ensures, c.before.before.end.given.1) c.plain-head.ensures)
+    (λ c. rw (← c.before.before.before.items_at.ensures, c.before.f.given.1)))

@@ -3,8 +3,8 @@ use borrow.Author.Rules.{rules}
 use mathlib.Core.Path.{sym, ◌∙◌}
 use native.Mathlib.Omega.{arith}
 use Rattle.value_forms.specs.Ends.{size_times, items_each, items_bytes_lem}
-use Rattle.items.proofs.items_at_holds.Statement.{statement}
-use Rattle.items.proofs.items_at_holds.Tie as tie
+use Rattle.items.proofs.items_at.Statement.{statement}
+use Rattle.items.proofs.items_at.Tie as tie
 
 pub items_at_spec : {M : Type 1} → statement M
 items_at_spec =

@@ -1,0 +1,16 @@
+-- The invariant: what is left of s from i on leads from the limbs' reading to where all of s leads from the beginning. The measure: the bytes left.
+use Prim.Native.Nat.{◌≤◌, ◌-◌}
+use mathlib.Core.Path.{◌≡◌, ◌∙◌, refl}
+use borrow.Author.Rules.{rules}
+use native.Mathlib.Omega.{arith}
+use lib.ListN.{length}
+use Rattle.format.specs.Values.{begun}
+use Rattle.decimal.specs.Limbs.{Fine, read}
+use Rattle.decimal.specs.Run.{run_from, run_step, run_end, whole_end, fraction_end}
+use Rattle.decimal.proofs.is_decimal.Given as goal
+
+abbrev pub invariant-loop-i : goal.invariant-loop-i
+invariant-loop-i l = (l.i ≤ length l.s) × Fine l.st × (run_from begun l.s 0 ≡ run_from (read l.st) l.s l.i)
+
+abbrev pub decreases-loop-i : goal.decreases-loop-i
+decreases-loop-i l = length l.s - l.i
