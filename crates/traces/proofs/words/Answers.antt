@@ -1,0 +1,19 @@
+-- Invariant: the lanes are the hash of the first i words. Measure: the words left.
+use Prim.Native.Nat.{◌-◌}
+use borrow.Author.Rules.{rules}
+use native.Mathlib.Omega.{arith}
+use lib.ListN.{length}
+use Rattle.traces.specs.Laws.{Hashed, hashed_none, hashed_more, hashed_all}
+use Rattle.traces.proofs.words.Goals as goal
+
+pub loop-i-init : goal.loop-i-init
+loop-i-init c = hashed_none _
+
+pub stir-l-requires : goal.stir-l-requires
+stir-l-requires c = c.loop-i.invariant.below
+
+pub loop-i-preserved : goal.loop-i-preserved
+loop-i-preserved c = hashed_more _ _ _ _ c.loop-i.invariant (omega arith) c.stir-l.ensures
+
+pub returns : goal.returns
+returns c = hashed_all _ _ _ c.loop-i.invariant (omega arith)
