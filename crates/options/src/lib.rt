@@ -9,7 +9,9 @@ ghost use Rattle.options.specs.Options.{setting_word, option_of, names_book, for
 ghost use Rattle.options.specs.Options.{plainly, chosen_by, next_to, taken, Onward};
 
 use format::Setting;
-use libc::STDERR_FILENO;
+use std::env::{Env, FillError};
+
+const STDERR: i32 = 2;
 
 // A word as an option.
 #[derive(Clone, Copy)]
@@ -263,12 +265,12 @@ pub fn taken(c: Choice, word: Word, i: usize, n: usize) -> Before
 // ---- the words of this call
 
 // What the option at word i of n adds, in a program with one list or with two. A word that is too long to be an option is taken as an empty one.
-fn word_at(c: Choice, i: usize, n: usize, two: bool) -> Before
+fn word_at(rt: &impl Env, c: Choice, i: usize, n: usize, two: bool) -> Before
     requires { i < n }
     ensures { Onward i n result }
 {
     let mut space = io::buffer();
-    let k = os::arg(i, &mut space);
+    let k = rt.arg(i, &mut space).unwrap_or(0);
     let word = option_of(&space[..k]);
     if two {
         return taken(c, word, i, n);
@@ -276,13 +278,24 @@ fn word_at(c: Choice, i: usize, n: usize, two: bool) -> Before
     taken(c, for_one(word), i, n)
 }
 
+// How many words the call has, the program's name among them. A word that is too long to be copied is one too.
+fn word_count(rt: &impl Env) -> usize {
+    let mut space = io::buffer();
+    for i in 0..usize::MAX {
+        if let Err(FillError::NotPresent) = rt.arg(i, &mut space) {
+            return i;
+        }
+    }
+    usize::MAX
+}
+
 // What the words from number `from` on choose; the program's name is number 0.
-fn words_from(from: usize, two: bool) -> Chosen {
-    let n = os::arg_count();
+fn words_from(rt: &impl Env, from: usize, two: bool) -> Chosen {
+    let n = word_count(rt);
     let mut c = unchosen();
     let mut i = from;
     while i < n {
-        match word_at(c, i, n, two) {
+        match word_at(rt, c, i, n, two) {
             Before::Go(d, next) => {
                 c = d;
                 i = next;
@@ -296,18 +309,18 @@ fn words_from(from: usize, two: bool) -> Chosen {
 }
 
 // What a call of a program chooses that takes options and no other words.
-pub fn one() -> Chosen {
-    words_from(1, false)
+pub fn one(rt: &impl Env) -> Chosen {
+    words_from(rt, 1, false)
 }
 
 // What a call of a program chooses that takes two files and then options.
-pub fn two() -> Chosen {
-    words_from(3, true)
+pub fn two(rt: &impl Env) -> Chosen {
+    words_from(rt, 3, true)
 }
 
 // Says to standard error how a program is called.
 pub fn usage(call: &[u8]) {
-    io::write_all(STDERR_FILENO, b"usage: ");
-    io::write_all(STDERR_FILENO, call);
-    io::write_all(STDERR_FILENO, b"\n");
+    io::write_all(STDERR, b"usage: ");
+    io::write_all(STDERR, call);
+    io::write_all(STDERR, b"\n");
 }
