@@ -3,16 +3,17 @@
 #![tactic(auto)]
 
 use format::ReadAnswer;
-use libc::STDOUT_FILENO;
+
+const STDOUT: i32 = 1;
 
 // Word i of the rows, and what follows it: a newline after the eighth of a row, else a blank.
 fn word(w: u32, i: usize) {
-    io::print_decimal(STDOUT_FILENO, w as u64);
+    io::print_decimal(STDOUT, w as u64);
     if i % 8 == 7 {
-        io::write_all(STDOUT_FILENO, b"\n");
+        io::write_all(STDOUT, b"\n");
         return;
     }
-    io::write_all(STDOUT_FILENO, b" ");
+    io::write_all(STDOUT, b" ");
 }
 
 // The words from 0 up to `end`, eight to a line.
@@ -29,18 +30,18 @@ fn words(table: &[u32], end: usize) {
 
 // `refused` number `at` place.
 pub fn refused(number: u32, place: usize) {
-    io::write_all(STDOUT_FILENO, b"refused ");
-    io::print_decimal(STDOUT_FILENO, number as u64);
-    io::write_all(STDOUT_FILENO, b" at ");
-    io::print_decimal(STDOUT_FILENO, place as u64);
-    io::write_all(STDOUT_FILENO, b"\n");
+    io::write_all(STDOUT, b"refused ");
+    io::print_decimal(STDOUT, number as u64);
+    io::write_all(STDOUT, b" at ");
+    io::print_decimal(STDOUT, place as u64);
+    io::write_all(STDOUT, b"\n");
 }
 
 // `accepted` and the number of rows, then the rows.
 pub fn accepted(table: &[u32], rows: usize) {
-    io::write_all(STDOUT_FILENO, b"accepted ");
-    io::print_decimal(STDOUT_FILENO, rows as u64);
-    io::write_all(STDOUT_FILENO, b"\n");
+    io::write_all(STDOUT, b"accepted ");
+    io::print_decimal(STDOUT, rows as u64);
+    io::write_all(STDOUT, b"\n");
     if rows <= table.len() / 8 {
         words(table, 8 * rows);
     }

@@ -6,7 +6,10 @@ ghost use Rattle.std.specs.Prelude.{◌<◌, ◌≤◌, ◌≡◌, false, length
 ghost use Rattle.traces.specs.Traces.{stirred, lanes_of, littered_words, littered_bytes, size_at};
 
 use format::Number32;
-use libc::{STDIN_FILENO, STDOUT_FILENO};
+
+const STDIN: i32 = 0;
+
+const STDOUT: i32 = 1;
 
 // The table holds something else before each stream.
 pub fn litter_words(table: &mut [u32])
@@ -75,22 +78,22 @@ pub fn bytes(out: &[u8]) -> Lanes
 }
 
 pub fn number(n: u64) {
-    io::print_decimal(STDOUT_FILENO, n);
+    io::print_decimal(STDOUT, n);
 }
 
 // A blank before each lane.
 pub fn print_lanes(l: Lanes) {
-    io::write_all(STDOUT_FILENO, b" ");
+    io::write_all(STDOUT, b" ");
     number(l.a);
-    io::write_all(STDOUT_FILENO, b" ");
+    io::write_all(STDOUT, b" ");
     number(l.b);
 }
 
 // `refused` number `at` place.
 pub fn refused(number_of: u32, place: usize) {
-    io::write_all(STDOUT_FILENO, b"refused ");
+    io::write_all(STDOUT, b"refused ");
     number(number_of as u64);
-    io::write_all(STDOUT_FILENO, b" at ");
+    io::write_all(STDOUT, b" at ");
     number(place as u64);
 }
 
@@ -112,6 +115,6 @@ pub fn missing(space: &mut [u8], n: usize) -> bool
     if space.len() < n {
         return true;
     }
-    let got = io::read_full(STDIN_FILENO, &mut space[..n]);
+    let got = io::read_full(STDIN, &mut space[..n]);
     got != n
 }
