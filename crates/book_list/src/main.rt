@@ -3,9 +3,10 @@
 #![tactic(auto)]
 
 use format::Refusal;
-use libc::STDIN_FILENO;
 use peeking::{byte_at, on};
 use spelling::{number, say};
+
+const STDIN: i32 = 0;
 
 // The prefixed text at a place, between quotation marks for names.
 fn named(book: &[u8], at: usize) {
@@ -140,7 +141,7 @@ fn told(book: &[u8]) {
 
 // The book on standard input, with room for it.
 fn shown(room: &mut [u8]) {
-    let n = io::read_full(STDIN_FILENO, room);
+    let n = io::read_full(STDIN, room);
     if n == 1048576 {
         say(b"unusable: a class book has at most 1,048,575 bytes here\n");
         return;

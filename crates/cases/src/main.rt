@@ -2,12 +2,13 @@
 #![tactic(auto)]
 
 use format::Setting;
-use libc::STDOUT_FILENO;
+
+const STDOUT: i32 = 1;
 
 // One stream with a table of 512 words.
 fn one(name: &[u8], s: &[u8]) {
-    io::write_all(STDOUT_FILENO, name);
-    io::write_all(STDOUT_FILENO, b": ");
+    io::write_all(STDOUT, name);
+    io::write_all(STDOUT, b": ");
     let mut table = [0u32; 512];
     let a = reader::read(s, b"", &mut table, Setting::Strict);
     lines::answer(&table, a);
@@ -15,8 +16,8 @@ fn one(name: &[u8], s: &[u8]) {
 
 // One stream with a table of 16 words.
 fn small(name: &[u8], s: &[u8]) {
-    io::write_all(STDOUT_FILENO, name);
-    io::write_all(STDOUT_FILENO, b": ");
+    io::write_all(STDOUT, name);
+    io::write_all(STDOUT, b": ");
     let mut table = [0u32; 16];
     let a = reader::read(s, b"", &mut table, Setting::Strict);
     lines::answer(&table, a);

@@ -6,13 +6,16 @@
 ghost use Rattle.std.specs.Prelude.{◌≡◌, length};
 
 use format::{ReadAnswer, Setting};
-use libc::{STDIN_FILENO, STDOUT_FILENO};
 use options::{Choice, Chosen};
+
+const STDIN: i32 = 0;
+
+const STDOUT: i32 = 1;
 
 fn answer(a: ReadAnswer) {
     match a {
         ReadAnswer::Accepted(rows) => {
-            io::write_all(STDOUT_FILENO, b"accepted ");
+            io::write_all(STDOUT, b"accepted ");
             traces::number(rows as u64);
         }
         ReadAnswer::Refused(r, place) => traces::refused(format::number_of(r), place),
@@ -25,7 +28,7 @@ fn show(s: &[u8], book: &[u8], table: &mut [u32], setting: Setting) {
     let a = reader::read(s, book, table, setting);
     answer(a);
     traces::print_lanes(traces::words(table));
-    io::write_all(STDOUT_FILENO, b"\n");
+    io::write_all(STDOUT, b"\n");
 }
 
 // What stands before a stream.
@@ -68,7 +71,7 @@ fn one(
 // The next stream. False where there is none, or it or its book is larger than the space for it.
 fn next(space: &mut [u8], book: &mut [u8], table: &mut [u32], setting: Setting) -> bool {
     let mut head = [0u8; 12];
-    let n = io::read_full(STDIN_FILENO, &mut head);
+    let n = io::read_full(STDIN, &mut head);
     if n != 12 {
         return false;
     }
@@ -120,8 +123,8 @@ fn usage() {
     options::usage(b"compare [--lenient]");
 }
 
-fn main() {
-    match options::one() {
+fn main(rt: HostRuntime) {
+    match options::one(&rt) {
         Chosen::Take(c) => chosen(c),
         Chosen::Wrong => usage(),
     }

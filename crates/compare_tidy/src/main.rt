@@ -6,18 +6,21 @@
 ghost use Rattle.std.specs.Prelude.{◌≡◌, length};
 
 use format::{Setting, TidyAnswer};
-use libc::{STDIN_FILENO, STDOUT_FILENO};
 use options::{Choice, Chosen};
+
+const STDIN: i32 = 0;
+
+const STDOUT: i32 = 1;
 
 fn answer(a: TidyAnswer) {
     match a {
         TidyAnswer::Written(n) => {
-            io::write_all(STDOUT_FILENO, b"written ");
+            io::write_all(STDOUT, b"written ");
             traces::number(n as u64);
         }
         TidyAnswer::Refused(r, place) => traces::refused(format::number_of(r), place),
         TidyAnswer::OutFull(needed) => {
-            io::write_all(STDOUT_FILENO, b"full ");
+            io::write_all(STDOUT, b"full ");
             traces::number(needed as u64);
         }
     }
@@ -31,7 +34,7 @@ fn show(s: &[u8], book: &[u8], table: &mut [u32], out: &mut [u8], setting: Setti
     answer(a);
     traces::print_lanes(traces::words(table));
     traces::print_lanes(traces::bytes(out));
-    io::write_all(STDOUT_FILENO, b"\n");
+    io::write_all(STDOUT, b"\n");
 }
 
 // What stands before a stream.
@@ -87,7 +90,7 @@ fn next(
     setting: Setting,
 ) -> bool {
     let mut head = [0u8; 16];
-    let n = io::read_full(STDIN_FILENO, &mut head);
+    let n = io::read_full(STDIN, &mut head);
     if n != 16 {
         return false;
     }
@@ -148,8 +151,8 @@ fn usage() {
     options::usage(b"compare_tidy [--lenient]");
 }
 
-fn main() {
-    match options::one() {
+fn main(rt: HostRuntime) {
+    match options::one(&rt) {
         Chosen::Take(c) => chosen(c),
         Chosen::Wrong => usage(),
     }

@@ -6,22 +6,29 @@
 ghost use Rattle.std.specs.Prelude.{◌≡◌, length};
 
 use format::{Setting, TidyAnswer};
-use libc::{STDERR_FILENO, STDIN_FILENO, STDOUT_FILENO};
 use options::{Choice, Chosen};
+use std::env::Env;
+use std::fs::Files;
+
+const STDIN: i32 = 0;
+
+const STDOUT: i32 = 1;
+
+const STDERR: i32 = 2;
 
 // `refused` number `at` place.
 fn refused(number: u32, place: usize) {
-    io::write_all(STDERR_FILENO, b"refused ");
-    io::print_decimal(STDERR_FILENO, number as u64);
-    io::write_all(STDERR_FILENO, b" at ");
-    io::print_decimal(STDERR_FILENO, place as u64);
-    io::write_all(STDERR_FILENO, b"\n");
+    io::write_all(STDERR, b"refused ");
+    io::print_decimal(STDERR, number as u64);
+    io::write_all(STDERR, b" at ");
+    io::print_decimal(STDERR, place as u64);
+    io::write_all(STDERR, b"\n");
 }
 
 // The first bytes of the output. A copy is never longer than its output, so the test only says so to the proof.
 fn written(out: &[u8], n: usize) {
     if n <= out.len() {
-        io::write_all(STDOUT_FILENO, &out[..n]);
+        io::write_all(STDOUT, &out[..n]);
     }
 }
 
@@ -51,7 +58,7 @@ fn table_room() -> [u32; 524288]
 // The copy with a book and under a setting.
 fn copied(book: &[u8], setting: Setting) {
     let mut space = io::large_buffer();
-    let n = io::read_full(STDIN_FILENO, &mut space);
+    let n = io::read_full(STDIN, &mut space);
     if n == 65536 {
         refused(1, 0);
         return;
@@ -63,10 +70,10 @@ fn copied(book: &[u8], setting: Setting) {
 }
 
 // The copy as the words of the call choose, with room for a book. A book is never longer than its room, so the second test only says so to the proof.
-fn chosen(room: &mut [u8], c: Choice) {
+fn chosen(rt: &(impl Env + Files), room: &mut [u8], c: Choice) {
     let setting = c.first;
-    let l = files::load_book(c.first_book, room);
-    if files::unusable_book(STDERR_FILENO, c.first_book, l) {
+    let l = files::load_book(rt, c.first_book, room);
+    if files::unusable_book(rt, STDERR, c.first_book, l) {
         return;
     }
     let k = l.size;
@@ -76,14 +83,14 @@ fn chosen(room: &mut [u8], c: Choice) {
 }
 
 // The call with a room for its book.
-fn called(c: Choice) {
+fn called(rt: &(impl Env + Files), c: Choice) {
     let mut room = files::book_room();
-    chosen(&mut room, c);
+    chosen(rt, &mut room, c);
 }
 
-fn main() {
-    match options::one() {
-        Chosen::Take(c) => called(c),
+fn main(rt: HostRuntime) {
+    match options::one(&rt) {
+        Chosen::Take(c) => called(&rt, c),
         Chosen::Wrong => options::usage(b"copy [--lenient] [--book FILE]"),
     }
 }

@@ -8,37 +8,40 @@ ghost use Rattle.std.specs.Prelude.{◌≡◌, not, ◌||◌, length, eqb};
 
 use files::Loaded;
 use format::{ReadAnswer, Refusal, Sameness, Setting};
-use libc::STDOUT_FILENO;
 use options::{Choice, Chosen};
 use spelling::{number, say};
+use std::env::Env;
+use std::fs::Files;
+
+const STDOUT: i32 = 1;
 
 // The file that argument i names, as a text.
-fn file_name(i: usize) {
+fn file_name(rt: &impl Env, i: usize) {
     let mut path = io::buffer();
-    let n = os::arg(i, &mut path);
+    let n = rt.arg(i, &mut path).unwrap_or(0);
     spelling::text(&path[..n]);
 }
 
 // A refusal, after the file that it is about.
-fn refused(i: usize, r: Refusal, place: usize) {
+fn refused(rt: &impl Env, i: usize, r: Refusal, place: usize) {
     say(b"refused: ");
-    file_name(i);
+    file_name(rt, i);
     say(b": ");
     refusals::refusal(r, place);
 }
 
 // Whether no list can be read from a file, since it was not opened or has more than 65,535 bytes; then it says so.
-fn unusable(i: usize, l: Loaded) -> bool
+fn unusable(rt: &impl Env, i: usize, l: Loaded) -> bool
     ensures { result ≡ (not l.opened || eqb l.size 65536) }
 {
     if !l.opened {
         say(b"unusable: ");
-        file_name(i);
+        file_name(rt, i);
         say(b": cannot be opened\n");
         return true;
     }
     if l.size == 65536 {
-        refused(i, Refusal::TooLarge, 0);
+        refused(rt, i, Refusal::TooLarge, 0);
         say(b"this program takes lists of at most 65,535 bytes\n");
         return true;
     }
@@ -98,6 +101,7 @@ fn different(
 
 // The answer on two lists, each with its own book and under its own setting.
 fn compared(
+    rt: &impl Env,
     a: &[u8],
     a_book: &[u8],
     b: &[u8],
@@ -116,10 +120,10 @@ fn compared(
         Sameness::Different => different(
             a, a_book, b, b_book, table, first, second, a_setting, b_setting,
         ),
-        Sameness::FirstRefused(r, place) => refused(1, r, place),
-        Sameness::SecondRefused(r, place) => refused(2, r, place),
-        Sameness::FirstFull(_) => refused(1, Refusal::OutFull, 0),
-        Sameness::SecondFull(_) => refused(2, Refusal::OutFull, 0),
+        Sameness::FirstRefused(r, place) => refused(rt, 1, r, place),
+        Sameness::SecondRefused(r, place) => refused(rt, 2, r, place),
+        Sameness::FirstFull(_) => refused(rt, 1, Refusal::OutFull, 0),
+        Sameness::SecondFull(_) => refused(rt, 2, Refusal::OutFull, 0),
     }
 }
 
@@ -138,11 +142,12 @@ fn table_room() -> [u32; 524288]
 }
 
 // Both lists, with room for their copies.
-fn both(a: &[u8], a_book: &[u8], b: &[u8], b_book: &[u8], a_setting: Setting, b_setting: Setting) {
+fn both(rt: &impl Env, a: &[u8], a_book: &[u8], b: &[u8], b_book: &[u8], a_setting: Setting, b_setting: Setting) {
     let mut table = table_room();
     let mut first = copy_room();
     let mut second = copy_room();
     compared(
+        rt,
         a,
         a_book,
         b,
@@ -156,52 +161,52 @@ fn both(a: &[u8], a_book: &[u8], b: &[u8], b_book: &[u8], a_setting: Setting, b_
 }
 
 // The lists in both files, each with its own book and under its own setting.
-fn lists(a_book: &[u8], b_book: &[u8], a_setting: Setting, b_setting: Setting) {
+fn lists(rt: &(impl Env + Files), a_book: &[u8], b_book: &[u8], a_setting: Setting, b_setting: Setting) {
     let mut a = io::large_buffer();
     let mut b = io::large_buffer();
-    let p = files::load(1, &mut a);
-    if unusable(1, p) {
+    let p = files::load(rt, 1, &mut a);
+    if unusable(rt, 1, p) {
         return;
     }
-    let q = files::load(2, &mut b);
-    if unusable(2, q) {
+    let q = files::load(rt, 2, &mut b);
+    if unusable(rt, 2, q) {
         return;
     }
     let m = p.size;
     let n = q.size;
     if m <= a.len() {
         if n <= b.len() {
-            both(&a[..m], a_book, &b[..n], b_book, a_setting, b_setting);
+            both(rt, &a[..m], a_book, &b[..n], b_book, a_setting, b_setting);
         }
     }
 }
 
 // The lists as the words of the call choose, with room for their books, which are looked for first.
-fn chosen(a: &mut [u8], b: &mut [u8], c: Choice) {
+fn chosen(rt: &(impl Env + Files), a: &mut [u8], b: &mut [u8], c: Choice) {
     let first = c.first;
     let second = c.second;
-    let p = files::load_book(c.first_book, a);
-    if files::unusable_book(STDOUT_FILENO, c.first_book, p) {
+    let p = files::load_book(rt, c.first_book, a);
+    if files::unusable_book(rt, STDOUT, c.first_book, p) {
         return;
     }
-    let q = files::load_book(c.second_book, b);
-    if files::unusable_book(STDOUT_FILENO, c.second_book, q) {
+    let q = files::load_book(rt, c.second_book, b);
+    if files::unusable_book(rt, STDOUT, c.second_book, q) {
         return;
     }
     let m = p.size;
     let n = q.size;
     if m <= a.len() {
         if n <= b.len() {
-            lists(&a[..m], &b[..n], first, second);
+            lists(rt, &a[..m], &b[..n], first, second);
         }
     }
 }
 
 // The call with rooms for its books.
-fn called(c: Choice) {
+fn called(rt: &(impl Env + Files), c: Choice) {
     let mut a = files::book_room();
     let mut b = files::book_room();
-    chosen(&mut a, &mut b, c);
+    chosen(rt, &mut a, &mut b, c);
 }
 
 // How the program is called.
@@ -212,9 +217,9 @@ fn usage() {
     say(b"[--book FILE|--book-first FILE|--book-second FILE]\n");
 }
 
-fn main() {
-    match options::two() {
-        Chosen::Take(c) => called(c),
+fn main(rt: HostRuntime) {
+    match options::two(&rt) {
+        Chosen::Take(c) => called(&rt, c),
         Chosen::Wrong => usage(),
     }
 }

@@ -3,8 +3,9 @@
 #![tactic(auto)]
 
 use format::Refusal;
-use libc::STDOUT_FILENO;
 use spelling::{number, say};
+
+const STDOUT: i32 = 1;
 
 fn name(r: Refusal) {
     match r {
@@ -88,12 +89,12 @@ pub fn refusal(r: Refusal, place: usize) {
 fn byte(b: u8, marked: bool) {
     if marked {
         say(b" [");
-        io::print_hex(STDOUT_FILENO, b as u64, 2);
+        io::print_hex(STDOUT, b as u64, 2);
         say(b"]");
         return;
     }
     say(b" ");
-    io::print_hex(STDOUT_FILENO, b as u64, 2);
+    io::print_hex(STDOUT, b as u64, 2);
 }
 
 // The bytes from a place up to an end, the one at the marked place in brackets.

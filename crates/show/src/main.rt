@@ -6,9 +6,14 @@
 ghost use Rattle.std.specs.Prelude.{◌≤◌};
 
 use format::{ReadAnswer, Refusal, Row, Setting};
-use libc::{STDERR_FILENO, STDIN_FILENO};
 use options::{Choice, Chosen};
 use spelling::{number, say};
+use std::env::Env;
+use std::fs::Files;
+
+const STDIN: i32 = 0;
+
+const STDERR: i32 = 2;
 
 // The same words n times.
 fn repeated(words: &[u8], n: usize) {
@@ -113,7 +118,7 @@ fn answer(s: &[u8], book: &[u8], table: &[u32], a: ReadAnswer, setting: Setting)
 // The list with a book and under a setting.
 fn list(book: &[u8], setting: Setting) {
     let mut space = io::large_buffer();
-    let n = io::read_full(STDIN_FILENO, &mut space);
+    let n = io::read_full(STDIN, &mut space);
     if n == 65536 {
         say(b"refused: ");
         refusals::refusal(Refusal::TooLarge, 0);
@@ -126,10 +131,10 @@ fn list(book: &[u8], setting: Setting) {
 }
 
 // The list as the words of the call choose, with room for a book. A book is never longer than its room, so the second test only says so to the proof.
-fn chosen(room: &mut [u8], c: Choice) {
+fn chosen(rt: &(impl Env + Files), room: &mut [u8], c: Choice) {
     let setting = c.first;
-    let l = files::load_book(c.first_book, room);
-    if files::unusable_book(STDERR_FILENO, c.first_book, l) {
+    let l = files::load_book(rt, c.first_book, room);
+    if files::unusable_book(rt, STDERR, c.first_book, l) {
         return;
     }
     let k = l.size;
@@ -139,14 +144,14 @@ fn chosen(room: &mut [u8], c: Choice) {
 }
 
 // The call with a room for its book.
-fn called(c: Choice) {
+fn called(rt: &(impl Env + Files), c: Choice) {
     let mut room = files::book_room();
-    chosen(&mut room, c);
+    chosen(rt, &mut room, c);
 }
 
-fn main() {
-    match options::one() {
-        Chosen::Take(c) => called(c),
+fn main(rt: HostRuntime) {
+    match options::one(&rt) {
+        Chosen::Take(c) => called(&rt, c),
         Chosen::Wrong => options::usage(b"show [--lenient] [--book FILE]"),
     }
 }

@@ -7,17 +7,18 @@ ghost use Rattle.floats.specs.Forms.{Small};
 
 use floats::Form;
 use format::Span;
-use libc::STDOUT_FILENO;
 use peeking::{byte_at, on, u16_at, u32_at, u64_at};
+
+const STDOUT: i32 = 1;
 
 // ---- words, numbers and texts
 
 pub fn say(words: &[u8]) {
-    io::write_all(STDOUT_FILENO, words);
+    io::write_all(STDOUT, words);
 }
 
 pub fn number(n: u64) {
-    io::print_decimal(STDOUT_FILENO, n);
+    io::print_decimal(STDOUT, n);
 }
 
 // A signed number by its unsigned bits, which are at most `most`, all bits of its width.
@@ -48,7 +49,7 @@ fn escaped(b: u8) {
         96 => say(b"\\`"),
         _ => {
             say(b"\\x");
-            io::print_hex(STDOUT_FILENO, b as u64, 2);
+            io::print_hex(STDOUT, b as u64, 2);
         }
     }
 }
@@ -150,7 +151,7 @@ fn char_value(s: &[u8], at: usize) {
 // The bits, as hexadecimal digits, behind what does not say them all.
 fn bits(n: u64, width: usize) {
     say(b" (bits ");
-    io::print_hex(STDOUT_FILENO, n, width);
+    io::print_hex(STDOUT, n, width);
     say(b")");
 }
 
