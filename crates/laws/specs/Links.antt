@@ -178,6 +178,7 @@ module _ (i : ℕ) where
   there [] is w j h e = absurd (omega arith)
   there (r ∷ rs) (it ∷ is) (one_row b w) zero h e = let v = names r it b e in rw (v.0, eq-eqb i it.id (sym v.1))
   there (r ∷ rs) (it ∷ is) (one_row b w) (suc j) h e = among_right i (pick (is_object it.kind) (it.id ∷ []) []) (row_ids is) (there rs is w j (omega arith) e)
+  there (r ∷ rs) [] w j h e = elim w [ ]
 
   -- the record that has it has the first row with it
   found_from : (k : ℕ) (rs : List Rec) (is : List Row) → Besides rs is → Once (row_ids is) → (j : ℕ) → j < length rs → id_of (get_or rs j end) ≡ i ∷ []
@@ -196,6 +197,7 @@ module _ (i : ℕ) where
           differ (sym y ∙ o.0)
       go true false x o onward = let z = onward o.1 in omega arith
       go false q x o onward = let z = onward o in omega arith
+  found_from k (r ∷ rs) [] w o j h e = elim w [ ]
 
   -- and a row that is found has such a record
   held_from : (k : ℕ) (rs : List Rec) (is : List Row) → Besides rs is → eqb (find_from named k is) 0 ≡ false
@@ -216,6 +218,8 @@ module _ (i : ℕ) where
       go true true x y e onward = (0, (record { inside = omega arith; id = y ∙ ap (λ (n : ℕ). n ∷ []) (eqb-true it.id i x) }, refl))
       go true false x y e onward = after (onward e)
       go false q x y e onward = after (onward e)
+  held_from k [] (it ∷ is) x4 e = elim x4 [ ]
+  held_from k (r ∷ rs) [] x4 e = elim x4 [ ]
 
 -- ---- the links, made and said
 
@@ -250,6 +254,7 @@ module _ (all : List Rec) (raw : List Row) (besides : Besides all raw) (once : O
   links_made : (rs : List Rec) (is rows : List Row) → Besides rs is → Links all is rows → rows ≡ map (λ (it : Row). with_link it (link_of raw it)) is
   links_made rs is rows w no_links = refl
   links_made (r ∷ rs) (it ∷ is) (row ∷ rows) (one_row b w) (one_link l d) = ap₂ (λ (x : Row) (xs : List Row). x ∷ xs) (link_made r it row b l) (links_made rs is rows w d)
+  links_made [] (_ ∷ _) (_ ∷ _) w (one_link {it = it} {row = row} {is = is} {rows = rows} l d) = elim w [ ]
 
   -- the other way: what is linked is there
   link_said : (r : Rec) (it : Row) → Beside r it → (it.kind ≡ 0 → eqb (object_row it.id raw) 0 ≡ false) → (it.kind ≡ 9 → eqb (object_row it.id raw) 0 ≡ false)
@@ -281,6 +286,8 @@ module _ (all : List Rec) (raw : List Row) (besides : Besides all raw) (once : O
       one_link
       (link_said r it b (λ e. differ (sym (eq-eqb it.kind 0 e) ∙ later.0)) (λ e. target it.id (rw (eq-eqb it.kind 9 e, eq-eqb it.id it.id refl))))
       (links_said rs is w later.1 (λ i m. target i (among_right i (pick (eqb it.kind 9) (it.id ∷ []) []) (row_refs is) m)))
+  links_said [] (it ∷ is) x6 later target = elim x6 [ ]
+  links_said (r ∷ rs) [] x5 later target = elim x5 [ ]
 
 -- ---- the rows of a reading
 

@@ -1,0 +1,26 @@
+-- The invariant: the entries from p on answer what all of them answer. The measure: how many bytes are left.
+use borrow.Author.Rules.{rules}
+use Prim.Native.Nat.{◌-◌}
+use mathlib.Core.Path.{◌≡◌, sym, ◌∙◌}
+use native.Mathlib.Omega.{arith}
+use lib.ListN.{length}
+use Rattle.format.specs.Entries.{bad_from, bad_entry}
+use Rattle.book.specs.Moves.{entry_moves, bad_whole, bad_none, bad_more, bad_here}
+use Rattle.book.proofs.bad_entry.Goals as goal
+
+pub loop-p-init : goal.loop-p-init
+loop-p-init c = bad_whole _
+
+pub loop-p-smaller : goal.loop-p-smaller
+loop-p-smaller c =
+    let m = entry_moves _ _ _ (sym c.entry_at.ensures ∙ c.in-End.is) in
+    omega (arith, m.0, m.1, c.loop-p-test.true)
+
+pub loop-p-preserved : goal.loop-p-preserved
+loop-p-preserved c = c.loop-p.invariant ∙ bad_more _ _ _ (omega arith) c.entry_at.ensures _ c.in-End.is
+
+pub returns-in-Fault : goal.returns-in-Fault
+returns-in-Fault c = sym (c.loop-p.invariant ∙ bad_here _ _ _ (omega arith) c.entry_at.ensures _ c.in-Fault.is)
+
+pub returns : goal.returns
+returns c = sym (c.loop-p.invariant ∙ bad_none _ _ _ (omega arith))

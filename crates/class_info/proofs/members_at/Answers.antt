@@ -1,0 +1,21 @@
+-- One law for each answer; the type bytes begin where the names end, which is within the stream.
+use borrow.Author.Rules.{rules}
+use mathlib.Core.Path.{sym, ◌∙◌}
+use Rattle.class_info.specs.Moves.{names_there}
+use Rattle.class_info.specs.Stages.{names_end, names_bad}
+use Rattle.class_info.proofs.members_at.Goals as goal
+
+pub typed_members_at-requires : goal.typed_members_at-requires
+typed_members_at-requires c =
+    let w = names_there _ _ _ _ _ c.requires.2
+    (sym c.names_at.ensures ∙ c.in-End.is) in
+    (c.requires.0, c.requires.1, w.1)
+
+pub returns-in-End : goal.returns-in-End
+returns-in-End c =
+    c.typed_members_at.ensures
+    ∙ sym (names_end _ _ _ _ _ _ _ _
+    (sym c.names_at.ensures ∙ c.in-End.is))
+
+pub returns-in-Fault : goal.returns-in-Fault
+returns-in-Fault c = sym (names_bad _ _ _ _ _ _ _ _ (sym c.names_at.ensures ∙ c.in-Fault.is))

@@ -1,0 +1,6 @@
+-- The two bytes are those of the definition.
+use borrow.Author.Rules.{rules}
+use Rattle.slots.proofs.booked_at.Goals as goal
+
+pub returns : goal.returns
+returns c = rw (c.slot_of-slot.ensures, c.byte_at-2.ensures, c.byte_at.ensures)

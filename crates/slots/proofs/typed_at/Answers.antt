@@ -1,0 +1,8 @@
+-- The slot type is that of the two bytes.
+use borrow.Author.Rules.{rules}
+use Rattle.format.specs.Types.{typed_at}
+use Rattle.slots.proofs.typed_at.Goals as goal
+
+pub returns : goal.returns
+unfolding typed_at
+returns c = rw (c.slot_of-slot.ensures, c.byte_at-2.ensures, c.byte_at.ensures)

@@ -1,0 +1,6 @@
+-- Where the span ends.
+use borrow.Author.Rules.{rules}
+use Rattle.spans.proofs.after_text.Goals as goal
+
+pub returns : goal.returns
+returns c = rw c.span_at-span.ensures

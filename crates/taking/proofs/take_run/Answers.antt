@@ -1,0 +1,16 @@
+-- The test of the slots left, then what `pass` found.
+use mathlib.Core.Path.{◌∙◌}
+use Rattle.format.specs.Rows.{room_of}
+use Rattle.adding.specs.Held.{state_of}
+use Rattle.adding.specs.Laws.{run_long, run_over_lem, run_crossed}
+use borrow.Author.Rules.{rules}
+use Rattle.taking.proofs.take_run.Goals as goal
+
+pub returns-then-m-n : goal.returns-then-m-n
+returns-then-m-n c = run_long c.args.book.now c.args.s.now (room_of c.args.table.now) (state_of c.args.table.now c.args.frames.now c.args.m) c.args.kind c.args.h c.if-m-n.true
+
+pub returns-in-Over : goal.returns-in-Over
+returns-in-Over c = c.take_slots.ensures ∙ run_over_lem c.args.book.now c.args.s.now (room_of c.args.table.now) (state_of c.args.table.now c.args.frames.now c.args.m) c.args.kind c.args.h c.if-m-n.false c.pass-p.result c.pass-p.ensures _ c.in-Over.is
+
+pub returns-in-Crossed : goal.returns-in-Crossed
+returns-in-Crossed c = run_crossed c.args.book.now c.args.s.now (room_of c.args.table.now) (state_of c.args.table.now c.args.frames.now c.args.m) c.args.kind c.args.h c.if-m-n.false c.pass-p.result c.pass-p.ensures c.in-Crossed.is
