@@ -11,7 +11,7 @@ use Rattle.format.specs.declared.PrimitiveCode.{PrimitiveCode}
 use Rattle.format.specs.Bytes.{pick, same_bytes}
 use Rattle.format.specs.Contents.{Prefixed, shortest, has_prefix, bytes_in, Rec, header, class_by_id, system_class, library_class, string, array, typed_primitive, reference, null, nulls, many_nulls, end, library, primitive_array, object_array, string_array, value, enc, encs, From, the_system, the_library, Class}
 use Rattle.format.specs.Grammar.{Content, number, boolean, scalar, exact, moment, PrefixIf, Value, size}
-use Rattle.format.specs.Own.{sized_exactly}
+use Rattle.format.proofs.Own.{sized_exactly}
 use Rattle.format.specs.Says.{What, an_object, a_string, an_array, a_primitive, a_reference, a_null, a_primitive_array, an_object_array, a_string_array, a_value, Node}
 use Rattle.format.specs.Tidy.{same_class, number_in, Progress, Libraries, library_records, entered, all_entered, class_needs, detail_needs, class_by, object_by, after_object, records_of, after_what, run_of}
 use Rattle.fields.specs.Judged.{picked}

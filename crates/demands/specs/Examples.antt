@@ -22,7 +22,8 @@ use Rattle.format.specs.Says.{objects_in, order_of, what_from, spread, nodes_of,
 use Rattle.format.specs.Tidy.{records_of, after_what, pack, run_of, written, waiting, squeeze, tidy_records, tidy_of}
 use Rattle.format.specs.Examples.{hex_onto, failing, None}
 use Rattle.num.specs.Le.{Bytes}
-use Rattle.format.specs.CounterExamples.{H, A, case2, case6, sevens, run_list, string_rows, prefixed_rows, case7, table, counter_examples as starred}
+use Rattle.format.specs.CounterExamples.{H, A, case2, case6, sevens, run_list, string_rows, prefixed_rows, case7, table}
+use Rattle.format.proofs.CounterExamples.{counter_examples as starred}
 use Rattle.laws.specs.Tests.{both_of}
 use Rattle.books.specs.Books.{book_taken}
 use Rattle.demands.specs.Readings.{accepted_exactly, no_reading}

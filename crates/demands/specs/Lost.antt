@@ -11,7 +11,7 @@ use Rattle.format.specs.Grammar.{Book, Ranked, single, jagged, product, no_lengt
 use Rattle.format.specs.Says.{what_from, spread, nodes_of, nodes_from, Model, says, SayTheSame}
 use Rattle.format.specs.Meant.{found, libraries_of, classes_of, order_after, name_by, class_by, order_by, walk, meant, meant_by}
 use Rattle.format.specs.Tidy.{number_in, entered, all_entered, library_records, records_of, after_what, pack, run_of, written, waiting, squeeze, tidy_records, tidy_of}
-use Rattle.format.specs.Meanings.{array_type_told}
+use Rattle.format.proofs.Meanings.{array_type_told}
 use Rattle.laws.specs.Links.{linked_links}
 use Rattle.demands.specs.Books.{no_book}
 use Rattle.demands.specs.Exactly.{same_meant}

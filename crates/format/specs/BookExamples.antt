@@ -75,7 +75,3 @@ books =
 unfoldable pub misjudged : ℕ → List Judged → List ℕ
 misjudged k [] = []
 misjudged k (b ∷ bs) = pick (eqb (bad_entry b.book) b.bad) [] (k ∷ []) ++ misjudged (suc k) bs
-
-pub book_examples : None (misjudged 0 books)
-unfolding books misjudged bad_entry bad_from entry_at origin_at counted_at described_at coded_info_at info_at name_at type_byte_at code_at primitive_of times string_at text_at well_formed after step_of lead_of hi_of lo_of need_of prefix_in hex_onto
-book_examples = tt

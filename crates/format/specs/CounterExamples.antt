@@ -91,7 +91,7 @@ case12 =
 abbrev pub text : List ℕ
 text = 1 ∷ 4 ∷ hex 4 0x31324535
 
-pub table : List Example
+unfoldable pub table : List Example
 table =
     entry [] 64 64 (refuses 2 0) as_read
     ∷ entry case2 64 64 (accepts (string_rows 1) text) (writes case2)
@@ -119,7 +119,3 @@ table =
     ∷ leniently (H ++ (6 ∷ (le_bytes 4 1 ++ hex 2 0x8400))) 64 64 (refuses 2 17) as_read
     ∷ leniently (empty_in 5 0x8080808000) 64 64 (accepts (prefixed_rows 27) (1 ∷ 0 ∷ [])) (writes (empty_in 1 0))
     ∷ []
-
-pub counter_examples : None (failing 0 table)
-unfolding table holds failing tidy_table tidy_output tidy_answer tidy_of tidy_records squeeze waiting written run_of pack after_what records_of library_records all_entered entered number_in same_class same_members same_detail says nodes_from nodes_of spread what_from order_of objects_in array_from value_code code_in items_from class_from typed_from members_from detail_from library_name after_texts numbers_from encs enc table_words read_answer read_of raw_of stream_of bad_entry bad_from run finish step value_step record_step act ending null_run object add opened filled close heading_at binary_array_at rank_at item_type_at lengths_at primitive_array_at slot_array_at class_by_id_at first_type class_at members_at infos_at info_known library_at long_nulls_at nulls_at reference_at typed_primitive_at string_record_at header_at own_library_at kind_at kind_of allowed linked link_of library_row class_row object_row find_from words passed_of passed moved after_info typed_at slot_of info_at library_id_at name_at type_byte_at code_at primitive_of items_at times value_span value_at date_time_at decimal_at decimal_text decimal decimal_after decimal_byte digit fraction_digit whole_digit char_at scalar_at boolean_at bytes_at span_at string_at text_at well_formed after step_of lead_of hi_of lo_of need_of groups_of groups_in prefix_of prefix_in le_bytes u64_at u32_at le laid same_bytes hex_onto texts_from row_question text_view row_text record_text
-counter_examples = tt

@@ -140,7 +140,7 @@ abbrev items_end : ℕ → List ℕ
 items_end code = shown_field (items_at Q.Strict (replicate 24 1) (coded (primitive_of code)) 3 0)
 
 -- of each, one after the other
-unfoldable each : (ℕ → List ℕ) → List ℕ → List ℕ
+unfoldable pub each : (ℕ → List ℕ) → List ℕ → List ℕ
 each f [] = []
 each f (x ∷ l) = f x ++ each f l
 
@@ -177,7 +177,7 @@ padded_asked σ = (row_reply (row_question σ record8 row8 0)).number ∷ []
 
 -- ---- the table
 
-pub fields : List Worked
+unfoldable pub fields : List Worked
 fields =
     -- numbers: the low byte first, and all bytes there
     gives (shown16 (u16_at (hex 3 0xFF0102) 1)) (0x0201 ∷ 3 ∷ [])
@@ -325,7 +325,3 @@ fields =
 unfoldable pub failing : ℕ → List Worked → List ℕ
 failing k [] = []
 failing k (e ∷ es) = pick (same_bytes e.found e.wanted) [] (k ∷ []) ++ failing (suc k) es
-
-pub field_examples : None (failing 0 fields)
-unfolding fields failing each text_view row_question row_text record_text slot_of info_at library_id_at name_at type_byte_at code_at primitive_of items_at times value_at date_time_at decimal_at decimal_text decimal decimal_after decimal_byte digit fraction_digit whole_digit char_at scalar_at boolean_at bytes_at span_at string_at text_at well_formed after step_of lead_of hi_of lo_of need_of groups_of groups_in prefix_of prefix_in le_bytes u64_at u32_at u16_at le same_bytes hex_onto
-field_examples = tt

@@ -26,8 +26,4 @@ pub mod Examples
 pub mod Fields
 pub mod CounterExamples
 pub mod Lists
-pub mod Meanings
-pub mod Allowed
-pub mod Own
-pub mod Words
 pub mod BookExamples

@@ -121,7 +121,7 @@ padded_decimals_rows =
 abbrev pub first_part : List Rec
 first_part = header 2 2 ∷ library 1 (shortest (0x4C ∷ [])) ∷ library_class 1 (shortest (0x50 ∷ [])) (named text) 1 ∷ null ∷ []
 
-pub lists : List Example
+unfoldable pub lists : List Example
 lists =
     entry (encs (in_slot 4294967295 4 6 2 9 text 2)) 64 80 (accepts in_slot_rows (4 ∷ 4 ∷ jaw)) (writes (encs (in_slot 1 1 2 3 1 text 3)))
     ∷ entry (encs (two_parts text)) 64 80 (accepts two_parts_rows []) (writes (encs (first_part ++ (class_by_id 2 1 ∷ null ∷ end ∷ []))))
@@ -132,10 +132,6 @@ lists =
     ∷ entry (encs padded_decimals) 64 96 (refuses 7 26) as_read
     ∷ leniently (encs padded_decimals) 64 96 (accepts padded_decimals_rows []) (writes (encs decimals))
     ∷ []
-
-pub list_examples : None (failing 0 lists)
-unfolding lists holds failing tidy_table tidy_output tidy_answer tidy_of tidy_records squeeze waiting written run_of pack after_what records_of library_records all_entered entered number_in same_class same_members same_detail says nodes_from nodes_of spread what_from order_of objects_in array_from class_from typed_from members_from detail_from library_name after_texts numbers_from encs enc table_words read_answer read_of raw_of stream_of bad_entry bad_from run finish step record_step act ending null_run object add opened filled close heading_at slot_array_at class_by_id_at first_type class_at members_at infos_at info_known library_at long_nulls_at nulls_at reference_at string_record_at header_at own_library_at kind_at kind_of allowed linked link_of library_row class_row object_row find_from words passed_of passed moved after_info typed_at slot_of info_at library_id_at name_at type_byte_at code_at primitive_of times span_at string_at text_at well_formed after step_of lead_of hi_of lo_of need_of groups_of groups_in prefix_of prefix_in le_bytes u64_at u32_at le laid same_bytes hex_onto texts_from row_question text_view row_text record_text value_code code_in items_from value_step binary_array_at rank_at item_type_at lengths_at primitive_array_at typed_primitive_at items_at value_span value_at date_time_at decimal_at decimal_text decimal decimal_after decimal_byte digit fraction_digit whole_digit char_at scalar_at boolean_at bytes_at
-list_examples = tt
 
 -- ---- saying the same
 
@@ -150,12 +146,6 @@ said rs = said_by (encs rs) (read_of strict (encs rs) 16)
 -- three empty slots, packed in these records
 abbrev pub three_nulls : List Rec → List Rec
 three_nulls rs = header 1 1 ∷ object_array 1 3 ∷ (rs ++ (end ∷ []))
-
--- neither ids nor the header's other id nor the packing of nulls is said
-pub same_lists : (said (in_slot 4294967295 4 6 2 9 text 2) ≡ said (in_slot 0 8 3 7 1 text 7))
-    × ((said (three_nulls (nulls 3 ∷ [])) ≡ said (three_nulls (null ∷ nulls 0 ∷ nulls 2 ∷ []))))
-unfolding said says nodes_from nodes_of spread what_from order_of objects_in class_from typed_from members_from detail_from library_name after_texts encs enc read_of raw_of stream_of bad_entry bad_from run finish step record_step act ending null_run object add opened filled close heading_at slot_array_at class_at members_at infos_at info_known library_at nulls_at reference_at string_record_at header_at own_library_at kind_at kind_of allowed linked link_of library_row class_row object_row find_from passed_of passed moved after_info typed_at slot_of info_at library_id_at name_at type_byte_at times span_at string_at text_at well_formed after step_of lead_of hi_of lo_of need_of groups_of groups_in prefix_of prefix_in le_bytes u32_at le hex_onto
-same_lists = (refl, refl)
 
 -- the types of a class's members, and the target of a reference
 abbrev member_types : List (Member (List ℕ) (List ℕ)) → List ℕ
@@ -174,17 +164,9 @@ told (an_object_array n) = []
 told (a_string_array n) = []
 told (a_value c v) = []
 
-unfoldable told_by : List Node → List ℕ
+unfoldable pub told_by : List Node → List ℕ
 told_by [] = []
 told_by (n ∷ ns) = told n.what ++ told_by ns
-
--- a member's type is said, and so is the target of a reference, by its order
-pub other_lists : (said (in_slot 1 4 6 2 9 text 2) ≡ said (in_slot 1 4 6 2 9 anything 2) → ⊥) × (said (in_slot 1 4 6 2 9 text 2) ≡ said (in_slot 1 4 6 2 9 text 6) → ⊥)
-unfolding told_by said says nodes_from nodes_of spread what_from order_of objects_in class_from typed_from members_from detail_from library_name after_texts encs enc read_of raw_of stream_of bad_entry bad_from run finish step record_step act ending null_run object add opened filled close heading_at slot_array_at class_at members_at infos_at info_known library_at nulls_at reference_at string_record_at header_at own_library_at kind_at kind_of allowed linked link_of library_row class_row object_row find_from passed_of passed moved after_info typed_at slot_of info_at library_id_at name_at type_byte_at times span_at string_at text_at well_formed after step_of lead_of hi_of lo_of need_of groups_of groups_in prefix_of prefix_in le_bytes u32_at le hex_onto
-other_lists = (
-  λ e. let types : ◌≡◌ {A = ℕ} 1 2 = ap (λ (m : Model). get_or (told_by m.nodes) 0 0) e in omega arith,
-  λ e. let targets : ◌≡◌ {A = ℕ} 3 2 = ap (λ (m : Model). get_or (told_by m.nodes) 1 0) e in omega arith,
-)
 
 -- ---- the codes of member values
 
@@ -208,8 +190,3 @@ said_codes s rows (r ∷ rs) = pick (eqb r.kind 32) (code_number (value_code [] 
 abbrev pub codes_by : (List Row → List ℕ) → Outcome → List ℕ
 codes_by f (accepted rows) = f rows
 codes_by f (refused r place) = []
-
-pub value_codes : (codes_by read_codes (raw_of strict (encs valued) 16) ≡ 7 ∷ 1 ∷ 7 ∷ 1 ∷ [])
-    × (codes_by (λ (rows : List Row). said_codes (encs valued) rows rows) (read_of strict (encs valued) 16) ≡ 7 ∷ 1 ∷ 7 ∷ 1 ∷ [])
-unfolding read_codes said_codes value_code code_in class_by_id_at first_type value_step value_at boolean_at bytes_at code_at primitive_of says nodes_from nodes_of spread what_from order_of objects_in class_from typed_from members_from detail_from library_name encs enc read_of raw_of stream_of bad_entry bad_from run finish step record_step act ending null_run object add opened filled close heading_at slot_array_at class_at members_at infos_at info_known library_at nulls_at reference_at string_record_at header_at own_library_at kind_at kind_of allowed linked link_of library_row class_row object_row find_from passed_of passed moved typed_at slot_of info_at library_id_at name_at type_byte_at times string_at text_at well_formed after step_of lead_of hi_of lo_of need_of groups_of groups_in prefix_of prefix_in le_bytes u32_at le hex_onto after_texts after_info span_at
-value_codes = (refl, refl)

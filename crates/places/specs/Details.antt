@@ -21,7 +21,7 @@ use Rattle.format.specs.Records.{known_library, own_library_at, info_known}
 use Rattle.format.specs.Contents.{Prefixed, bytes_in, Detail, primitive, text, object, system, class, objects, texts, primitives, type_byte, info_bytes, slot_for}
 use Rattle.format.specs.Says.{number_from, code_from}
 use Rattle.format.specs.Grammar.{LibraryId, GoodDetail}
-use Rattle.format.specs.Own.{positive_exactly}
+use Rattle.format.proofs.Own.{positive_exactly}
 use Rattle.fields.specs.Judged.{no_end}
 use Rattle.fields.specs.Sequence.{through}
 use Rattle.num.specs.Le.{Bytes}

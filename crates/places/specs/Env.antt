@@ -12,7 +12,7 @@ use Rattle.format.specs.Types.{typed_at, moved, positive}
 use Rattle.format.specs.Rows.{blank, is_object, is_class, find_from, object_row, class_row, library_row}
 use Rattle.format.specs.Records.{within, first_type, good_class_id, good_id}
 use Rattle.format.specs.Grammar.{Positive, Entry, a_class, another, a_library, used, known, Classed, classed, unknown, class_of, ClassId, ObjectId, LibraryId}
-use Rattle.format.specs.Own.{positive_exactly}
+use Rattle.format.proofs.Own.{positive_exactly}
 use Rattle.laws.specs.Tests.{both_of}
 
 -- ---- the environment

@@ -12,7 +12,7 @@ use Rattle.format.specs.Rows.{is_class}
 use Rattle.format.specs.Records.{header_at, string_record_at, typed_primitive_at, reference_at, nulls_at, long_nulls_at, library_at, heading_at}
 use Rattle.format.specs.Contents.{Prefixed, bytes_in, Rec, header, string, typed_primitive, reference, null, nulls, many_nulls, end, library, enc}
 use Rattle.format.specs.Grammar.{Positive, Name, Value, ObjectId, known}
-use Rattle.format.specs.Own.{positive_exactly}
+use Rattle.format.proofs.Own.{positive_exactly}
 use Rattle.laws.specs.Fields.{positive_bits}
 use Rattle.places.specs.Env.{env_of, entry_of, object_id_good, library_new_good}
 use Rattle.places.specs.Stand.{Stand, stand_size, stand_split, stand_inside, stand_here, stand_after}

@@ -24,7 +24,7 @@ use Rattle.format.specs.Rows.{is_class, library_row}
 use Rattle.format.specs.Records.{on_number, on_field, on_slots, good_id, header_at, string_record_at, typed_primitive_at, reference_at, nulls_at, long_nulls_at, library_at}
 use Rattle.format.specs.Contents.{Rec, header, string, typed_primitive, reference, null, nulls, many_nulls, end, library, enc}
 use Rattle.format.specs.Says.{code_from}
-use Rattle.format.specs.Own.{positive_exactly}
+use Rattle.format.proofs.Own.{positive_exactly}
 use Rattle.fields.specs.Judged.{picked}
 use Rattle.num.specs.Le.{Bytes}
 use Rattle.places.specs.Env.{env_of, entry_of, object_id, library_new}

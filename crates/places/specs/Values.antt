@@ -17,7 +17,7 @@ use Rattle.format.specs.Decimals.{Decimal}
 use Rattle.format.specs.Contents.{Prefixed, bytes_in, has_prefix}
 use Rattle.format.specs.Says.{content_from}
 use Rattle.format.specs.Grammar.{Width, Sized, a_byte, an_sbyte, an_int16, a_uint16, an_int32, a_uint32, a_single, an_int64, a_uint64, a_double, a_time_span, Content, number, boolean, scalar, exact, moment, PrefixIf, Value}
-use Rattle.format.specs.Own.{moment_exactly, sized_exactly}
+use Rattle.format.proofs.Own.{moment_exactly, sized_exactly}
 use Rattle.fields.specs.Parts.{length_part, part_cons, part_first}
 use Rattle.fields.specs.Judged.{judged_taken, judged_end}
 use Rattle.num.specs.Le.{Bytes}

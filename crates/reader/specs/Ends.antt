@@ -15,7 +15,8 @@ use Rattle.format.specs.Bytes.{pick}
 use Rattle.format.specs.Entries.{bad_entry}
 use Rattle.format.specs.Rows.{blank, room_of, rows_of, words, object_row, find_from, is_lost, linked, bound}
 use Rattle.format.specs.Machine.{State, Next, go, ended, Outcome, accepted, refused, finish, begin, start, top_level, record_step, stream_of, raw_of, with_links, read_of, read_answer, table_words}
-use Rattle.format.specs.Promises.{ReadPromise, read_promised}
+use Rattle.format.specs.Promises.{ReadPromise}
+use Rattle.format.proofs.Promised.{read_promised}
 use Rattle.table.specs.Rows.{length_rows_of}
 use Rattle.frames.specs.Frames.{saved}
 use Rattle.adding.specs.declared.Step.{Step}

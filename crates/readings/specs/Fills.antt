@@ -16,7 +16,7 @@ use Rattle.format.specs.Records.{allowed}
 use Rattle.format.specs.Contents.{Rec, enc}
 use Rattle.format.specs.Grammar as G
 use Rattle.format.specs.Grammar.{Entry, another, Cur, cur, row_of, size, takes_objects, takes_strings, system_class_rule, library_class_rule, class_by_id_rule, Body, hollow, Slots, an_object_rule, a_string_rule, a_typed_primitive, a_reference_rule, a_null_rule, a_run, a_long_run, a_library_rule, Array, of_objects, of_strings, of_primitives, of_any, of_values, Objects, the_end, one_object, one_string, one_array, one_library, all_take}
-use Rattle.format.specs.Own.{takes_exactly}
+use Rattle.format.proofs.Own.{takes_exactly}
 use Rattle.laws.specs.Tests.{apart}
 use Rattle.places.specs.Recs.{Good, is_header, is_class_by_id, is_system_class, is_library_class, is_string, is_typed_primitive, is_reference, is_null_rule, is_end, is_library_rule, is_nulls_rule, is_many_nulls, is_array, entry_for}
 use Rattle.readings.specs.Steps.{where_of}

@@ -16,7 +16,7 @@ use Rattle.format.specs.Rows.{blank, is_class, is_untyped, class_row}
 use Rattle.format.specs.Records.{good_class_id, infos_at, after_infos, members_at, class_at, first_type, class_by_id_at, heading_at}
 use Rattle.format.specs.Contents.{slot_for, Rec}
 use Rattle.format.specs.Grammar.{Entry, Array, of_objects, of_strings, of_primitives, of_any, of_values}
-use Rattle.format.specs.Own.{takes_exactly}
+use Rattle.format.proofs.Own.{takes_exactly}
 use Rattle.fields.specs.Judged.{picked}
 use Rattle.lookups.specs.Find.{class_at_holds}
 use Rattle.class_info.specs.Ends.{number_moves}

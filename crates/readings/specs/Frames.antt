@@ -23,7 +23,7 @@ use Rattle.format.specs.Records.{in_slot, is_class_kind, allowed}
 use Rattle.format.specs.Contents.{Rec}
 use Rattle.format.specs.Grammar.{Entry, takes_objects, takes_strings, Array, of_objects, of_strings, of_primitives, of_any, of_values, takes_records, all_take}
 use Rattle.format.specs.Machine.{Open, close, filled_by, filled, opened, start}
-use Rattle.format.specs.Own.{takes_exactly}
+use Rattle.format.proofs.Own.{takes_exactly}
 use Rattle.slots.specs.Slots.{moved_alike, passed_alike, passed_walk}
 use Rattle.laws.specs.Tests.{or_right, both_of}
 use Rattle.places.specs.Env.{slots_from}

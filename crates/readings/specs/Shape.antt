@@ -10,7 +10,7 @@ use Rattle.format.specs.Bytes.{pick}
 use Rattle.format.specs.Types.{typed_at, past, after_info, next_booked, moved, is_primitive, passed, passed_of}
 use Rattle.format.specs.Grammar.{all_take}
 use Rattle.format.specs.Machine.{Open, close, filled_by, top_level}
-use Rattle.format.specs.Own.{takes_exactly}
+use Rattle.format.proofs.Own.{takes_exactly}
 use Rattle.fields.specs.Judged.{picked}
 use Rattle.spans.specs.Spans.{text_rises, info_place}
 use Rattle.slots.specs.Slots.{moved_alike, passed_alike, passed_walk}

@@ -13,7 +13,7 @@ use Rattle.format.specs.Machine.{read_of}
 use Rattle.format.specs.Grammar.{Reading}
 use Rattle.format.specs.Meant.{meant_by}
 use Rattle.format.specs.Tidy.{tidy_of}
-use Rattle.format.specs.Promises.{tidy_promised}
+use Rattle.format.proofs.Promised.{tidy_promised}
 use Rattle.demands.specs.Calls.{tidy_written}
 use Rattle.demands.specs.Exactly.{one_meaning, as_long}
 use Rattle.sameness.specs.Sameness.{copied, answer_of, is_compared, ComparePromise}

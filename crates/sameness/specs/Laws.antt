@@ -19,7 +19,8 @@ use Rattle.format.specs.Machine.{Outcome, accepted, refused, read_of}
 use Rattle.format.specs.Says.{says}
 use Rattle.format.specs.Tidy.{tidy_of, fits, tidy_answer, tidy_output, tidy_table}
 use Rattle.format.specs.Replies.{number_of, reply, tidy_reply, same_reply, of_tidying, of_comparing}
-use Rattle.format.specs.Promises.{TidyPromise, tidy_promised}
+use Rattle.format.specs.Promises.{TidyPromise}
+use Rattle.format.proofs.Promised.{tidy_promised}
 use Rattle.num.specs.Le.{Bytes}
 use Rattle.same.specs.Laws.{same_eq}
 use Rattle.laws.specs.Tests.{bool_ext, both_of, apart, true_same}

@@ -18,7 +18,8 @@ use Rattle.format.specs.Rows.{blank, room_of, rows_of, linked, bound}
 use Rattle.format.specs.Machine.{Outcome, accepted, refused, raw_of, with_links, read_of, table_words}
 use Rattle.format.specs.Says.{says}
 use Rattle.format.specs.Tidy.{tidy_of, fits, answer_by, out_by, tidy_answer, tidy_output, tidy_table}
-use Rattle.format.specs.Promises.{TidyPromise, tidy_promised}
+use Rattle.format.specs.Promises.{TidyPromise}
+use Rattle.format.proofs.Promised.{tidy_promised}
 use Rattle.table.specs.Rows.{length_rows_of, room_kept}
 use Rattle.links.specs.Links.{length_bound}
 use Rattle.reader.specs.Ends.{outcome_of, end_by}

@@ -26,7 +26,7 @@ pub loop-left-smaller : goal.loop-left-smaller
 loop-left-smaller c = omega arith
 
 pub loop-left-preserved : goal.loop-left-preserved
-loop-left-preserved c = (c.need_info-number.auto.1.0 ∙ c.loop-left.invariant.0, omega arith, sym (infos_need _ _ _ _ _ _ _ _ c.loop-left-test.true c.byte_at-kind.ensures c.after_info-end.ensures c.need_info-number.ensures) ∙ c.loop-left.invariant.2)
+loop-left-preserved c = (c.need_info-number.auto.table ∙ c.loop-left.invariant.0, omega arith, sym (infos_need _ _ _ _ _ _ _ _ c.loop-left-test.true c.byte_at-kind.ensures c.after_info-end.ensures c.need_info-number.ensures) ∙ c.loop-left.invariant.2)
 
 pub shape_of-table : goal.shape_of-table
 shape_of-table c = c.loop-left.invariant.0

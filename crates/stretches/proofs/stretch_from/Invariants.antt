@@ -7,6 +7,8 @@ use Rattle.format.specs.Rows.{rows_of}
 use Rattle.stretches.specs.Stretches.{stretch, stretch_end, stretch_stops, stretch_goes}
 use borrow.Author.Rules.{rules}
 use borrow.Author.Tests.{not-true, not-false}
+use mathlib.Core.Path.{ap}
+use mathlib.Core.Bool.{not}
 use Rattle.stretches.proofs.stretch_from.Given as goal
 
 abbrev pub invariant-loop-i : goal.invariant-loop-i

@@ -5,4 +5,4 @@ use borrow.Author.Rules.{rules}
 use Rattle.taking.proofs.take_library.Goals as goal
 
 pub returns : goal.returns
-returns c = λ f. took_library (room_of c.args.table.now) c.args.table.now f c.args.m c.args.kind c.args.h c.add_row.new.table c.add_row.result c.Row-Apart.result (c.Row-Apart.ensures c.args.table.now f) (c.add_row.ensures f f)
+returns c = λ f. took_library (room_of c.args.table.now) c.args.table.now f c.args.m c.args.kind c.args.h c.add_row.new.table c.add_row.result c.row_apart-r.result (c.row_apart-r.ensures c.args.table.now f) (c.add_row.ensures f f)

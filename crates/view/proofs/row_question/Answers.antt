@@ -1,5 +1,5 @@
 -- The answer is that of `row_text`.
-use Rattle.format.specs.Promises.{question_promised}
+use Rattle.format.proofs.Promised.{question_promised}
 use Rattle.view.specs.Laws.{question_part, question_fault}
 use borrow.Author.Rules.{rules}
 use Rattle.view.proofs.row_question.Goals as goal
