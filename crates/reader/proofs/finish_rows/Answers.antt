@@ -21,10 +21,9 @@ returns-then-lost-ne0 c =
     )
 
 pub returns : goal.returns
-returns c =
-    (
-      ap accepted (c.link_all-lost.ensures.all c.if-lost-ne0.false)
-          ∙ ap (end_by c.args.keep) (whole c.args.s.now (rows_of c.args.rows c.args.table.now) c.args.at c.if-at-s.false c.row_at-head.result c.find_object-root.result c.row_at-head.ensures c.find_object-root.ensures c.if-root-eq0.false
-          c.link_all-lost.result c.link_all-lost.ensures.first c.if-lost-ne0.false),
-      c.requires.0,
-    )
+returns c = (
+  ap accepted (c.link_all-lost.ensures.all c.if-lost-ne0.false)
+      ∙ ap (end_by c.args.keep) (whole c.args.s.now (rows_of c.args.rows c.args.table.now) c.args.at c.if-at-s.false c.row_at-head.result c.find_object-root.result c.row_at-head.ensures c.find_object-root.ensures c.if-root-eq0.false
+      c.link_all-lost.result c.link_all-lost.ensures.first c.if-lost-ne0.false),
+  c.requires.0,
+)

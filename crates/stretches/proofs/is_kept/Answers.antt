@@ -1,6 +1,5 @@
 -- One law for each way.
 use Rattle.stretches.specs.Stretches.{kept_value, kept_anew, kept_typed, kept_none}
-use borrow.Author.Rules.{rules}
 use Rattle.stretches.proofs.is_kept.Goals as goal
 
 pub returns-then-r-anew : goal.returns-then-r-anew

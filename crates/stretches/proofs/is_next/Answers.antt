@@ -1,6 +1,5 @@
 -- The place, the end, the kind.
 use Rattle.stretches.specs.Stretches.{next_known, next_before, next_elsewhere}
-use borrow.Author.Rules.{rules}
 use Rattle.stretches.proofs.is_next.Goals as goal
 
 pub returns-then-place-r : goal.returns-then-place-r

@@ -1,6 +1,5 @@
 -- One law for the code that is written anew, one for any other.
 use Rattle.stretches.specs.Stretches.{plain_anew, plain_other}
-use borrow.Author.Rules.{rules}
 use Rattle.stretches.proofs.is_plain.Goals as goal
 
 pub returns-then-byte_at-anew : goal.returns-then-byte_at-anew

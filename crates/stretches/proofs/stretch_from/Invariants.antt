@@ -1,14 +1,9 @@
 -- The invariant: the stretch is what the rows from i on give at the place that is reached. Measure: the rows left.
 use Prim.Native.Nat.{◌≤◌, ◌-◌}
-use mathlib.Core.Path.{◌≡◌, refl, sym, ◌∙◌}
-use native.Mathlib.Omega.{arith}
+use mathlib.Core.Path.{◌≡◌}
 use lib.ListN.{drop}
 use Rattle.format.specs.Rows.{rows_of}
-use Rattle.stretches.specs.Stretches.{stretch, stretch_end, stretch_stops, stretch_goes}
-use borrow.Author.Rules.{rules}
-use borrow.Author.Tests.{not-true, not-false}
-use mathlib.Core.Path.{ap}
-use mathlib.Core.Bool.{not}
+use Rattle.stretches.specs.Stretches.{stretch}
 use Rattle.stretches.proofs.stretch_from.Given as goal
 
 abbrev pub invariant-loop-i : goal.invariant-loop-i

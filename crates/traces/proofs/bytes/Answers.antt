@@ -1,16 +1,10 @@
 -- Invariant: the lanes are the hash of the first i bytes. Measure: the bytes left.
-use Prim.Native.Nat.{◌-◌}
-use borrow.Author.Rules.{rules, Fits-under}
 use native.Mathlib.Omega.{arith}
-use lib.ListN.{length}
-use Rattle.traces.specs.Laws.{Hashed, hashed_none, hashed_more, hashed_all}
+use Rattle.traces.specs.Laws.{hashed_none, hashed_more, hashed_all}
 use Rattle.traces.proofs.bytes.Goals as goal
 
 pub loop-i-init : goal.loop-i-init
 loop-i-init c = hashed_none _
-
-pub overflow_cast-out : goal.overflow_cast-out
-overflow_cast-out c = Fits-under _ _ _ (c.shared_slice_known-in-loop-i-1.given _).fits tt
 
 pub stir-l-requires : goal.stir-l-requires
 stir-l-requires c = c.loop-i.invariant.below

@@ -1,9 +1,7 @@
 -- Invariant: the lanes are the hash of the first i bytes. Measure: the bytes left.
 use Prim.Native.Nat.{◌-◌}
-use borrow.Author.Rules.{rules, Fits-under}
-use native.Mathlib.Omega.{arith}
 use lib.ListN.{length}
-use Rattle.traces.specs.Laws.{Hashed, hashed_none, hashed_more, hashed_all}
+use Rattle.traces.specs.Laws.{Hashed}
 use Rattle.traces.proofs.bytes.Given as goal
 
 abbrev pub invariant-loop-i : goal.invariant-loop-i

@@ -1,8 +1,6 @@
 -- Invariant: the first i bytes are the pattern, the others as they were. Measure: the bytes left.
-use Prim.Native.Nat.{◌-◌}
 use native.Mathlib.Omega.{arith}
-use lib.ListN.{length}
-use Rattle.traces.specs.Laws.{Littered, littered_none, littered_more, littered_all}
+use Rattle.traces.specs.Laws.{littered_none, littered_more, littered_all}
 use Rattle.traces.proofs.litter_bytes.Goals as goal
 
 pub loop-i-init : goal.loop-i-init

@@ -1,8 +1,6 @@
 -- Invariant: the first i words are the pattern, the others as they were. Measure: the words left.
-use Prim.Native.Nat.{◌-◌}
 use native.Mathlib.Omega.{arith}
-use lib.ListN.{length}
-use Rattle.traces.specs.Laws.{Littered, littered_none, littered_more, littered_all}
+use Rattle.traces.specs.Laws.{littered_none, littered_more, littered_all}
 use Rattle.traces.proofs.litter_words.Goals as goal
 
 pub loop-i-init : goal.loop-i-init

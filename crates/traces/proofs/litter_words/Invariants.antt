@@ -1,8 +1,7 @@
 -- Invariant: the first i words are the pattern, the others as they were. Measure: the words left.
 use Prim.Native.Nat.{◌-◌}
-use native.Mathlib.Omega.{arith}
 use lib.ListN.{length}
-use Rattle.traces.specs.Laws.{Littered, littered_none, littered_more, littered_all}
+use Rattle.traces.specs.Laws.{Littered}
 use Rattle.traces.proofs.litter_words.Given as goal
 
 abbrev pub invariant-loop-i : goal.invariant-loop-i

@@ -1,6 +1,5 @@
 -- Both answers are what the number that was read gives.
 use mathlib.Core.Path.{sym, ap, ◌∙◌}
-use borrow.Author.Rules.{rules}
 use Rattle.traces.specs.Traces.{or_zero}
 use Rattle.traces.proofs.size_at.Goals as goal
 

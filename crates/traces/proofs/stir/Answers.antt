@@ -1,6 +1,5 @@
 -- The definition is the code's.
 use mathlib.Core.Path.{refl}
-use borrow.Author.Rules.{rules}
 use Rattle.traces.specs.Traces.{stirred}
 use Rattle.traces.proofs.stir.Goals as goal
 

@@ -1,9 +1,6 @@
 -- Invariant: the lanes are the hash of the first i words. Measure: the words left.
-use Prim.Native.Nat.{◌-◌}
-use borrow.Author.Rules.{rules}
 use native.Mathlib.Omega.{arith}
-use lib.ListN.{length}
-use Rattle.traces.specs.Laws.{Hashed, hashed_none, hashed_more, hashed_all}
+use Rattle.traces.specs.Laws.{hashed_none, hashed_more, hashed_all}
 use Rattle.traces.proofs.words.Goals as goal
 
 pub loop-i-init : goal.loop-i-init
