@@ -2,8 +2,14 @@
 #![tactic(auto)]
 
 use format::Setting;
+use std::env::Env;
+use std::fs::{File, Files};
+use std::io::{Cursor, Error, Read, Write};
+use std::str;
 
 const STDOUT: i32 = 1;
+
+const STDERR: i32 = 2;
 
 // One stream with a table of 512 words.
 fn one(name: &[u8], s: &[u8]) {
@@ -92,28 +98,60 @@ fn of_an_array() {
     );
 }
 
-// The stream in the file that argument i names.
-fn from_file(i: usize) {
-    let mut path = io::buffer();
-    let n = os::arg(i, &mut path);
-    let fd = os::open_read(&path[..n]);
-    if fd < 0 {
-        os::fail(&path[..n]);
-        return;
-    }
-    let mut space = io::large_buffer();
-    let k = io::read_full(fd, &mut space);
-    libc::close(fd);
-    one(&path[..n], &space[..k]);
+// Says to standard error that the file with a name cannot be opened, and why.
+fn unopened(name: &[u8], why: &[u8]) {
+    io::write_all(STDERR, name);
+    io::write_all(STDERR, b": ");
+    io::write_all(STDERR, why);
+    io::write_all(STDERR, b"\n");
 }
 
-fn main() {
+// The same for an error of the system, without its number, which stands behind its words.
+fn failed(name: &[u8], error: Error) {
+    let mut text = Cursor::new([0u8; 512]);
+    if write!(text, "{error}").is_err() {
+        unopened(name, b"");
+        return;
+    }
+    let room = text.into_inner();
+    let all = str::from_utf8(&room).unwrap_or("");
+    let words = all
+        .split_once(" (os error ")
+        .map_or(all, |(words, _)| words);
+    unopened(name, words.as_bytes());
+}
+
+// The stream in a file that is open, by the file's name.
+fn from_open(name: &[u8], file: &mut impl Read) {
+    let mut space = io::large_buffer();
+    let k = files::read_full(file, &mut space);
+    one(name, &space[..k]);
+}
+
+// The stream in the file that argument i names. A name that is not UTF-8 names no file that can be opened.
+fn from_file(rt: &(impl Env + Files), i: usize) {
+    let mut path = io::buffer();
+    let n = rt.arg(i, &mut path).unwrap_or(0);
+    let name = &path[..n];
+    match str::from_utf8(name) {
+        Ok(text) => match File::open(rt, text) {
+            Ok(mut file) => from_open(name, &mut file),
+            Err(error) => failed(name, error),
+        },
+        Err(_) => unopened(name, b"the name is not UTF-8"),
+    }
+}
+
+// The streams in the files that the words of the call name.
+fn from_files(rt: &(impl Env + Files)) {
+    let n = options::word_count(rt);
+    for i in 1..n {
+        from_file(rt, i);
+    }
+}
+
+fn main(rt: HostRuntime) {
     of_a_string();
     of_an_array();
-    let n = os::arg_count();
-    let mut i: usize = 1;
-    while i < n {
-        from_file(i);
-        i += 1;
-    }
+    from_files(&rt);
 }

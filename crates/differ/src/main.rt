@@ -142,7 +142,15 @@ fn table_room() -> [u32; 524288]
 }
 
 // Both lists, with room for their copies.
-fn both(rt: &impl Env, a: &[u8], a_book: &[u8], b: &[u8], b_book: &[u8], a_setting: Setting, b_setting: Setting) {
+fn both(
+    rt: &impl Env,
+    a: &[u8],
+    a_book: &[u8],
+    b: &[u8],
+    b_book: &[u8],
+    a_setting: Setting,
+    b_setting: Setting,
+) {
     let mut table = table_room();
     let mut first = copy_room();
     let mut second = copy_room();
@@ -161,7 +169,13 @@ fn both(rt: &impl Env, a: &[u8], a_book: &[u8], b: &[u8], b_book: &[u8], a_setti
 }
 
 // The lists in both files, each with its own book and under its own setting.
-fn lists(rt: &(impl Env + Files), a_book: &[u8], b_book: &[u8], a_setting: Setting, b_setting: Setting) {
+fn lists(
+    rt: &(impl Env + Files),
+    a_book: &[u8],
+    b_book: &[u8],
+    a_setting: Setting,
+    b_setting: Setting,
+) {
     let mut a = io::large_buffer();
     let mut b = io::large_buffer();
     let p = files::load(rt, 1, &mut a);

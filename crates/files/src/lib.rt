@@ -16,7 +16,7 @@ pub struct Loaded {
 }
 
 // Fills `space` with what a file still has, as far as there is room and no read fails; how many bytes it put there.
-fn read_full(file: &mut impl Read, space: &mut [u8]) -> usize
+pub fn read_full(file: &mut impl Read, space: &mut [u8]) -> usize
     ensures { result ≤ length space.new }
 {
     let mut done = 0;
@@ -100,7 +100,12 @@ pub fn unusable_book(rt: &impl Env, fd: i32, i: usize, l: Loaded) -> bool
         return true;
     }
     if l.size == 1048576 {
-        unusable(rt, fd, i, b": a class book has at most 1,048,575 bytes here\n");
+        unusable(
+            rt,
+            fd,
+            i,
+            b": a class book has at most 1,048,575 bytes here\n",
+        );
         return true;
     }
     false

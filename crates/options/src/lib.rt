@@ -279,7 +279,7 @@ fn word_at(rt: &impl Env, c: Choice, i: usize, n: usize, two: bool) -> Before
 }
 
 // How many words the call has, the program's name among them. A word that is too long to be copied is one too.
-fn word_count(rt: &impl Env) -> usize {
+pub fn word_count(rt: &impl Env) -> usize {
     let mut space = io::buffer();
     for i in 0..usize::MAX {
         if let Err(FillError::NotPresent) = rt.arg(i, &mut space) {
