@@ -176,6 +176,7 @@ module _ (τ : Terms) (s : List ℕ) (byte : Bytes s) (room : ℕ) (rows : List 
         },
         omega arith,
       )
+  reading_of cs book small h {es = es} {id = id} {count = count} {r = r} {ts = ts} (Rattle.places.specs.Recs.is_array _ x16) t c = elim x16 [ ]
 
   begun : (h : Head) → Between (headed h)
   begun h = record { later = (λ t. apart t, tt); shaped = record { tight = tt; based = refl } }

@@ -135,11 +135,13 @@ module _ (τ : Terms) {at row : ℕ} {es : List Entry} {rs : List Rec} {is : Lis
   pub top_library : {id count class : ℕ} {r : Rec} {ts : List SlotType} → Good τ es 12 r id count class ts
       → Objects τ (after at row es r rs is) → Objects τ (cur at row es (r ∷ rs) (row_of 12 at r id 0 0 class count ∷ is))
   top_library (is_library_rule a b e) k = one_library a b e refl k
+  top_library {id = id} {count = count} {r = r} {ts = ts} (is_array _ x15) k = elim x15 [ ]
 
   pub slot_library : {room own slot id count class : ℕ} {r : Rec} {ts : List SlotType} {c : Cur} (t : SlotType) (us : List SlotType) → Good τ es 12 r id count class ts
       → is_primitive t ≡ false → Slots τ room own slot (t ∷ us) (after at row es r rs is) c
       → Slots τ room own slot (t ∷ us) (cur at row es (r ∷ rs) (row_of 12 at r id 0 0 class count ∷ is)) c
   slot_library t us (is_library_rule a b e) p k = a_library_rule ((takes_exactly t).0 p) a b e refl k
+  slot_library {room = room} {own = own} {slot = slot} {id = id} {count = count} {r = r} {ts = ts} {c = c} t us (is_array _ x16) p k = elim x16 [ ]
 
   -- a null run
   pub slot_run : {room own slot id count class : ℕ} {r : Rec} {ts : List SlotType} {c : Cur} (t : SlotType) (us vs : List SlotType) → Good τ es 13 r id count class ts
@@ -149,6 +151,7 @@ module _ (τ : Terms) {at row : ℕ} {es : List Entry} {rs : List Rec} {is : Lis
   unfolding enc
   slot_run {room} {own} {slot} {count = count} {c = c} t us vs (is_nulls_rule a) p l n e k =
       a_run ((takes_exactly t).0 p) a l n e refl (subst (λ (x : List Entry). Slots τ room own (slot + count) vs (cur (at + 2) (suc row) x rs is) c) (append-nil es) k)
+  slot_run {room = room} {own = own} {slot = slot} {id = id} {count = count} {r = r} {ts = ts} {c = c} t us vs (is_array _ x19) p l n e k = elim x19 [ ]
 
   pub slot_long_run : {room own slot id count class : ℕ} {r : Rec} {ts : List SlotType} {c : Cur} (t : SlotType) (us vs : List SlotType) → Good τ es 14 r id count class ts
       → is_primitive t ≡ false → count ≤ length (t ∷ us) → all_take (take count (t ∷ us)) ≡ true → vs ≡ drop count (t ∷ us)
@@ -156,6 +159,7 @@ module _ (τ : Terms) {at row : ℕ} {es : List Entry} {rs : List Rec} {is : Lis
       → Slots τ room own slot (t ∷ us) (cur at row es (r ∷ rs) (row_of 14 at r id own slot class count ∷ is)) c
   slot_long_run {room} {own} {slot} {count = count} {r = r} {c = c} t us vs (is_many_nulls a) p l n e k =
       a_long_run ((takes_exactly t).0 p) a l n e refl (subst (λ (x : List Entry). Slots τ room own (slot + count) vs (cur (at + size r) (suc row) x rs is) c) (append-nil es) k)
+  slot_long_run {room = room} {own = own} {slot = slot} {id = id} {count = count} {r = r} {ts = ts} {c = c} t us vs (is_array _ x19) p l n e k = elim x19 [ ]
 
   -- a typed primitive, a reference or a null
   pub slot_plain : {room own slot k id count class : ℕ} {r : Rec} {ts : List SlotType} {c : Cur} (t : SlotType) (us : List SlotType) → Good τ es k r id count class ts
@@ -184,6 +188,7 @@ module _ (τ : Terms) {at row : ℕ} {es : List Entry} {rs : List Rec} {is : Lis
 pub top_end : (τ : Terms) {at row : ℕ} {es : List Entry} {id count class : ℕ} {r : Rec} {ts : List SlotType} → Good τ es 11 r id count class ts
     → Objects τ (cur at row es (r ∷ []) (row_of 11 at r id 0 0 class count ∷ []))
 top_end τ is_end = the_end refl
+top_end τ {at = at} {row = row} {es = es} {id = id} {count = count} {r = r} {ts = ts} (is_array _ x14) = elim x14 [ ]
 
 -- no typed primitive, reference, null or null run stands at the top level
 pub top_plain : (τ : Terms) {es : List Entry} {k id count class : ℕ} {r : Rec} {ts : List SlotType} → Good τ es k r id count class ts
