@@ -54,6 +54,11 @@ array_top τ (of_any a b c d f) (top_object e) = refl
 array_top τ (of_any a b c d f) (in_object q e g) = apart e
 array_top τ (of_values a b c) (top_object e) = refl
 array_top τ (of_values a b c) (in_object q e d) = apart e
+array_top τ {es = es} {i = i} {n = n} (of_objects a) (in_nulls {o = o} {k = k} {t = t} {us = us} {fs = fs} x20 _ _ _) = elim x20 [ ]
+array_top τ {es = es} {i = i} {n = n} (of_strings a) (in_nulls {o = o} {k = k} {t = t} {us = us} {fs = fs} x21 _ _ _) = elim x21 [ ]
+array_top τ {es = es} {i = i} {n = n} (of_primitives {vs = vs} a b) (in_nulls {o = o} {k = k} {t = t} {us = us} {fs = fs} x22 _ _ _) = elim x22 [ ]
+array_top τ {es = es} {i = i} {n = n} {ts = ts} (of_any {type = type} {ns = ns} a b c d f) (in_nulls {o = o} {k = k} {t = t} {us = us} {fs = fs} x23 _ _ _) = elim x23 [ ]
+array_top τ {es = es} {i = i} {n = n} (of_values {type = type} {ns = ns} {vs = vs} a b c) (in_nulls {o = o} {k = k} {t = t} {us = us} {fs = fs} x24 _ _ _) = elim x24 [ ]
 
 -- the row of an array's record, and what it makes known
 record ArrayIs (es : List Entry) (r : Rec) (k i n : ℕ) : Type 0 where
@@ -210,6 +215,11 @@ module _ (τ : Terms) (which : ℕ → ℕ) (none : which 0 ≡ 0) where
   record_nests total count at row {es = es} o n rs is (a_value_rule {c = c} {v = v} g) (in_value {o = p} {n = m} {us = us} {fs = fs} f) x y w h =
       let z = none_new (place p (m + 1) us ∷ fs) (at + size (value c v)) (suc row) es rs is h in
       (z.0, G.member_value f (same_row es at (value c v) x y) z.1, z.2)
+  record_nests total count at row {es = es} o n rs is (a_string_rule {i = i} {x = t} a b) (in_nulls {o = p} {n = m} {k = k} {us = us} {fs = fs} x20 q l e) x y w h = elim x20 [ ]
+  record_nests total count at row {es = es} o n rs is (a_primitive_rule {c = c} {v = v} g) (in_nulls {o = p} {n = m} {k = k} {t = t} {us = us} {fs = fs} x21 q l e) x y w h = elim x21 [ ]
+  record_nests total count at row {es = es} o n rs is (a_reference_rule {i = i} a b) (in_nulls {o = p} {n = m} {k = k} {t = t} {us = us} {fs = fs} x22 q l e) x y w h = elim x22 [ ]
+  record_nests total count at row {es = es} o n rs is (a_library_rule {i = i} a b c) (in_nulls {o = p} {n = m} {k = k} {t = t} {us = us} {fs = fs} x23 q l e) x y w h = elim x23 [ ]
+  record_nests total count at row {es = es} o n rs is (a_value_rule {c = c} {v = v} g) (in_nulls {o = p} {n = m} {k = k} {t = t} {us = us} {fs = fs} x24 q l e) x y w h = elim x24 [ ]
 
   -- ---- all records
 

@@ -101,7 +101,7 @@ legal_run τ total count row w gs fs es xs (nulls_wait us ts rest a b l p u e f)
         nulls_step τ total count row w.owner w.slot us ts rest es xs r w.count n (t es)
         (nulls_stand τ w.owner w.slot w.count us ts rest r n a l p) l
         (subst (λ (hs : List Place). Legal τ total count (suc row) hs es xs) f (again (suc row)))
-go [] x3 = elim x3 [ ]
+    go [] x3 = elim x3 [ ]
 
 -- ---- one null more
 

@@ -20,44 +20,44 @@ one_step-q-requires c = (held_room c.loop-n.table c.args.table.now c.loop-n.m c.
 
 pub loop-n-smaller : goal.loop-n-smaller
 loop-n-smaller c =
-    let u = c.one_step-q.new.frames.1.0 in
-    let g = c.one_step-q.new.frames.1.1.0 in
+    let u = c.one_step-q.new.table in
+    let g = c.one_step-q.new.frames in
     let e = same_room _ c.loop-n.table c.args.table.now c.args.s.now (state_of c.loop-n.table c.loop-n.frames c.loop-n.m) (after u g c.one_step-q.result) c.loop-n.invariant.0 c.one_step-q.ensures.0 in
     let w = moves_on _ c.loop-n.invariant.1 u g c.one_step-q.result e _ c.in-Go.is in
     omega arith
 
 pub loop-n-preserved : goal.loop-n-preserved
 loop-n-preserved c =
-    let u = c.one_step-q.new.frames.1.0 in
-    let g = c.one_step-q.new.frames.1.1.0 in
+    let u = c.one_step-q.new.table in
+    let g = c.one_step-q.new.frames in
     let e = same_room _ c.loop-n.table c.args.table.now c.args.s.now (state_of c.loop-n.table c.loop-n.frames c.loop-n.m) (after u g c.one_step-q.result) c.loop-n.invariant.0 c.one_step-q.ensures.0 in
-    (c.one_step-q.auto.frames.1.0 ∙ c.loop-n.invariant.0, gone _ c.loop-n.invariant.1 u g c.one_step-q.result e _ c.in-Go.is c.one_step-q.ensures.1)
+    (c.one_step-q.auto.table ∙ c.loop-n.invariant.0, gone _ c.loop-n.invariant.1 u g c.one_step-q.result e _ c.in-Go.is c.one_step-q.ensures.1)
 
 pub finish_rows-requires : goal.finish_rows-requires
 finish_rows-requires c =
-    let u = c.one_step-q.new.frames.1.0 in
-    let g = c.one_step-q.new.frames.1.1.0 in
+    let u = c.one_step-q.new.table in
+    let g = c.one_step-q.new.frames in
     let e = same_room _ c.loop-n.table c.args.table.now c.args.s.now (state_of c.loop-n.table c.loop-n.frames c.loop-n.m) (after u g c.one_step-q.result) c.loop-n.invariant.0 c.one_step-q.ensures.0 in
     let w = ends_roomy _ c.loop-n.invariant.1 u g c.one_step-q.result e _ _ c.in-Ended.is in
-    let l : length u ≡ length c.args.table.now = c.one_step-q.auto.frames.1.0 ∙ c.loop-n.invariant.0 in
+    let l : length u ≡ length c.args.table.now = c.one_step-q.auto.table ∙ c.loop-n.invariant.0 in
     (omega arith, omega arith)
 
 pub shape_of-table-in-Ended : goal.shape_of-table-in-Ended
-shape_of-table-in-Ended c = c.finish_rows.auto.table ∙ c.one_step-q.auto.frames.1.0 ∙ c.loop-n.invariant.0
+shape_of-table-in-Ended c = c.finish_rows.auto.table ∙ c.one_step-q.auto.table ∙ c.loop-n.invariant.0
 
 pub returns-in-Ended : goal.returns-in-Ended
 returns-in-Ended c =
-    let u = c.one_step-q.new.frames.1.0 in
-    let g = c.one_step-q.new.frames.1.1.0 in
+    let u = c.one_step-q.new.table in
+    let g = c.one_step-q.new.frames in
     let e = same_room _ c.loop-n.table c.args.table.now c.args.s.now (state_of c.loop-n.table c.loop-n.frames c.loop-n.m) (after u g c.one_step-q.result) c.loop-n.invariant.0 c.one_step-q.ensures.0 in
-    (c.finish_rows.ensures.0 ∙ ap (end_by c.args.keep) (ends _ c.loop-n.invariant.1 u g c.one_step-q.result e _ _ c.in-Ended.is), within_room u c.args.table.now c.finish_rows.result (c.one_step-q.auto.frames.1.0 ∙ c.loop-n.invariant.0) c.finish_rows.ensures.1)
+    (c.finish_rows.ensures.0 ∙ ap (end_by c.args.keep) (ends _ c.loop-n.invariant.1 u g c.one_step-q.result e _ _ c.in-Ended.is), within_room u c.args.table.now c.finish_rows.result (c.one_step-q.auto.table ∙ c.loop-n.invariant.0) c.finish_rows.ensures.1)
 
 pub shape_of-table-in-Refuse : goal.shape_of-table-in-Refuse
-shape_of-table-in-Refuse c = c.one_step-q.auto.frames.1.0 ∙ c.loop-n.invariant.0
+shape_of-table-in-Refuse c = c.one_step-q.auto.table ∙ c.loop-n.invariant.0
 
 pub returns-in-Refuse : goal.returns-in-Refuse
 returns-in-Refuse c =
-    let u = c.one_step-q.new.frames.1.0 in
-    let g = c.one_step-q.new.frames.1.1.0 in
+    let u = c.one_step-q.new.table in
+    let g = c.one_step-q.new.frames in
     let e = same_room _ c.loop-n.table c.args.table.now c.args.s.now (state_of c.loop-n.table c.loop-n.frames c.loop-n.m) (after u g c.one_step-q.result) c.loop-n.invariant.0 c.one_step-q.ensures.0 in
     (ap (end_by c.args.keep) (refuses _ c.loop-n.invariant.1 u g c.one_step-q.result e _ _ c.in-Refuse.is), tt)

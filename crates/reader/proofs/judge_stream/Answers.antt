@@ -12,35 +12,35 @@ header_step-q-requires c = (fresh_held (room_of c.args.table.now) c.fresh-fresh.
 
 pub drive-requires : goal.drive-requires
 drive-requires c =
-    let u = c.header_step-q.new.frames.1.0 in
-    let g = c.header_step-q.new.frames.1.1.0 in
+    let u = c.header_step-q.new.table in
+    let g = c.header_step-q.new.frames in
     let f = c.frames-frames.result in
-    (runs_room _ c.args.s.now c.args.table.now u g _ c.header_step-q.auto.frames.1.0 (head_on _ c.args.s.now c.args.table.now u f g c.fresh-fresh.result c.fresh-fresh.ensures c.header_step-q.result c.header_step-q.ensures.0 _ c.in-Go.is c.header_step-q.ensures.1), c.requires.0, c.requires.1)
+    (runs_room _ c.args.s.now c.args.table.now u g _ c.header_step-q.auto.table (head_on _ c.args.s.now c.args.table.now u f g c.fresh-fresh.result c.fresh-fresh.ensures c.header_step-q.result c.header_step-q.ensures.0 _ c.in-Go.is c.header_step-q.ensures.1), c.requires.0, c.requires.1)
 
 pub finish_rows-requires : goal.finish_rows-requires
 finish_rows-requires c =
-    let u = c.header_step-q.new.frames.1.0 in
-    let g = c.header_step-q.new.frames.1.1.0 in
+    let u = c.header_step-q.new.table in
+    let g = c.header_step-q.new.frames in
     let f = c.frames-frames.result in
     let w = head_roomy _ c.args.s.now c.args.table.now u f g c.fresh-fresh.result c.fresh-fresh.ensures c.header_step-q.result c.header_step-q.ensures.0 _ _ c.in-Ended.is in
-    let k : length u ≡ length c.args.table.now = c.header_step-q.auto.frames.1.0 in
+    let k : length u ≡ length c.args.table.now = c.header_step-q.auto.table in
     (omega arith, omega arith)
 
 pub returns-in-Go : goal.returns-in-Go
 returns-in-Go c =
-    let u = c.header_step-q.new.frames.1.0 in
-    answered_room _ c.args.keep c.args.s.now c.args.table.now u c.drive.new.frames.1.0 c.drive.result c.header_step-q.auto.frames.1.0 c.drive.ensures
+    let u = c.header_step-q.new.table in
+    answered_room _ c.args.keep c.args.s.now c.args.table.now u c.drive.new.table c.drive.result c.header_step-q.auto.table c.drive.ensures
 
 pub returns-in-Ended : goal.returns-in-Ended
 returns-in-Ended c =
-    let u = c.header_step-q.new.frames.1.0 in
-    let g = c.header_step-q.new.frames.1.1.0 in
+    let u = c.header_step-q.new.table in
+    let g = c.header_step-q.new.frames in
     let f = c.frames-frames.result in
-    (c.finish_rows.ensures.0 ∙ ap (end_by c.args.keep) (head_end _ c.args.s.now c.args.table.now u f g c.fresh-fresh.result c.fresh-fresh.ensures c.header_step-q.result c.header_step-q.ensures.0 _ _ c.in-Ended.is), within_room u c.args.table.now c.finish_rows.result c.header_step-q.auto.frames.1.0 c.finish_rows.ensures.1)
+    (c.finish_rows.ensures.0 ∙ ap (end_by c.args.keep) (head_end _ c.args.s.now c.args.table.now u f g c.fresh-fresh.result c.fresh-fresh.ensures c.header_step-q.result c.header_step-q.ensures.0 _ _ c.in-Ended.is), within_room u c.args.table.now c.finish_rows.result c.header_step-q.auto.table c.finish_rows.ensures.1)
 
 pub returns-in-Refuse : goal.returns-in-Refuse
 returns-in-Refuse c =
-    let u = c.header_step-q.new.frames.1.0 in
-    let g = c.header_step-q.new.frames.1.1.0 in
+    let u = c.header_step-q.new.table in
+    let g = c.header_step-q.new.frames in
     let f = c.frames-frames.result in
     (ap (end_by c.args.keep) (head_bad _ c.args.s.now c.args.table.now u f g c.fresh-fresh.result c.fresh-fresh.ensures c.header_step-q.result c.header_step-q.ensures.0 _ _ c.in-Refuse.is), tt)
