@@ -1,8 +1,5 @@
 -- The measure is how many streams may still come; the slices keep their lengths.
-use Prim.Native.Nat.{◌-◌}
-use mathlib.Core.Path.{◌≡◌}
-use lib.ListN.{length}
-use borrow.Author.Rules.{rules}
+use Rattle.std.specs.Prelude.{length, ◌-◌, ◌≡◌}
 use Rattle.compare.proofs.all.Given as goal
 
 abbrev pub invariant-loop-i : goal.invariant-loop-i
