@@ -1,6 +1,5 @@
 -- The slot word is the law of `less`; all else is the struct itself.
 use Rattle.adding.specs.Laws.{row_of_lem}
-use borrow.Author.Rules.{rules}
 use Rattle.adding.proofs.row_in.Goals as goal
 
 pub returns : goal.returns

@@ -1,5 +1,4 @@
 -- What follows the code is a function by cases of what the code answers.
-use borrow.Author.Rules.{rules}
 use Rattle.arrays.proofs.coded_items_at.Goals as goal
 
 pub returns-in-End : goal.returns-in-End

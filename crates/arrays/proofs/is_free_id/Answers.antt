@@ -1,5 +1,4 @@
 -- The definition asks for the sign, and then for an object of this number.
-use borrow.Author.Rules.{rules}
 use Rattle.arrays.proofs.is_free_id.Goals as goal
 
 pub returns-then-is_positive : goal.returns-then-is_positive

@@ -1,5 +1,4 @@
 -- One law for each answer, from the id that is read.
-use borrow.Author.Rules.{rules}
 use mathlib.Core.Path.{sym, ◌∙◌}
 use Rattle.arrays.specs.Stages.{id_short, id_bad, id_free, primitive_array_is}
 use Rattle.arrays.proofs.primitive_array_at.Goals as goal

@@ -1,5 +1,4 @@
 -- One law for each answer, from the number that is read.
-use borrow.Author.Rules.{rules}
 use mathlib.Core.Path.{sym, ◌∙◌}
 use Rattle.arrays.specs.Stages.{length_short, length_bad, length_good}
 use Rattle.arrays.proofs.slot_length_at.Goals as goal

@@ -1,5 +1,4 @@
 -- What the record says is a function by cases of what the items answer.
-use borrow.Author.Rules.{rules}
 use Rattle.arrays.proofs.with_items.Goals as goal
 
 pub returns-in-End : goal.returns-in-End

@@ -1,6 +1,5 @@
 -- The test, as the code makes it.
 use borrow.Author.Tests.{eq-eqb, ne_eqb}
-use borrow.Author.Rules.{rules}
 use Rattle.arrays_out.proofs.are_anew.Goals as goal
 
 pub returns-then-kind-eq0 : goal.returns-then-kind-eq0

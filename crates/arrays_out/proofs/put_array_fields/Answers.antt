@@ -1,6 +1,5 @@
 -- What is kept, then the item type's detail and the items.
 use Rattle.put.specs.Put.{joined}
-use borrow.Author.Rules.{rules}
 use Rattle.arrays_out.proofs.put_array_fields.Goals as goal
 
 pub returns : goal.returns

@@ -1,7 +1,6 @@
 -- The kind and the new number, then the fields.
 use Rattle.put.specs.Put.{joined_as}
 use Rattle.arrays_out.specs.Laws.{body_is}
-use borrow.Author.Rules.{rules}
 use Rattle.arrays_out.proofs.put_body.Goals as goal
 
 pub returns : goal.returns

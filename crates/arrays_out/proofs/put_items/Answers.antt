@@ -1,7 +1,6 @@
 -- The detail of the item type, then the items that are primitive.
 use Rattle.put.specs.Put.{joined_as}
 use Rattle.arrays_out.specs.Laws.{items_is}
-use borrow.Author.Rules.{rules}
 use Rattle.arrays_out.proofs.put_items.Goals as goal
 
 pub returns : goal.returns

@@ -1,5 +1,4 @@
 -- The definition asks what the code asks.
-use borrow.Author.Rules.{rules}
 use borrow.Author.Tests.{lt-ltb, le-ltb, le-leb, lt-leb}
 use Rattle.binary_arrays.proofs.array_type_at.Goals as goal
 

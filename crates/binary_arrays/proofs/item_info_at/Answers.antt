@@ -1,5 +1,4 @@
 -- One law for each answer of the detail; its slot type is that of the two bytes.
-use borrow.Author.Rules.{rules}
 use mathlib.Core.Path.{sym, ◌∙◌}
 use Rattle.arrays.specs.Stages.{item_info_good, item_info_bad}
 use Rattle.binary_arrays.proofs.item_info_at.Goals as goal

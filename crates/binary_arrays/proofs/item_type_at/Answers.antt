@@ -1,5 +1,4 @@
 -- One law for each answer of the type byte, which ends within the stream.
-use borrow.Author.Rules.{rules}
 use mathlib.Core.Path.{sym, ◌∙◌}
 use native.Mathlib.Omega.{arith}
 use Rattle.types.specs.Keeps.{type_moves}

@@ -1,5 +1,4 @@
 -- One arm for each slot type.
-use borrow.Author.Rules.{rules}
 use Rattle.binary_arrays.proofs.items_of.Goals as goal
 
 pub returns-in-Primitive : goal.returns-in-Primitive

@@ -1,5 +1,4 @@
 -- One law for each answer, from the rank that is read.
-use borrow.Author.Rules.{rules}
 use mathlib.Core.Path.{sym, ◌∙◌}
 use Rattle.arrays.specs.Stages.{rank_short, rank_good, rank_bad}
 use Rattle.binary_arrays.proofs.rank_at.Goals as goal

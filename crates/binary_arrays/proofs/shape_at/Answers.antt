@@ -1,5 +1,4 @@
 -- One law for each answer of the lengths.
-use borrow.Author.Rules.{rules}
 use mathlib.Core.Path.{sym, ◌∙◌}
 use Rattle.arrays.specs.Stages.{shape_good, shape_bad}
 use Rattle.binary_arrays.proofs.shape_at.Goals as goal

@@ -1,10 +1,7 @@
 -- The invariant: the entries from p on answer what all of them answer. The measure: how many bytes are left.
-use borrow.Author.Rules.{rules}
 use Prim.Native.Nat.{◌-◌}
-use mathlib.Core.Path.{◌≡◌, sym, ◌∙◌}
+use mathlib.Core.Path.{sym, ◌∙◌}
 use native.Mathlib.Omega.{arith}
-use lib.ListN.{length}
-use Rattle.format.specs.Entries.{bad_from, bad_entry}
 use Rattle.book.specs.Moves.{entry_moves, bad_whole, bad_none, bad_more, bad_here}
 use Rattle.book.proofs.bad_entry.Goals as goal
 

@@ -1,11 +1,8 @@
 -- The invariant: the entries from p on answer what all of them answer. The measure: how many bytes are left.
-use borrow.Author.Rules.{rules}
 use Prim.Native.Nat.{◌-◌}
-use mathlib.Core.Path.{◌≡◌, sym, ◌∙◌}
-use native.Mathlib.Omega.{arith}
+use mathlib.Core.Path.{◌≡◌}
 use lib.ListN.{length}
 use Rattle.format.specs.Entries.{bad_from, bad_entry}
-use Rattle.book.specs.Moves.{entry_moves, bad_whole, bad_none, bad_more, bad_here}
 use Rattle.book.proofs.bad_entry.Given as goal
 
 abbrev pub invariant-loop-p : goal.invariant-loop-p

@@ -1,5 +1,4 @@
 -- What follows the name is a function by cases of what the name answers.
-use borrow.Author.Rules.{rules}
 use Rattle.book.proofs.class_at.Goals as goal
 
 pub returns-in-End : goal.returns-in-End

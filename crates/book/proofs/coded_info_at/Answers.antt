@@ -1,5 +1,4 @@
 -- Types 3 and 4 are bad; one law for all others.
-use borrow.Author.Rules.{rules}
 use mathlib.Core.Path.{sym, ◌∙◌}
 use Rattle.book.specs.Moves.{coded_class, coded_plain}
 use Rattle.book.proofs.coded_info_at.Goals as goal

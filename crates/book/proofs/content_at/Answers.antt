@@ -1,5 +1,4 @@
 -- What follows the names is a function by cases of what the names answer.
-use borrow.Author.Rules.{rules}
 use Rattle.book.proofs.content_at.Goals as goal
 
 pub returns-in-End : goal.returns-in-End

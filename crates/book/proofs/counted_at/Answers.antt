@@ -1,5 +1,4 @@
 -- One law for each answer.
-use borrow.Author.Rules.{rules}
 use mathlib.Core.Path.{sym, ◌∙◌}
 use native.Mathlib.Omega.{arith}
 use Rattle.book.specs.Moves.{counted_short, counted_members}

@@ -1,5 +1,4 @@
 -- What follows the name is a function by cases of what the name answers.
-use borrow.Author.Rules.{rules}
 use mathlib.Core.Path.{sym, ◌∙◌}
 use Rattle.book.specs.Moves.{described_more, described_fault}
 use Rattle.book.proofs.described_at.Goals as goal

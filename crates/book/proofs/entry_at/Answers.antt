@@ -1,5 +1,4 @@
 -- One law for each answer; what follows the content is a function by cases of what the content answers.
-use borrow.Author.Rules.{rules}
 use mathlib.Core.Path.{sym, ◌∙◌}
 use native.Mathlib.Omega.{arith}
 use Rattle.book.specs.Moves.{entry_short, entry_first, entry_more, entry_fault}

@@ -1,5 +1,4 @@
 -- The definition asks for a first byte of 1.
-use borrow.Author.Rules.{rules}
 use mathlib.Core.Path.{sym, ◌∙◌}
 use Rattle.book.specs.Moves.{origin_library, origin_none}
 use Rattle.book.proofs.origin_at.Goals as goal

@@ -1,5 +1,4 @@
 -- What follows the type byte is a function by cases of what the type byte answers.
-use borrow.Author.Rules.{rules}
 use Rattle.book.proofs.typed_at.Goals as goal
 
 pub returns-in-End : goal.returns-in-End

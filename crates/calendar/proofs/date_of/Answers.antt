@@ -1,5 +1,4 @@
 -- What the two calls ensure, one put into the other.
-use borrow.Author.Rules.{rules}
 use Rattle.calendar.specs.Calendar.{date_of}
 use Rattle.calendar.proofs.date_of.Goals as goal
 

@@ -1,6 +1,5 @@
 -- At an arm's key the definition computes; in the last arm no key is left.
 use mathlib.Core.Path.{sym, ap, ◌∙◌}
-use borrow.Author.Rules.{rules}
 use Rattle.calendar.specs.Calendar.{days_of_month}
 use Rattle.calendar.specs.Laws.{auto}
 use Rattle.calendar.proofs.days_of_month.Goals as goal

@@ -1,5 +1,4 @@
 -- The definition asks for a leap year, as the code does.
-use borrow.Author.Rules.{rules}
 use Rattle.calendar.specs.Calendar.{days_of_year}
 use Rattle.calendar.proofs.days_of_year.Goals as goal
 

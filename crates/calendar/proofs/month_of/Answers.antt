@@ -1,9 +1,7 @@
 -- Invariant: the days that are left, from this month on, give the date of all. Measure: the months up to December.
-use Prim.Native.Nat.{◌-◌, ◌≤◌}
-use mathlib.Core.Path.{◌≡◌, sym, ◌∙◌}
+use Prim.Native.Nat.{◌-◌}
+use mathlib.Core.Path.{sym, ◌∙◌}
 use native.Mathlib.Omega.{arith}
-use borrow.Author.Rules.{rules}
-use Rattle.calendar.specs.Calendar.{month_from, month_of}
 use Rattle.calendar.specs.Laws.{month_begins, month_here, month_passed, month_last}
 use Rattle.calendar.proofs.month_of.Goals as goal
 

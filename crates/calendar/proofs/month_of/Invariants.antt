@@ -1,10 +1,7 @@
 -- Invariant: the days that are left, from this month on, give the date of all. Measure: the months up to December.
 use Prim.Native.Nat.{◌-◌, ◌≤◌}
-use mathlib.Core.Path.{◌≡◌, sym, ◌∙◌}
-use native.Mathlib.Omega.{arith}
-use borrow.Author.Rules.{rules}
+use mathlib.Core.Path.{◌≡◌}
 use Rattle.calendar.specs.Calendar.{month_from, month_of}
-use Rattle.calendar.specs.Laws.{month_begins, month_here, month_passed, month_last}
 use Rattle.calendar.proofs.month_of.Given as goal
 
 abbrev pub invariant-loop-month : goal.invariant-loop-month

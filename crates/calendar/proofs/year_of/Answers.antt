@@ -1,10 +1,8 @@
 -- Invariant: the days that are left, from this year on, give the year of all; each year passed took 365 days or more, so that the last sum fits.
 -- Measure: the years up to the last.
-use Prim.Native.Nat.{◌+◌, ◌*◌, ◌-◌, ◌≤◌}
-use mathlib.Core.Path.{◌≡◌, sym, ◌∙◌}
+use Prim.Native.Nat.{◌-◌}
+use mathlib.Core.Path.{sym, ◌∙◌}
 use native.Mathlib.Omega.{arith}
-use borrow.Author.Rules.{rules}
-use Rattle.calendar.specs.Calendar.{year_from, year_of}
 use Rattle.calendar.specs.Laws.{year_least, year_most, year_begins, year_here, year_passed, year_last}
 use Rattle.calendar.proofs.year_of.Goals as goal
 

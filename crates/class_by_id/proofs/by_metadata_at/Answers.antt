@@ -1,5 +1,4 @@
 -- One law for each answer; a row that is found is one of the rows.
-use borrow.Author.Rules.{rules}
 use mathlib.Core.Path.{sym, ◌∙◌}
 use native.Mathlib.Omega.{arith}
 use Rattle.class_info.specs.Stages.{metadata_short, class_lost, class_found, class_inside}

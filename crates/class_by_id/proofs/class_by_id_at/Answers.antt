@@ -1,5 +1,4 @@
 -- One law for each answer.
-use borrow.Author.Rules.{rules}
 use mathlib.Core.Path.{sym, ◌∙◌}
 use Rattle.class_info.specs.Stages.{by_id_short, by_id_used, by_id_free}
 use Rattle.class_by_id.proofs.class_by_id_at.Goals as goal

@@ -1,5 +1,4 @@
 -- The type stands where the kind of the class's row says.
-use borrow.Author.Rules.{rules}
 use mathlib.Core.Path.{sym, ◌∙◌}
 use Rattle.class_info.specs.Stages.{first_untyped, first_typed}
 use Rattle.class_by_id.proofs.first_type.Goals as goal

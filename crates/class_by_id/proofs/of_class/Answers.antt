@@ -1,5 +1,4 @@
 -- The row and the type of the first member are what the callees promise.
-use borrow.Author.Rules.{rules}
 use Rattle.class_by_id.proofs.of_class.Goals as goal
 
 pub returns : goal.returns

@@ -1,5 +1,4 @@
 -- One law for each answer.
-use borrow.Author.Rules.{rules}
 use mathlib.Core.Path.{sym, ◌∙◌}
 use Rattle.class_info.specs.Stages.{details_own, details_end, details_bad}
 use Rattle.class_info.proofs.details_at.Goals as goal

@@ -1,5 +1,4 @@
 -- One law for each answer; where the detail of type 4 ends, its LibraryId stands before.
-use borrow.Author.Rules.{rules}
 use mathlib.Core.Path.{sym, ◌∙◌}
 use Rattle.class_info.specs.Stages.{info_before, info_class_known, info_other_known, info_known_bad}
 use Rattle.class_info.proofs.info_known.Goals as goal

@@ -1,11 +1,7 @@
 -- The invariant: the details that are left, from p on, answer what all of them answer, and their type bytes are there. The measure: how
 -- many are left.
-use borrow.Author.Rules.{rules}
-use mathlib.Core.Path.{◌≡◌, refl, sym, ◌∙◌}
+use mathlib.Core.Path.{refl, sym, ◌∙◌}
 use native.Mathlib.Omega.{arith}
-use Prim.Native.Nat.{◌+◌}
-use Rattle.format.specs.Rows.{rows_of}
-use Rattle.format.specs.Records.{infos_at}
 use Rattle.class_info.specs.Stages.{infos_none, infos_step}
 use Rattle.class_info.proofs.infos_at.Goals as goal
 

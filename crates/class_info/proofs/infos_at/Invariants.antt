@@ -1,12 +1,9 @@
 -- The invariant: the details that are left, from p on, answer what all of them answer, and their type bytes are there. The measure: how
 -- many are left.
-use borrow.Author.Rules.{rules}
-use mathlib.Core.Path.{◌≡◌, refl, sym, ◌∙◌}
-use native.Mathlib.Omega.{arith}
+use mathlib.Core.Path.{◌≡◌}
 use Prim.Native.Nat.{◌+◌}
 use Rattle.format.specs.Rows.{rows_of}
 use Rattle.format.specs.Records.{infos_at}
-use Rattle.class_info.specs.Stages.{infos_none, infos_step}
 use Rattle.class_info.proofs.infos_at.Given as goal
 
 abbrev pub invariant-loop-left : goal.invariant-loop-left

@@ -1,5 +1,4 @@
 -- One law for each answer; the four bytes are there, so the number is not short.
-use borrow.Author.Rules.{rules}
 use mathlib.Core.Path.{sym, ◌∙◌}
 use Rattle.class_info.specs.Stages.{four_there, known_lost, known_end}
 use Rattle.class_info.proofs.known_library.Goals as goal

@@ -1,5 +1,4 @@
 -- One law for each answer; the type bytes begin where the names end, which is within the stream.
-use borrow.Author.Rules.{rules}
 use mathlib.Core.Path.{sym, ◌∙◌}
 use Rattle.class_info.specs.Moves.{names_there}
 use Rattle.class_info.specs.Stages.{names_end, names_bad}

@@ -1,5 +1,4 @@
 -- One law for each answer; where the LibraryId ends, its four bytes stand before.
-use borrow.Author.Rules.{rules}
 use mathlib.Core.Path.{sym, ◌∙◌}
 use Rattle.class_info.specs.Stages.{library_before, own_library_end, own_library_bad}
 use Rattle.class_info.proofs.own_library_at.Goals as goal

@@ -1,5 +1,4 @@
 -- One law for each answer; the details begin where the type bytes end, which is within the stream.
-use borrow.Author.Rules.{rules}
 use mathlib.Core.Path.{sym, ◌∙◌}
 use native.Mathlib.Omega.{arith}
 use Rattle.class_info.specs.Moves.{types_there}

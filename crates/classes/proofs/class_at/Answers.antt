@@ -1,5 +1,4 @@
 -- One law for each answer.
-use borrow.Author.Rules.{rules}
 use mathlib.Core.Path.{sym, ◌∙◌}
 use Rattle.class_info.specs.Stages.{class_short, class_used, class_free}
 use Rattle.classes.proofs.class_at.Goals as goal

@@ -1,5 +1,4 @@
 -- The definition asks for 0, and then for the row.
-use borrow.Author.Rules.{rules}
 use borrow.Author.Tests.{ne_eqb}
 use Rattle.classes.proofs.is_free_class_id.Goals as goal
 

@@ -1,5 +1,4 @@
 -- One law for each answer; the members begin where the count ends, which is within the stream.
-use borrow.Author.Rules.{rules}
 use mathlib.Core.Path.{sym, ◌∙◌}
 use Rattle.class_info.specs.Ends.{number_moves}
 use Rattle.class_info.specs.Stages.{name_bad, count_short, count_bad, count_good}

@@ -1,5 +1,4 @@
 -- Past the end there is no byte, and 0 stands for it.
-use borrow.Author.Rules.{rules}
 use mathlib.Core.Path.{sym}
 use lib.ListN.{get_or-eq_default}
 use Rattle.codes.proofs.byte_at.Goals as goal

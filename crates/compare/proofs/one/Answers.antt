@@ -1,7 +1,6 @@
 -- Each part is as long as it was asked for, after the tests.
 use native.Mathlib.Omega.{arith}
 use lib.ListN.{length-take}
-use borrow.Author.Rules.{rules}
 use Rattle.compare.proofs.one.Goals as goal
 
 pub slice_bounds-show-end : goal.slice_bounds-show-end

@@ -3,7 +3,6 @@ use native.Mathlib.Omega.{arith}
 use Rattle.format.specs.Rows.{rows_of}
 use Rattle.pieces.specs.Copy.{copy_of}
 use Rattle.copying.specs.Laws.{dry, full_room, full_limit, copied_all}
-use borrow.Author.Rules.{rules}
 use Rattle.copying.proofs.copied.Goals as goal
 
 pub returns-then-out-total : goal.returns-then-out-total

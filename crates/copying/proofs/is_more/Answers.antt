@@ -1,5 +1,4 @@
 -- Nulls of the owner, or none.
-use borrow.Author.Rules.{rules}
 use Rattle.copying.specs.Laws.{more_known, more_none}
 use Rattle.copying.proofs.is_more.Goals as goal
 

@@ -1,7 +1,6 @@
 -- The three clauses of the test.
 use mathlib.Core.Path.{refl}
 use Rattle.copying.specs.Laws.{passed_12, passed_nulls, passed_none}
-use borrow.Author.Rules.{rules}
 use Rattle.copying.proofs.is_passed.Goals as goal
 
 pub returns-then-r-eq12 : goal.returns-then-r-eq12

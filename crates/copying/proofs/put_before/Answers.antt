@@ -1,7 +1,6 @@
 -- The four clauses of the run before a row.
 use Rattle.put.specs.Put.{became, nothing}
 use Rattle.copying.specs.Laws.{before_passed, before_more, before_other, before_record}
-use borrow.Author.Rules.{rules}
 use Rattle.copying.proofs.put_before.Goals as goal
 
 pub returns-then-is_passed : goal.returns-then-is_passed

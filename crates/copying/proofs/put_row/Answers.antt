@@ -1,7 +1,6 @@
 -- The nulls before the row, then its record.
 use Rattle.put.specs.Put.{joined_as}
 use Rattle.copying.specs.Laws.{row_is}
-use borrow.Author.Rules.{rules}
 use Rattle.copying.proofs.put_row.Goals as goal
 
 pub returns : goal.returns

@@ -1,6 +1,5 @@
 -- The nulls, then the part of the stream.
 use Rattle.put.specs.Put.{joined}
-use borrow.Author.Rules.{rules}
 use Rattle.copying.proofs.put_stretch.Goals as goal
 
 pub returns : goal.returns

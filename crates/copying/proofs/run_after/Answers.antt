@@ -1,6 +1,5 @@
 -- The four clauses of the run after a row.
 use Rattle.copying.specs.Laws.{after_passed, after_more, after_other, after_record}
-use borrow.Author.Rules.{rules}
 use Rattle.copying.proofs.run_after.Goals as goal
 
 pub returns-then-is_passed : goal.returns-then-is_passed

@@ -3,7 +3,6 @@ use native.Mathlib.Omega.{arith}
 use mathlib.Core.Path.{sym}
 use Rattle.decimal.specs.Limbs.{becomes}
 use Rattle.decimal.specs.Laws.{byte_digit, byte_minus, byte_point, byte_high, minus_late, point_late, byte_other}
-use borrow.Author.Rules.{rules}
 use Rattle.decimal.proofs.any_byte.Goals as goal
 
 pub returns-then-b-le57 : goal.returns-then-b-le57

@@ -2,7 +2,6 @@
 use native.Mathlib.Omega.{arith}
 use Rattle.decimal.specs.Limbs.{becomes}
 use Rattle.decimal.specs.Laws.{digit_whole, digit_fraction, digit_late}
-use borrow.Author.Rules.{rules}
 use Rattle.decimal.proofs.any_digit.Goals as goal
 
 pub returns-then-st-le2 : goal.returns-then-st-le2

@@ -3,7 +3,6 @@ use native.Mathlib.Omega.{arith}
 use mathlib.Core.Path.{sym}
 use Rattle.decimal.specs.Limbs.{becomes}
 use Rattle.decimal.specs.Laws.{fraction_zero, fraction_on, fraction_over}
-use borrow.Author.Rules.{rules}
 use Rattle.decimal.proofs.fraction_digit.Goals as goal
 
 pub returns-then-lo-eq337593543950335 : goal.returns-then-lo-eq337593543950335

@@ -1,12 +1,8 @@
 -- The invariant: what is left of s from i on leads from the limbs' reading to where all of s leads from the beginning. The measure: the bytes left.
-use Prim.Native.Nat.{◌≤◌, ◌-◌}
-use mathlib.Core.Path.{◌≡◌, ◌∙◌, refl}
-use borrow.Author.Rules.{rules}
+use Prim.Native.Nat.{◌-◌}
+use mathlib.Core.Path.{◌∙◌, refl}
 use native.Mathlib.Omega.{arith}
-use lib.ListN.{length}
-use Rattle.format.specs.Values.{begun}
-use Rattle.decimal.specs.Limbs.{Fine, read}
-use Rattle.decimal.specs.Run.{run_from, run_step, run_end, whole_end, fraction_end}
+use Rattle.decimal.specs.Run.{run_step, run_end, whole_end, fraction_end}
 use Rattle.decimal.proofs.is_decimal.Goals as goal
 
 pub loop-i-init : goal.loop-i-init

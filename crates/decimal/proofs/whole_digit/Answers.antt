@@ -3,7 +3,6 @@ use native.Mathlib.Omega.{arith}
 use mathlib.Core.Path.{sym}
 use Rattle.decimal.specs.Limbs.{becomes}
 use Rattle.decimal.specs.Laws.{whole_over, whole_on}
-use borrow.Author.Rules.{rules}
 use Rattle.decimal.proofs.whole_digit.Goals as goal
 
 pub returns-then-hi-gt79228162514264 : goal.returns-then-hi-gt79228162514264

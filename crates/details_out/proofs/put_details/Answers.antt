@@ -1,7 +1,6 @@
 -- The members' details, then the class's own library.
 use Rattle.put.specs.Put.{joined_as}
 use Rattle.pieces.specs.Laws.{details_is}
-use borrow.Author.Rules.{rules}
 use Rattle.details_out.proofs.put_details.Goals as goal
 
 pub returns : goal.returns

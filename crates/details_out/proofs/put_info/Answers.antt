@@ -1,7 +1,6 @@
 -- The class name and the library's new number, the class name alone, or all of it as it stands.
 use Rattle.put.specs.Put.{became, joined_as}
 use Rattle.pieces.specs.Laws.{info_4, info_3, info_none}
-use borrow.Author.Rules.{rules}
 use Rattle.details_out.proofs.put_info.Goals as goal
 
 pub returns-then-kind-eq4 : goal.returns-then-kind-eq4

@@ -1,11 +1,8 @@
 -- The invariant: what is written and the details still left are all the details.
-use Prim.Native.Nat.{◌≤◌, ◌+◌, ◌-◌}
+use Prim.Native.Nat.{◌-◌}
 use native.Mathlib.Omega.{arith}
-use Rattle.format.specs.Rows.{rows_of}
-use Rattle.put.specs.Put.{Along, along_more, along_end}
-use Rattle.pieces.specs.Copy.{infos_out}
+use Rattle.put.specs.Put.{along_more, along_end}
 use Rattle.pieces.specs.Laws.{infos_start, infos_more, infos_end}
-use borrow.Author.Rules.{rules}
 use Rattle.details_out.proofs.put_infos.Goals as goal
 
 pub loop-i-init : goal.loop-i-init

@@ -1,9 +1,8 @@
 -- One scan: the answer is that of the first row which passes. Measure: the rows left.
 use Prim.Native.Nat.{◌-◌}
-use native.Mathlib.Omega.{arith}
 use Rattle.format.specs.Rows.{rows_of}
-use Rattle.lookups.specs.Find.{Scan, scan_start, scan_end, scan_hit, scan_miss}
-use Rattle.marks.specs.Marks.{same_class_row, first_class}
+use Rattle.lookups.specs.Find.{Scan}
+use Rattle.marks.specs.Marks.{same_class_row}
 use Rattle.distinct.proofs.first_class.Given as goal
 
 abbrev pub invariant-loop-i : goal.invariant-loop-i

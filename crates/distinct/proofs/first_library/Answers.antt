@@ -1,8 +1,7 @@
 -- One scan: the answer is that of the first row which passes. Measure: the rows left.
-use borrow.Author.Rules.{rules}
 use Prim.Native.Nat.{◌-◌}
 use native.Mathlib.Omega.{arith}
-use Rattle.lookups.specs.Find.{Scan, scan_start, scan_end, scan_hit, scan_miss}
+use Rattle.lookups.specs.Find.{scan_start, scan_end, scan_hit, scan_miss}
 use Rattle.marks.specs.Marks.{same_name, first_library}
 use Rattle.distinct.proofs.first_library.Goals as goal
 

@@ -1,9 +1,7 @@
 -- One scan: the answer is that of the first row which passes. Measure: the rows left.
-use borrow.Author.Rules.{rules}
 use Prim.Native.Nat.{◌-◌}
-use native.Mathlib.Omega.{arith}
-use Rattle.lookups.specs.Find.{Scan, scan_start, scan_end, scan_hit, scan_miss}
-use Rattle.marks.specs.Marks.{same_name, first_library}
+use Rattle.lookups.specs.Find.{Scan}
+use Rattle.marks.specs.Marks.{same_name}
 use Rattle.distinct.proofs.first_library.Given as goal
 
 abbrev pub invariant-loop-i : goal.invariant-loop-i

@@ -2,7 +2,6 @@
 use Prim.Native.Nat.{◌+◌}
 use native.Mathlib.Omega.{arith}
 use Rattle.spans.specs.Spans.{text_within}
-use borrow.Author.Rules.{rules}
 use Rattle.distinct.proofs.first_member.Goals as goal
 
 pub overflow_add-result : goal.overflow_add-result

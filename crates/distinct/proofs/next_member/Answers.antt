@@ -1,5 +1,4 @@
 -- The definition, at what was read.
-use borrow.Author.Rules.{rules}
 use Rattle.distinct.proofs.next_member.Goals as goal
 
 pub returns : goal.returns

@@ -1,6 +1,5 @@
 -- One law for each test that decides.
 use Rattle.distinct.specs.Equal.{class_same, class_name_lem, class_count, class_kind}
-use borrow.Author.Rules.{rules}
 use Rattle.distinct.proofs.same_class_row.Goals as goal
 
 pub returns-then-same_text : goal.returns-then-same_text

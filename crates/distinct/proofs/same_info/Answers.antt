@@ -1,6 +1,5 @@
 -- One law for each test that decides.
 use Rattle.distinct.specs.Equal.{info_library, info_name, info_system, info_plain}
-use borrow.Author.Rules.{rules}
 use Rattle.distinct.proofs.same_info.Goals as goal
 
 pub returns-then-same_text : goal.returns-then-same_text

@@ -1,7 +1,6 @@
 -- One law for each test that decides.
 use Rattle.format.specs.Rows.{rows_of}
 use Rattle.distinct.specs.Equal.{member_same, member_kind, member_name_lem}
-use borrow.Author.Rules.{rules}
 use Rattle.distinct.proofs.same_member.Goals as goal
 
 pub returns-then-kind-byte_at : goal.returns-then-kind-byte_at

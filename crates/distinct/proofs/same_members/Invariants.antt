@@ -1,14 +1,8 @@
 -- Invariant: the members that are left answer what all of them answer; the places of their type bytes fit. Measure: the members left.
-use borrow.Author.Tests.{not-true, not-false}
-use borrow.Author.Rules.{rules}
-use mathlib.Core.Path.{◌≡◌, refl, sym, ap, ◌∙◌}
+use mathlib.Core.Path.{◌≡◌}
 use Prim.Native.Nat.{◌+◌, ◌≤◌}
-use native.Mathlib.Omega.{arith}
 use Rattle.format.specs.Rows.{rows_of}
 use Rattle.distinct.specs.Members.{same_members}
-use Rattle.distinct.specs.Equal.{members_end, members_more, members_other}
-use Rattle.distinct.specs.declared.Cursor.{Cursor}
-use mathlib.Core.Bool.{not}
 use Rattle.distinct.proofs.same_members.Given as goal
 
 abbrev pub invariant-loop-left : goal.invariant-loop-left

@@ -1,6 +1,5 @@
 -- One law for a class from a library, one for a class from the system.
 use Rattle.distinct.specs.Equal.{own_library, own_system}
-use borrow.Author.Rules.{rules}
 use Rattle.distinct.proofs.same_own.Goals as goal
 
 pub returns-then-a-eq5 : goal.returns-then-a-eq5

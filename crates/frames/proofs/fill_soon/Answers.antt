@@ -1,5 +1,4 @@
 -- An object of which slots are left stays open (`fill-open`); else it is `fill`.
-use borrow.Author.Rules.{rules}
 use mathlib.Core.Path.{ap}
 use native.Mathlib.Omega.{arith}
 use Rattle.format.specs.declared.Reader.{Reader}

@@ -1,5 +1,4 @@
 -- The six words are read where the definition reads them.
-use borrow.Author.Rules.{rules}
 use Rattle.frames.specs.Frames.{frame_at}
 use Rattle.frames.proofs.frame_at.Goals as goal
 

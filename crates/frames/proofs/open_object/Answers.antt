@@ -1,6 +1,5 @@
 -- `save` leaves the frame around the object, and `open_at` makes the open objects of it.
 use mathlib.Core.Path.{refl}
-use borrow.Author.Rules.{rules}
 use Rattle.frames.specs.Laws.{open_at}
 use Rattle.frames.proofs.open_object.Goals as goal
 

@@ -1,5 +1,4 @@
 -- The difference is that of `less`.
-use borrow.Author.Rules.{rules}
 use Rattle.frames.proofs.passed.Goals as goal
 
 pub returns : goal.returns

@@ -1,6 +1,5 @@
 -- `save-at` says what the six stores leave.
 use lib.ListN.{length-set}
-use borrow.Author.Rules.{rules}
 use Rattle.frames.specs.Laws.{save_at}
 use Rattle.frames.proofs.save.Goals as goal
 

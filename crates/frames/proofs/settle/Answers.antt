@@ -1,9 +1,6 @@
 -- The loop keeps what closing the full objects will leave; each end of it is one law of `close`.
-use mathlib.Core.Path.{◌≡◌, refl, sym, ◌∙◌}
-use Prim.Native.Nat.{◌≤◌}
+use mathlib.Core.Path.{refl, sym, ◌∙◌}
 use native.Mathlib.Omega.{arith}
-use Rattle.format.specs.Machine.{close}
-use Rattle.frames.specs.Frames.{saved}
 use Rattle.frames.specs.Laws.{close_end, close_stop, close_pop}
 use Rattle.frames.proofs.settle.Goals as goal
 

@@ -1,10 +1,8 @@
 -- The loop keeps what closing the full objects will leave; each end of it is one law of `close`.
-use mathlib.Core.Path.{◌≡◌, refl, sym, ◌∙◌}
+use mathlib.Core.Path.{◌≡◌}
 use Prim.Native.Nat.{◌≤◌}
-use native.Mathlib.Omega.{arith}
 use Rattle.format.specs.Machine.{close}
 use Rattle.frames.specs.Frames.{saved}
-use Rattle.frames.specs.Laws.{close_end, close_stop, close_pop}
 use Rattle.frames.proofs.settle.Given as goal
 
 abbrev pub invariant-loop-depth : goal.invariant-loop-depth

@@ -1,5 +1,4 @@
 -- Two laws for each kind: what its heading is, and that it has no slots; the last kind is 10, since no other is left.
-use borrow.Author.Rules.{rules}
 use mathlib.Core.Path.{◌≡◌, refl, sym, subst, ◌∙◌}
 use Rattle.format.specs.declared.Heading.{Heading}
 use Rattle.kinds.specs.Kinds.{Hollow, brief_null}

@@ -1,5 +1,4 @@
 -- One law for each kind that has an arm, and one for all others, of which none is brief.
-use borrow.Author.Rules.{rules}
 use mathlib.Core.Path.{sym, ◌∙◌}
 use Rattle.headings.specs.Headings.{header_heading, by_id_heading, system_heading, class_heading, array_heading, end_heading, library_heading, nulls_heading, long_nulls_heading, primitives_heading, objects_heading, strings_heading}
 use Rattle.headings.proofs.heading_at.Goals as goal

@@ -1,7 +1,6 @@
 -- Kind 1 and two numbers.
 use Rattle.put.specs.Put.{became}
 use Rattle.put.specs.Pieces.{by_id_is}
-use borrow.Author.Rules.{rules}
 use Rattle.heads.proofs.put_by_id.Goals as goal
 
 pub returns : goal.returns

@@ -1,7 +1,6 @@
 -- The kind byte, then the number.
 use Rattle.put.specs.Put.{joined_as}
 use Rattle.put.specs.Pieces.{head_is}
-use borrow.Author.Rules.{rules}
 use Rattle.heads.proofs.put_head.Goals as goal
 
 pub returns : goal.returns

@@ -1,7 +1,6 @@
 -- Kind 0 and the root twice, then the version.
 use Rattle.put.specs.Put.{joined_as}
 use Rattle.put.specs.Pieces.{header_is}
-use borrow.Author.Rules.{rules}
 use Rattle.heads.proofs.put_header.Goals as goal
 
 pub returns : goal.returns

@@ -1,6 +1,5 @@
 -- The kind byte with the first number, then the second.
 use Rattle.put.specs.Put.{joined}
-use borrow.Author.Rules.{rules}
 use Rattle.heads.proofs.put_heads.Goals as goal
 
 pub returns : goal.returns

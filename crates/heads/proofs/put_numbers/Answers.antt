@@ -1,6 +1,5 @@
 -- Two numbers, one after the other.
 use Rattle.put.specs.Put.{joined}
-use borrow.Author.Rules.{rules}
 use Rattle.heads.proofs.put_numbers.Goals as goal
 
 pub returns : goal.returns

@@ -1,7 +1,6 @@
 -- One clause of the run for each return.
 use Rattle.put.specs.Put.{became, nothing}
 use Rattle.put.specs.Pieces.{run_none, run_one, run_some, run_many}
-use borrow.Author.Rules.{rules}
 use Rattle.heads.proofs.put_run.Goals as goal
 
 pub returns-then-n-eq0 : goal.returns-then-n-eq0

@@ -1,9 +1,8 @@
 -- The invariant: the values that are left, from p on, answer what all of them answer. The measure: how many are left.
-use borrow.Author.Rules.{rules}
-use mathlib.Core.Path.{◌≡◌, refl, sym, ◌∙◌}
+use mathlib.Core.Path.{refl, sym, ◌∙◌}
 use native.Mathlib.Omega.{arith}
 use Rattle.fields.specs.Sequence.{times_none, times_more, times_fault}
-use Rattle.format.specs.Values.{value_at, times}
+use Rattle.format.specs.Values.{value_at}
 use Rattle.items.proofs.each_at.Goals as goal
 
 pub loop-left-init : goal.loop-left-init

@@ -1,8 +1,5 @@
 -- The invariant: the values that are left, from p on, answer what all of them answer. The measure: how many are left.
-use borrow.Author.Rules.{rules}
-use mathlib.Core.Path.{◌≡◌, refl, sym, ◌∙◌}
-use native.Mathlib.Omega.{arith}
-use Rattle.fields.specs.Sequence.{times_none, times_more, times_fault}
+use mathlib.Core.Path.{◌≡◌}
 use Rattle.format.specs.Values.{value_at, times}
 use Rattle.items.proofs.each_at.Given as goal
 

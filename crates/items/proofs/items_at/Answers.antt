@@ -1,5 +1,4 @@
 -- One law for each way; the product fits because no size is over 8.
-use borrow.Author.Rules.{rules}
 use mathlib.Core.Path.{sym, ◌∙◌}
 use native.Mathlib.Omega.{arith}
 use Rattle.value_forms.specs.Ends.{size_times, items_each, items_bytes_lem}

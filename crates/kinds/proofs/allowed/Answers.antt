@@ -1,5 +1,4 @@
 -- The definition goes by the places, as the code does.
-use borrow.Author.Rules.{rules}
 use Rattle.format.specs.Records.{allowed}
 use Rattle.kinds.proofs.allowed.Goals as goal
 

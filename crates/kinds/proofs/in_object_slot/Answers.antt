@@ -1,5 +1,4 @@
 -- At an arm's key the definition computes; in the last arm no key is left.
-use borrow.Author.Rules.{rules}
 use mathlib.Core.Path.{sym, ap, ◌∙◌}
 use Rattle.format.specs.declared.Where.TheVariants as W
 use Rattle.format.specs.Records.{allowed}

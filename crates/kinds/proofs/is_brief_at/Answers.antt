@@ -1,5 +1,4 @@
 -- Within the stream, or past it.
-use borrow.Author.Rules.{rules}
 use Rattle.kinds.specs.Kinds.{brief_there, brief_past}
 use Rattle.kinds.proofs.is_brief_at.Goals as goal
 

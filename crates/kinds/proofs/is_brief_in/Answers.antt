@@ -1,6 +1,5 @@
 -- At an arm's key the kind is brief; in the last arm no key is left.
 use mathlib.Core.Path.{refl}
-use borrow.Author.Rules.{rules}
 use Rattle.kinds.specs.Kinds.{brief_known, brief_other}
 use Rattle.kinds.proofs.is_brief_in.Goals as goal
 

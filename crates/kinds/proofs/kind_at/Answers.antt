@@ -1,5 +1,4 @@
 -- One law for each answer.
-use borrow.Author.Rules.{rules}
 use mathlib.Core.Path.{sym, ◌∙◌}
 use Rattle.kinds.specs.Kinds.{kind_there, kind_short}
 use Rattle.kinds.proofs.kind_at.Goals as goal

@@ -1,5 +1,4 @@
 -- One law for each answer.
-use borrow.Author.Rules.{rules}
 use mathlib.Core.Path.{sym, ◌∙◌}
 use Rattle.kinds.specs.Kinds.{kind_unknown, kind_refused, kind_allowed, kind_misplaced}
 use Rattle.kinds.proofs.kind_of.Goals as goal

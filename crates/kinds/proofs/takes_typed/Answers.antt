@@ -1,5 +1,4 @@
 -- At each place the definition computes.
-use borrow.Author.Rules.{rules}
 use Rattle.format.specs.Records.{allowed}
 use Rattle.kinds.proofs.takes_typed.Goals as goal
 

@@ -1,6 +1,5 @@
 -- The link of the library's first row.
 use Rattle.libraries_out.specs.Places.{library_number_is}
-use borrow.Author.Rules.{rules}
 use Rattle.libraries_out.proofs.library_number.Goals as goal
 
 pub returns : goal.returns

@@ -1,7 +1,6 @@
 -- The kind and the new number, then the name.
 use Rattle.put.specs.Put.{joined_as}
 use Rattle.pieces.specs.Laws.{library_is}
-use borrow.Author.Rules.{rules}
 use Rattle.libraries_out.proofs.put_library.Goals as goal
 
 pub returns : goal.returns

@@ -1,7 +1,6 @@
 -- The library's record, if its mark is this field.
 use Rattle.put.specs.Put.{became, nothing}
 use Rattle.pieces.specs.Laws.{need_here, need_none}
-use borrow.Author.Rules.{rules}
 use Rattle.libraries_out.proofs.put_need.Goals as goal
 
 pub returns-then-g-mark : goal.returns-then-g-mark

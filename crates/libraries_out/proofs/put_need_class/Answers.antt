@@ -1,7 +1,6 @@
 -- The records for the members, then the one for the class itself.
 use Rattle.put.specs.Put.{joined_as}
 use Rattle.pieces.specs.Laws.{need_class_is}
-use borrow.Author.Rules.{rules}
 use Rattle.libraries_out.proofs.put_need_class.Goals as goal
 
 pub returns : goal.returns

@@ -1,7 +1,6 @@
 -- Only a detail of type 4 names a library.
 use Rattle.put.specs.Put.{became, nothing}
 use Rattle.pieces.specs.Laws.{need_info_4, need_info_none}
-use borrow.Author.Rules.{rules}
 use Rattle.libraries_out.proofs.put_need_info.Goals as goal
 
 pub returns-then-kind-eq4 : goal.returns-then-kind-eq4

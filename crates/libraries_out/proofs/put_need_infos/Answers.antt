@@ -1,11 +1,8 @@
 -- The invariant: what is written and the records for the details still left are all of them.
-use Prim.Native.Nat.{◌≤◌, ◌+◌, ◌-◌}
+use Prim.Native.Nat.{◌-◌}
 use native.Mathlib.Omega.{arith}
-use Rattle.format.specs.Rows.{rows_of}
-use Rattle.put.specs.Put.{Along, along_more, along_end}
-use Rattle.pieces.specs.Copy.{need_infos_out}
+use Rattle.put.specs.Put.{along_more, along_end}
 use Rattle.pieces.specs.Laws.{needs_start, needs_more, needs_end}
-use borrow.Author.Rules.{rules}
 use Rattle.libraries_out.proofs.put_need_infos.Goals as goal
 
 pub loop-i-init : goal.loop-i-init

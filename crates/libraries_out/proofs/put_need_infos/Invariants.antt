@@ -1,11 +1,8 @@
 -- The invariant: what is written and the records for the details still left are all of them.
 use Prim.Native.Nat.{◌≤◌, ◌+◌, ◌-◌}
-use native.Mathlib.Omega.{arith}
 use Rattle.format.specs.Rows.{rows_of}
-use Rattle.put.specs.Put.{Along, along_more, along_end}
+use Rattle.put.specs.Put.{Along}
 use Rattle.pieces.specs.Copy.{need_infos_out}
-use Rattle.pieces.specs.Laws.{needs_start, needs_more, needs_end}
-use borrow.Author.Rules.{rules}
 use Rattle.libraries_out.proofs.put_need_infos.Given as goal
 
 abbrev pub invariant-loop-i : goal.invariant-loop-i

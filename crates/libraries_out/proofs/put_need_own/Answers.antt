@@ -2,7 +2,6 @@
 use Rattle.format.specs.Rows.{rows_of}
 use Rattle.put.specs.Put.{became, nothing}
 use Rattle.pieces.specs.Laws.{need_own_5, need_own_none}
-use borrow.Author.Rules.{rules}
 use Rattle.libraries_out.proofs.put_need_own.Goals as goal
 
 pub returns-then-r-eq5 : goal.returns-then-r-eq5

@@ -1,6 +1,5 @@
 -- The index stays within the end; the measure is what is left.
 use Prim.Native.Nat.{◌≤◌, ◌-◌}
-use borrow.Author.Rules.{rules}
 use Rattle.lines.proofs.words.Given as goal
 
 abbrev pub invariant-loop-i : goal.invariant-loop-i

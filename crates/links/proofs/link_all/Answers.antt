@@ -1,12 +1,10 @@
 -- Invariant: the rows before i have their links, none of them is lost, and the slice has its length. Measure: the rows left.
-use mathlib.Core.Path.{◌≡◌, refl, sym, ◌∙◌}
+use mathlib.Core.Path.{refl, sym, ◌∙◌}
 use Prim.Native.Nat.{◌-◌}
 use native.Mathlib.Omega.{arith}
-use lib.ListN.{length}
-use Rattle.format.specs.Rows.{rows_of, is_lost}
-use Rattle.lookups.specs.Find.{Scan, scan_start, scan_miss}
-use Rattle.links.specs.Links.{half, half_none, this_row, lost_told, half_step, half_there, there_found, all_linked, one_lost}
-use borrow.Author.Rules.{rules}
+use Rattle.format.specs.Rows.{is_lost}
+use Rattle.lookups.specs.Find.{scan_start, scan_miss}
+use Rattle.links.specs.Links.{half_none, this_row, lost_told, half_step, half_there, there_found, all_linked, one_lost}
 use Rattle.links.proofs.link_all.Goals as goal
 
 pub loop-i-init : goal.loop-i-init

@@ -1,12 +1,10 @@
 -- Invariant: the rows before i have their links, none of them is lost, and the slice has its length. Measure: the rows left.
-use mathlib.Core.Path.{◌≡◌, refl, sym, ◌∙◌}
+use mathlib.Core.Path.{◌≡◌}
 use Prim.Native.Nat.{◌-◌}
-use native.Mathlib.Omega.{arith}
 use lib.ListN.{length}
 use Rattle.format.specs.Rows.{rows_of, is_lost}
-use Rattle.lookups.specs.Find.{Scan, scan_start, scan_miss}
-use Rattle.links.specs.Links.{half, half_none, this_row, lost_told, half_step, half_there, there_found, all_linked, one_lost}
-use borrow.Author.Rules.{rules}
+use Rattle.lookups.specs.Find.{Scan}
+use Rattle.links.specs.Links.{half}
 use Rattle.links.proofs.link_all.Given as goal
 
 abbrev pub invariant-loop-i : goal.invariant-loop-i

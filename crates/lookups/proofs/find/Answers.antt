@@ -2,8 +2,7 @@
 use mathlib.Core.Path.{refl}
 use Prim.Native.Nat.{◌-◌}
 use native.Mathlib.Omega.{arith}
-use borrow.Author.Rules.{rules}
-use Rattle.lookups.specs.Find.{id_of, is_of, named, Scan, scan_start, scan_end, scan_hit, scan_miss}
+use Rattle.lookups.specs.Find.{scan_start, scan_end, scan_hit, scan_miss}
 use Rattle.lookups.proofs.find.Goals as goal
 
 pub loop-i-init : goal.loop-i-init

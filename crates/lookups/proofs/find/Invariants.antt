@@ -1,9 +1,6 @@
 -- One scan: the answer is that of the first row which passes. Measure: the rows left.
-use mathlib.Core.Path.{refl}
 use Prim.Native.Nat.{◌-◌}
-use native.Mathlib.Omega.{arith}
-use borrow.Author.Rules.{rules}
-use Rattle.lookups.specs.Find.{id_of, is_of, named, Scan, scan_start, scan_end, scan_hit, scan_miss}
+use Rattle.lookups.specs.Find.{id_of, is_of, named, Scan}
 use Rattle.lookups.proofs.find.Given as goal
 
 abbrev pub invariant-loop-i : goal.invariant-loop-i

@@ -1,5 +1,4 @@
 -- The answer of `find` at this sort.
-use borrow.Author.Rules.{rules}
 use Rattle.format.specs.Rows.{library_row}
 use Rattle.lookups.specs.Find.{id_of, is_of, named}
 use Rattle.lookups.proofs.find_library.Goals as goal

@@ -1,6 +1,5 @@
 -- The definition goes by the cases, as the code does.
 use mathlib.Core.Path.{refl}
-use borrow.Author.Rules.{rules}
 use Rattle.lookups.specs.Find.{id_of}
 use Rattle.lookups.proofs.id_of.Goals as goal
 

@@ -1,6 +1,5 @@
 -- The definition goes by the sorts, as the code does.
 use mathlib.Core.Path.{refl}
-use borrow.Author.Rules.{rules}
 use Rattle.lookups.specs.Find.{is_of}
 use Rattle.lookups.proofs.is_of.Goals as goal
 

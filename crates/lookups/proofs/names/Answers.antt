@@ -1,6 +1,5 @@
 -- The row's number decides (`other-number`), then its kind (`this-number`).
 use mathlib.Core.Path.{sym, ◌∙◌}
-use borrow.Author.Rules.{rules}
 use Rattle.lookups.specs.Find.{other_number, this_number}
 use Rattle.lookups.proofs.names.Goals as goal
 

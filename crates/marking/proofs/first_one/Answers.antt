@@ -1,6 +1,5 @@
 -- One law for a class, one for any other row.
 use Rattle.marking.specs.Steps.{first_class_lem, first_other}
-use borrow.Author.Rules.{rules}
 use Rattle.marking.proofs.first_one.Goals as goal
 
 pub returns-then-is_class : goal.returns-then-is_class

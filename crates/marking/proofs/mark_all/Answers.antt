@@ -1,6 +1,5 @@
 -- The four passes, put together by one law.
 use Rattle.marking.specs.Steps.{marked_is}
-use borrow.Author.Rules.{rules}
 use Rattle.marking.proofs.mark_all.Goals as goal
 
 pub returns : goal.returns

@@ -1,10 +1,8 @@
 -- Invariant: the pass is at row i (`Passing`). Measure: the rows left.
 use Prim.Native.Nat.{◌-◌}
 use native.Mathlib.Omega.{arith}
-use lib.ListN.{length}
-use Rattle.format.specs.Rows.{rows_of}
-use Rattle.marks.specs.Marks.{pass, need_one, needed}
-use Rattle.marking.specs.Sweeps.{Passing, pass_start, pass_more, rows_end}
+use Rattle.marks.specs.Marks.{needed}
+use Rattle.marking.specs.Sweeps.{pass_start, pass_more, rows_end}
 use Rattle.marking.proofs.need_all.Goals as goal
 
 pub loop-i-init : goal.loop-i-init

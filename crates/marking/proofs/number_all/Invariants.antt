@@ -1,10 +1,9 @@
 -- Invariant: the pass is at row i (`Passing`). Measure: the rows left.
 use Prim.Native.Nat.{◌-◌}
-use native.Mathlib.Omega.{arith}
 use lib.ListN.{length}
 use Rattle.format.specs.Rows.{rows_of}
-use Rattle.marks.specs.Marks.{pass, number_one, numbered}
-use Rattle.marking.specs.Sweeps.{Passing, pass_start, pass_more, rows_end}
+use Rattle.marks.specs.Marks.{pass, number_one}
+use Rattle.marking.specs.Sweeps.{Passing}
 use Rattle.marking.proofs.number_all.Given as goal
 
 abbrev pub invariant-loop-i : goal.invariant-loop-i

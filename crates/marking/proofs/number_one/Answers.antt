@@ -1,6 +1,5 @@
 -- One law for an object, one for any other row.
 use Rattle.marking.specs.Steps.{number_object, number_other}
-use borrow.Author.Rules.{rules}
 use Rattle.marking.proofs.number_one.Goals as goal
 
 pub returns-then-is_object : goal.returns-then-is_object

@@ -1,6 +1,5 @@
 -- One law for a library, one for a class, one for any other row.
 use Rattle.marking.specs.Steps.{place_library, place_class, place_other}
-use borrow.Author.Rules.{rules}
 use Rattle.marking.proofs.place_one.Goals as goal
 
 pub returns-then-r-eq12 : goal.returns-then-r-eq12

@@ -1,6 +1,5 @@
 -- One law for each way. A link that is not 0 is compared less 1, since i + 1 need not fit.
 use Rattle.marks.specs.Rows.{is_first_lem, is_unlinked, is_no_class}
-use borrow.Author.Rules.{rules}
 use Rattle.marks.proofs.is_first.Goals as goal
 
 pub returns-then-r-eq0 : goal.returns-then-r-eq0

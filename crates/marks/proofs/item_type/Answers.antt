@@ -1,6 +1,5 @@
 -- The definition, at the rank that was read.
 use Rattle.marks.specs.Places.{item_is}
-use borrow.Author.Rules.{rules}
 use Rattle.marks.proofs.item_type.Goals as goal
 
 pub returns : goal.returns

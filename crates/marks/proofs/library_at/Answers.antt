@@ -1,6 +1,5 @@
 -- The lookups, one after the other, are the definition.
 use Rattle.marks.specs.Rows.{library_is}
-use borrow.Author.Rules.{rules}
 use Rattle.marks.proofs.library_at.Goals as goal
 
 pub returns : goal.returns

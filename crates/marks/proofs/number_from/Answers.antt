@@ -1,6 +1,5 @@
 -- The four bytes as the code joins them (`number_is`), of which those past the end are 0.
 use Rattle.marks.specs.Places.{number_past, number_is}
-use borrow.Author.Rules.{rules}
 use Rattle.marks.proofs.number_from.Goals as goal
 
 pub returns-then-s-p : goal.returns-then-s-p

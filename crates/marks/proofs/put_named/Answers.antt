@@ -1,6 +1,5 @@
 -- Past the rows `set` changes nothing (`put-past`).
 use Rattle.marks.specs.Rows.{put_past}
-use borrow.Author.Rules.{rules}
 use Rattle.marks.proofs.put_named.Goals as goal
 
 pub returns-else-i-n : goal.returns-else-i-n

@@ -1,5 +1,4 @@
 -- A word less 1 is the row's number.
-use borrow.Author.Rules.{rules}
 use Rattle.format.specs.Rows.{rows_of}
 use Rattle.marks.specs.Rows.{row_is}
 use Rattle.marks.proofs.row_named.Goals as goal

@@ -1,6 +1,5 @@
 -- One law for parts of one length, one for others.
 use Rattle.marks.specs.Places.{between_same, between_other}
-use borrow.Author.Rules.{rules}
 use Rattle.marks.proofs.same_between.Goals as goal
 
 pub returns-then-size-other : goal.returns-then-size-other

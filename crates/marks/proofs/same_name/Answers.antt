@@ -1,6 +1,5 @@
 -- One law for a library, one for any other row.
 use Rattle.marks.specs.Places.{name_same, name_other}
-use borrow.Author.Rules.{rules}
 use Rattle.marks.proofs.same_name.Goals as goal
 
 pub returns-then-b-eq12 : goal.returns-then-b-eq12

@@ -1,6 +1,5 @@
 -- The bytes of the two spans.
 use Rattle.marks.specs.Places.{text_same}
-use borrow.Author.Rules.{rules}
 use Rattle.marks.proofs.same_text.Goals as goal
 
 pub returns : goal.returns

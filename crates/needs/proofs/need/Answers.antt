@@ -1,7 +1,6 @@
 -- One law for the first need of a library, one for a later one.
 use native.Mathlib.Omega.{arith}
 use Rattle.needs.specs.Laws.{need_first, need_again}
-use borrow.Author.Rules.{rules}
 use Rattle.needs.proofs.need.Goals as goal
 
 pub put_named-requires : goal.put_named-requires

@@ -2,7 +2,6 @@
 use native.Mathlib.Omega.{arith}
 use Rattle.marks.specs.Places.{item_below}
 use Rattle.needs.specs.Laws.{array_needs}
-use borrow.Author.Rules.{rules}
 use Rattle.needs.proofs.need_array.Goals as goal
 
 pub overflow_add-p : goal.overflow_add-p

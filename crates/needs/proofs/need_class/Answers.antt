@@ -1,6 +1,5 @@
 -- The details first, then the own library.
 use Rattle.needs.specs.Laws.{class_needs_lem}
-use borrow.Author.Rules.{rules}
 use Rattle.needs.proofs.need_class.Goals as goal
 
 pub returns : goal.returns

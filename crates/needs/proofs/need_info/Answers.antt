@@ -1,6 +1,5 @@
 -- One law for a detail that names a library, one for any other.
 use Rattle.needs.specs.Laws.{info_needs, info_none}
-use borrow.Author.Rules.{rules}
 use Rattle.needs.proofs.need_info.Goals as goal
 
 pub returns-then-kind-eq4 : goal.returns-then-kind-eq4

@@ -1,12 +1,7 @@
 -- Invariant: the details that are left, from p on, lead where all of them lead; their type bytes' places fit; the slice keeps its length.
 -- Measure: the details left.
-use borrow.Author.Rules.{rules}
-use mathlib.Core.Path.{◌≡◌, refl, sym, ◌∙◌}
-use Prim.Native.Nat.{◌+◌, ◌≤◌}
+use mathlib.Core.Path.{refl, sym, ◌∙◌}
 use native.Mathlib.Omega.{arith}
-use lib.ListN.{length}
-use Rattle.format.specs.Rows.{rows_of}
-use Rattle.marks.specs.Marks.{pass, need_infos}
 use Rattle.needs.specs.Laws.{infos_none, infos_need}
 use Rattle.needs.proofs.need_infos.Goals as goal
 

@@ -1,13 +1,10 @@
 -- Invariant: the details that are left, from p on, lead where all of them lead; their type bytes' places fit; the slice keeps its length.
 -- Measure: the details left.
-use borrow.Author.Rules.{rules}
-use mathlib.Core.Path.{◌≡◌, refl, sym, ◌∙◌}
+use mathlib.Core.Path.{◌≡◌}
 use Prim.Native.Nat.{◌+◌, ◌≤◌}
-use native.Mathlib.Omega.{arith}
 use lib.ListN.{length}
 use Rattle.format.specs.Rows.{rows_of}
 use Rattle.marks.specs.Marks.{pass, need_infos}
-use Rattle.needs.specs.Laws.{infos_none, infos_need}
 use Rattle.needs.proofs.need_infos.Given as goal
 
 abbrev pub invariant-loop-left : goal.invariant-loop-left

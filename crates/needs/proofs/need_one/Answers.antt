@@ -1,6 +1,5 @@
 -- One law for a class's first row, one for a BinaryArray, one for any other row.
 use Rattle.needs.specs.Laws.{one_class, one_array, one_none}
-use borrow.Author.Rules.{rules}
 use Rattle.needs.proofs.need_one.Goals as goal
 
 pub returns-then-is_first : goal.returns-then-is_first

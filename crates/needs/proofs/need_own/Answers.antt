@@ -1,6 +1,5 @@
 -- One law for a class from a library, one for a class from the system.
 use Rattle.needs.specs.Laws.{own_needs, own_none}
-use borrow.Author.Rules.{rules}
 use Rattle.needs.proofs.need_own.Goals as goal
 
 pub returns-then-r-eq5 : goal.returns-then-r-eq5

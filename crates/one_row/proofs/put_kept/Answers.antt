@@ -1,7 +1,6 @@
 -- The kind and the new number, then what is kept.
 use Rattle.put.specs.Put.{joined_as}
 use Rattle.arrays_out.specs.Laws.{kept_is}
-use borrow.Author.Rules.{rules}
 use Rattle.one_row.proofs.put_kept.Goals as goal
 
 pub returns : goal.returns

@@ -1,7 +1,6 @@
 -- Length and code, then the items.
 use Rattle.put.specs.Put.{joined_as}
 use Rattle.arrays_out.specs.Laws.{primitive_items_is}
-use borrow.Author.Rules.{rules}
 use Rattle.one_row.proofs.put_primitive_items.Goals as goal
 
 pub returns : goal.returns

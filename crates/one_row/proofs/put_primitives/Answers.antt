@@ -1,7 +1,6 @@
 -- The kind and the new number, then the items.
 use Rattle.put.specs.Put.{joined_as}
 use Rattle.arrays_out.specs.Laws.{primitives_is}
-use borrow.Author.Rules.{rules}
 use Rattle.one_row.proofs.put_primitives.Goals as goal
 
 pub returns : goal.returns

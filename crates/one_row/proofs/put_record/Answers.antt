@@ -2,7 +2,6 @@
 use Rattle.put.specs.Put.{became, nothing}
 use Rattle.pieces.specs.Laws.{record_as_lem}
 use Rattle.arrays_out.specs.Laws.{record_0, record_1, record_9, record_other}
-use borrow.Author.Rules.{rules}
 use Rattle.one_row.proofs.put_record.Goals as goal
 
 pub returns-in-0 : goal.returns-in-0

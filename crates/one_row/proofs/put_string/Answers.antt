@@ -1,7 +1,6 @@
 -- The kind and the new number, then the text.
 use Rattle.put.specs.Put.{joined_as}
 use Rattle.arrays_out.specs.Laws.{string_is}
-use borrow.Author.Rules.{rules}
 use Rattle.one_row.proofs.put_string.Goals as goal
 
 pub returns : goal.returns

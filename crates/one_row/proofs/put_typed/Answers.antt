@@ -1,7 +1,6 @@
 -- Kind and code, then the value.
 use Rattle.put.specs.Put.{joined_as}
 use Rattle.arrays_out.specs.Laws.{typed_is}
-use borrow.Author.Rules.{rules}
 use Rattle.one_row.proofs.put_typed.Goals as goal
 
 pub returns : goal.returns

@@ -1,5 +1,4 @@
 -- The span's end.
-use borrow.Author.Rules.{rules}
 use mathlib.Core.Path.{ap}
 use Rattle.format.specs.declared.Span.{Span}
 use Rattle.peeking.specs.Peeking.{after_string}

@@ -1,5 +1,4 @@
 -- One law for each kind of value.
-use borrow.Author.Rules.{rules}
 use native.Mathlib.Omega.{arith}
 use Rattle.peeking.specs.Laws.{value_char, value_decimal, value_fixed}
 use Rattle.peeking.proofs.after_value.Goals as goal

@@ -1,5 +1,4 @@
 -- Past the end a list has its default.
-use borrow.Author.Rules.{rules}
 use native.Mathlib.Omega.{arith}
 use Rattle.peeking.specs.Laws.{byte_past}
 use Rattle.peeking.proofs.byte_at.Goals as goal

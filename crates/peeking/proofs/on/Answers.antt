@@ -1,5 +1,4 @@
 -- One law for each answer.
-use borrow.Author.Rules.{rules}
 use native.Mathlib.Omega.{arith}
 use Rattle.peeking.specs.Laws.{onward_in, onward_end, onward_past}
 use Rattle.peeking.proofs.on.Goals as goal

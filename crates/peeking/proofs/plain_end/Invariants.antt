@@ -1,14 +1,8 @@
 -- Where the plain bytes from the place on end is where those from the index on end; the measure is what is left.
 use Prim.Native.Nat.{◌-◌}
-use mathlib.Core.Path.{◌≡◌, refl, sym, ◌∙◌}
-use native.Mathlib.Omega.{arith}
+use mathlib.Core.Path.{◌≡◌}
 use lib.ListN.{length}
-use borrow.Author.Rules.{rules}
-use borrow.Author.Tests.{not-true, not-false}
 use Rattle.peeking.specs.Peeking.{plain_end}
-use Rattle.peeking.specs.Laws.{plain_past, plain_stop, plain_on}
-use mathlib.Core.Path.{ap}
-use mathlib.Core.Bool.{not}
 use Rattle.peeking.proofs.plain_end.Given as goal
 
 abbrev pub invariant-loop-i : goal.invariant-loop-i

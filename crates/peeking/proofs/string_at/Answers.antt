@@ -1,5 +1,4 @@
 -- What was judged before, at a place that is not past the end.
-use borrow.Author.Rules.{rules}
 use Rattle.peeking.specs.Peeking.{string_span}
 use Rattle.peeking.proofs.string_at.Goals as goal
 

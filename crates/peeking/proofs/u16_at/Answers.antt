@@ -1,5 +1,4 @@
 -- The definition by halves is the code's.
-use borrow.Author.Rules.{rules}
 use Rattle.peeking.specs.Peeking.{two_at}
 use Rattle.peeking.proofs.u16_at.Goals as goal
 

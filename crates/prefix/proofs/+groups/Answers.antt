@@ -1,5 +1,4 @@
 -- Each return is one law of the definition.
-use borrow.Author.Rules.{rules}
 use native.Mathlib.Omega.{arith}
 use mathlib.Core.Path.{sym}
 use Rattle.prefix.specs.Laws.{short, low, fifth_high, fifth, last, more, small}

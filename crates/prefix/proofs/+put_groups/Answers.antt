@@ -1,7 +1,7 @@
 -- A group is laid over the front and the rest handed on: the law `handed` joins the two.
-use mathlib.Core.Path.{refl, ap, ◌∙◌}
+use mathlib.Core.Path.{refl, ap}
 use mathlib.Core.List.{[], ◌∷◌}
-use lib.ListN.{length, set, length-set, length-take, length-drop}
+use lib.ListN.{length, length-set, length-take, length-drop}
 use Rattle.format.specs.Prefix.{groups_of}
 use Rattle.prefix.specs.Groups.{groups_last, groups_next, groups_room, groups_some}
 use Rattle.prefix.specs.Writing.{laid_one, handed}

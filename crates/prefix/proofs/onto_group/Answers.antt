@@ -1,5 +1,4 @@
 -- The number after its low group fits a u32, because the groups that follow are below 2 ^ 24.
-use borrow.Author.Rules.{rules}
 use native.Mathlib.Omega.{arith}
 use Rattle.prefix.proofs.onto_group.Goals as goal
 

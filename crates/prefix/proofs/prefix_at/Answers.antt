@@ -1,5 +1,4 @@
 -- A byte below 128 is the whole prefix (`last`); else it is `groups`.
-use borrow.Author.Rules.{rules}
 use native.Mathlib.Omega.{arith}
 use mathlib.Core.Path.{sym}
 use Rattle.prefix.specs.Laws.{last, later_most}

@@ -1,5 +1,4 @@
 -- The formula is the count of groups; it answers nothing of use for 0, which has one group.
-use borrow.Author.Rules.{rules}
 use native.Mathlib.Omega.{arith}
 use mathlib.Core.Path.{sym}
 use lib.Count.{leading_le}

@@ -1,7 +1,6 @@
 -- Where there is room the groups are laid over the front, else nothing is: the two ways that a writer ends.
 use native.Mathlib.Omega.{arith}
 use Rattle.prefix.specs.Writing.{written_none, written_all}
-use borrow.Author.Rules.{rules}
 use Rattle.prefix.proofs.put_prefix.Goals as goal
 
 pub returns-then-out-len : goal.returns-then-out-len

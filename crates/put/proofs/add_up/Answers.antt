@@ -2,7 +2,6 @@
 use mathlib.Core.Path.{sym}
 use native.Mathlib.Omega.{arith}
 use Rattle.put.specs.Put.{capped_below, capped_above}
-use borrow.Author.Rules.{rules}
 use Rattle.put.proofs.add_up.Goals as goal
 
 pub returns-then-a-b : goal.returns-then-a-b

@@ -3,7 +3,6 @@ use mathlib.Core.Path.{refl}
 use native.Mathlib.Omega.{arith}
 use Rattle.prefix.specs.Writing.{laid_one}
 use Rattle.put.specs.Put.{unfilled, filled}
-use borrow.Author.Rules.{rules}
 use Rattle.put.proofs.put_byte.Goals as goal
 
 pub returns-then-out-lt1 : goal.returns-then-out-lt1

@@ -2,7 +2,6 @@
 use native.Mathlib.Omega.{arith}
 use lib.ListN.{length-set}
 use Rattle.put.specs.Pieces.{number_unfilled, number_filled}
-use borrow.Author.Rules.{rules}
 use Rattle.put.proofs.put_number.Goals as goal
 
 pub returns-then-out-lt4 : goal.returns-then-out-lt4

@@ -3,7 +3,6 @@ use native.Mathlib.Omega.{arith}
 use Rattle.spans.specs.Spans.{span_within}
 use Rattle.put.specs.Put.{written_filled, joined_as}
 use Rattle.put.specs.Pieces.{span_small, text_is}
-use borrow.Author.Rules.{rules}
 use Rattle.put.proofs.put_text.Goals as goal
 
 pub overflow_sub-n : goal.overflow_sub-n

@@ -3,7 +3,6 @@ use mathlib.Core.Path.{refl}
 use native.Mathlib.Omega.{arith}
 use Rattle.put.specs.Put.{unfilled, filled}
 use Rattle.put.specs.Pieces.{laid_two}
-use borrow.Author.Rules.{rules}
 use Rattle.put.proofs.put_two.Goals as goal
 
 pub returns-then-out-lt2 : goal.returns-then-out-lt2

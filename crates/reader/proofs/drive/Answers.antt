@@ -2,13 +2,10 @@
 use mathlib.Core.Path.{◌≡◌, refl, ap, ◌∙◌}
 use Prim.Native.Nat.{◌-◌}
 use native.Mathlib.Omega.{arith}
-use borrow.Author.Rules.{rules}
 use lib.ListN.{length}
-use Rattle.format.specs.Terms.{terms}
 use Rattle.format.specs.Rows.{room_of}
-use Rattle.format.specs.Machine.{stream_of}
 use Rattle.adding.specs.Held.{state_of, after}
-use Rattle.reader.specs.Loop.{Runs, held, same_room, held_room, moves_on, gone, ends, ends_roomy, refuses}
+use Rattle.reader.specs.Loop.{held, same_room, held_room, moves_on, gone, ends, ends_roomy, refuses}
 use Rattle.reader.specs.Ends.{end_by, within_room}
 use Rattle.reader.proofs.drive.Goals as goal
 

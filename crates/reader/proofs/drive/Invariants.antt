@@ -1,15 +1,11 @@
 -- The invariant: what is left to run gives the whole (`Runs`). The measure is what is left of the stream, which each step shortens.
-use mathlib.Core.Path.{◌≡◌, refl, ap, ◌∙◌}
+use mathlib.Core.Path.{◌≡◌}
 use Prim.Native.Nat.{◌-◌}
-use native.Mathlib.Omega.{arith}
-use borrow.Author.Rules.{rules}
 use lib.ListN.{length}
 use Rattle.format.specs.Terms.{terms}
 use Rattle.format.specs.Rows.{room_of}
 use Rattle.format.specs.Machine.{stream_of}
-use Rattle.adding.specs.Held.{state_of, after}
-use Rattle.reader.specs.Loop.{Runs, held, same_room, held_room, moves_on, gone, ends, ends_roomy, refuses}
-use Rattle.reader.specs.Ends.{end_by, within_room}
+use Rattle.reader.specs.Loop.{Runs}
 use Rattle.reader.proofs.drive.Given as goal
 
 abbrev pub invariant-loop-n : goal.invariant-loop-n

@@ -3,7 +3,6 @@ use mathlib.Core.Path.{ap, ◌∙◌}
 use Rattle.format.specs.Rows.{rows_of}
 use Rattle.format.specs.Machine.{accepted}
 use Rattle.reader.specs.Ends.{end_by, trailing, rootless, lost, whole}
-use borrow.Author.Rules.{rules}
 use Rattle.reader.proofs.finish_rows.Goals as goal
 
 pub returns-then-at-s : goal.returns-then-at-s

@@ -3,7 +3,6 @@ use mathlib.Core.Path.{sym, ap, ◌∙◌}
 use Rattle.format.specs.Rows.{room_of}
 use Rattle.book.specs.Moves.{good_small}
 use Rattle.reader.specs.Ends.{end_by, too_large, bad_book, good_book}
-use borrow.Author.Rules.{rules}
 use Rattle.reader.proofs.judge.Goals as goal
 
 pub returns-then-s-gt-LIMIT : goal.returns-then-s-gt-LIMIT

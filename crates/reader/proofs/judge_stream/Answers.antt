@@ -4,7 +4,6 @@ use native.Mathlib.Omega.{arith}
 use lib.ListN.{length}
 use Rattle.format.specs.Rows.{room_of}
 use Rattle.reader.specs.Ends.{end_by, fresh_held, runs_room, answered_room, within_room, head_on, head_end, head_roomy, head_bad}
-use borrow.Author.Rules.{rules}
 use Rattle.reader.proofs.judge_stream.Goals as goal
 
 pub header_step-q-requires : goal.header_step-q-requires

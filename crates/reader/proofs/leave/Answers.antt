@@ -1,6 +1,5 @@
 -- What is cleared is what is left.
 use Rattle.reader.specs.Ends.{left_rows, left_zeros, within_rows}
-use borrow.Author.Rules.{rules}
 use Rattle.reader.proofs.leave.Goals as goal
 
 pub clear_after-requires : goal.clear_after-requires

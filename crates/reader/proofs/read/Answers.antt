@@ -1,7 +1,6 @@
 -- The words that are left are those of the outcome.
 use mathlib.Core.Path.{sym}
 use Rattle.reader.specs.Ends.{within_room, read_left}
-use borrow.Author.Rules.{rules}
 use Rattle.reader.proofs.read.Goals as goal
 
 pub leave-requires : goal.leave-requires

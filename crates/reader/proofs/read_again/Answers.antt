@@ -4,7 +4,6 @@ use mathlib.Core.Bool.{false}
 use Rattle.format.specs.Rows.{room_of}
 use Rattle.book.specs.Moves.{good_small}
 use Rattle.reader.specs.Ends.{end_by, good_book, within_room, read_left}
-use borrow.Author.Rules.{rules}
 use Rattle.reader.proofs.read_again.Goals as goal
 
 pub judge_stream-a-requires : goal.judge_stream-a-requires

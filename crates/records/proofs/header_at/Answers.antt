@@ -1,5 +1,4 @@
 -- Two numbers, then the version.
-use borrow.Author.Rules.{rules}
 use mathlib.Core.Path.{sym, ◌∙◌}
 use Rattle.records.specs.Laws.{root_short, header_short, header_version}
 use Rattle.records.proofs.header_at.Goals as goal

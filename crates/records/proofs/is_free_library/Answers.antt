@@ -1,5 +1,4 @@
 -- The sign first, then the lookup.
-use borrow.Author.Rules.{rules}
 use mathlib.Core.Path.{sym, ◌∙◌}
 use Rattle.format.specs.Rows.{rows_of}
 use Rattle.records.specs.Laws.{library_negative, library_used}

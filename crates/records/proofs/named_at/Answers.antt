@@ -1,5 +1,4 @@
 -- One law for each answer of the name.
-use borrow.Author.Rules.{rules}
 use mathlib.Core.Path.{sym, ◌∙◌}
 use Rattle.records.specs.Laws.{named_end, named_bad}
 use Rattle.records.proofs.named_at.Goals as goal

@@ -1,6 +1,5 @@
 -- One law for each answer.
 use Prim.Native.Nat.{◌+◌}
-use borrow.Author.Rules.{rules}
 use mathlib.Core.Path.{sym, ◌∙◌}
 use native.Mathlib.Omega.{arith}
 use Rattle.records.specs.Laws.{run_end, run_short}

@@ -1,5 +1,4 @@
 -- The number is judged, and what follows it is read where it is good.
-use borrow.Author.Rules.{rules}
 use mathlib.Core.Path.{sym, ◌∙◌}
 use Rattle.records.specs.Stages.{judged_short, judged_good, judged_bad, reference_parts}
 use Rattle.records.proofs.reference_at.Goals as goal

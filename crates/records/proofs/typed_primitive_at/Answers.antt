@@ -1,5 +1,4 @@
 -- One law for each answer of the code and of the value.
-use borrow.Author.Rules.{rules}
 use mathlib.Core.Path.{sym, ap, ◌∙◌}
 use Rattle.format.specs.Types.{primitive_of, coded}
 use Rattle.records.specs.Laws.{code_bad, value_bad, value_end_lem}

@@ -1,5 +1,4 @@
 -- One law for each answer: major, then minor.
-use borrow.Author.Rules.{rules}
 use mathlib.Core.Path.{sym, ◌∙◌}
 use Rattle.records.specs.Laws.{major_short, major_bad, minor_short, minor_bad, version_end}
 use Rattle.records.proofs.version_at.Goals as goal

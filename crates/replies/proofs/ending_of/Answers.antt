@@ -1,5 +1,4 @@
 -- Each arm is a clause of `ending_of`.
-use borrow.Author.Rules.{rules}
 use Rattle.replies.proofs.ending_of.Goals as goal
 
 pub returns-in-FirstRefused : goal.returns-in-FirstRefused

@@ -2,7 +2,6 @@
 use native.Mathlib.Omega.{arith}
 use mathlib.Core.Path.{sym}
 use Rattle.same.specs.Laws.{part_short_a, part_short_b, part_whole}
-use borrow.Author.Rules.{rules}
 use Rattle.same.proofs.same_part.Goals as goal
 
 pub returns-then-s-a : goal.returns-then-s-a

@@ -1,5 +1,4 @@
 -- The definition asks what the code asks.
-use borrow.Author.Rules.{rules}
 use borrow.Author.Tests.{le-leb, lt-leb}
 use Rattle.shapes.proofs.judge.Goals as goal
 

@@ -1,10 +1,7 @@
 -- The invariant: the lengths that are left, from p on, over the product so far answer what all of them answer. The measure: how many
 -- are left.
-use borrow.Author.Rules.{rules}
-use Prim.Native.Nat.{◌≤◌}
-use mathlib.Core.Path.{◌≡◌, refl, sym, ◌∙◌}
+use mathlib.Core.Path.{refl, sym, ◌∙◌}
 use native.Mathlib.Omega.{arith}
-use Rattle.format.specs.Records.{lengths_at}
 use Rattle.shapes.specs.Lengths.{capped_within, lengths_none, lengths_short, lengths_bad, lengths_step}
 use Rattle.shapes.proofs.lengths_at.Goals as goal
 

@@ -1,6 +1,5 @@
 -- Both factors are small enough for their product; then the definition asks what the code asks.
 use Prim.Native.Nat.{◌*◌}
-use borrow.Author.Rules.{rules}
 use borrow.Author.Tests.{le-leb, lt-leb}
 use native.Mathlib.Omega.{arith}
 use Rattle.shapes.specs.Lengths.{capped, product_fits}

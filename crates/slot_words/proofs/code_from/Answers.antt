@@ -1,5 +1,4 @@
 -- A number above every byte is no code; any other is judged as a byte.
-use borrow.Author.Rules.{rules}
 use native.Mathlib.Omega.{arith}
 use Rattle.codes.specs.Codes.{no_code}
 use Rattle.slot_words.proofs.code_from.Goals as goal

@@ -1,6 +1,5 @@
 -- Each arm computes; `code-small` bounds the sum.
 use native.Mathlib.Omega.{arith}
-use borrow.Author.Rules.{rules}
 use Rattle.slot_words.specs.Words.{code_small}
 use Rattle.slot_words.proofs.slot_code.Goals as goal
 

@@ -1,6 +1,5 @@
 -- The tests of the definition are those of the code, in its order.
 use borrow.Author.Tests.{lt-ltb, le-ltb, ne_eqb}
-use borrow.Author.Rules.{rules}
 use Rattle.slot_words.specs.Words.{slot_from}
 use Rattle.slot_words.proofs.slot_from.Goals as goal
 

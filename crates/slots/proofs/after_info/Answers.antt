@@ -1,5 +1,4 @@
 -- The place fits a u32: a detail ends within the stream, or where it begins.
-use borrow.Author.Rules.{rules}
 use native.Mathlib.Omega.{arith}
 use Rattle.spans.specs.Spans.{info_place}
 use Rattle.slots.proofs.after_info.Goals as goal

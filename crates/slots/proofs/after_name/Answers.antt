@@ -1,5 +1,4 @@
 -- The place fits a u32: a name ends within the bytes, or where it begins.
-use borrow.Author.Rules.{rules}
 use native.Mathlib.Omega.{arith}
 use Rattle.spans.specs.Spans.{text_within}
 use Rattle.slots.proofs.after_name.Goals as goal

@@ -1,5 +1,4 @@
 -- The two bytes are those of the definition.
-use borrow.Author.Rules.{rules}
 use Rattle.slots.proofs.booked_at.Goals as goal
 
 pub returns : goal.returns

@@ -1,5 +1,4 @@
 -- One law for each way.
-use borrow.Author.Rules.{rules}
 use native.Mathlib.Omega.{arith}
 use mathlib.Core.Path.{sym}
 use Rattle.slots.specs.Slots.{moved_alike, moved_booked, moved_on}

@@ -1,5 +1,4 @@
 -- Type byte, detail and name, one after the other.
-use borrow.Author.Rules.{rules}
 use Rattle.slots.proofs.next_booked.Goals as goal
 
 pub returns : goal.returns

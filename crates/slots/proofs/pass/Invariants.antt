@@ -1,9 +1,6 @@
 -- The invariant: the slots that are left, from u on, answer what all of them answer. The measure: how many are left.
-use borrow.Author.Rules.{rules}
-use mathlib.Core.Path.{◌≡◌, refl, sym, ◌∙◌}
-use native.Mathlib.Omega.{arith}
+use mathlib.Core.Path.{◌≡◌}
 use Rattle.format.specs.Types.{passed}
-use Rattle.slots.specs.Slots.{passed_alike, passed_walk, passed_none, passed_crossed, passed_step}
 use Rattle.slots.proofs.pass.Given as goal
 
 abbrev pub invariant-loop-left : goal.invariant-loop-left

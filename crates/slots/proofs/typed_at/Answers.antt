@@ -1,5 +1,4 @@
 -- The slot type is that of the two bytes.
-use borrow.Author.Rules.{rules}
 use Rattle.format.specs.Types.{typed_at}
 use Rattle.slots.proofs.typed_at.Goals as goal
 

@@ -1,5 +1,4 @@
 -- The definition asks what the code asks.
-use borrow.Author.Rules.{rules}
 use borrow.Author.Tests.{lt-ltb, le-ltb}
 use Rattle.spans.proofs.after_byte.Goals as goal
 

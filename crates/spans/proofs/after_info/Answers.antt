@@ -1,5 +1,4 @@
 -- One law for each type byte that has a detail, and one for all others.
-use borrow.Author.Rules.{rules}
 use mathlib.Core.Path.{sym, ◌∙◌}
 use Rattle.spans.specs.Spans.{after_primitive, after_array, after_system, after_class, after_none}
 use Rattle.spans.proofs.after_info.Goals as goal

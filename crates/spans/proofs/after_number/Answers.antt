@@ -1,5 +1,4 @@
 -- The definition asks for the four bytes alone; a place past the end has none of them.
-use borrow.Author.Rules.{rules}
 use native.Mathlib.Omega.{arith}
 use borrow.Author.Tests.{le-leb, lt-leb}
 use lib.ListN.{length}

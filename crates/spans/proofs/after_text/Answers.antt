@@ -1,5 +1,4 @@
 -- Where the span ends.
-use borrow.Author.Rules.{rules}
 use Rattle.spans.proofs.after_text.Goals as goal
 
 pub returns : goal.returns

@@ -1,5 +1,4 @@
 -- One law for each answer; the sum fits, since a prefix ends within the stream and its number has 31 bits.
-use borrow.Author.Rules.{rules}
 use native.Mathlib.Omega.{arith}
 use mathlib.Core.Path.{sym, ◌∙◌}
 use Rattle.format.specs.declared.Setting.TheVariants as Q

@@ -3,7 +3,6 @@ use mathlib.Core.Path.{◌∙◌}
 use Rattle.format.specs.Rows.{room_of}
 use Rattle.adding.specs.Held.{state_of}
 use Rattle.adding.specs.Laws.{act_as, act_bad, short_of}
-use borrow.Author.Rules.{rules}
 use Rattle.steps.proofs.take.Goals as goal
 
 pub take_fields-requires : goal.take_fields-requires

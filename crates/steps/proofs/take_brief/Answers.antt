@@ -15,7 +15,6 @@ use Rattle.format.specs.Machine.{State, object, act}
 use Rattle.adding.specs.Held.{state_of}
 use Rattle.adding.specs.Laws.{slots_taken, act_plain, act_as, act_bad, short_of}
 use Rattle.kinds.specs.Kinds.{is_brief, Hollow, by_brief}
-use borrow.Author.Rules.{rules}
 use Rattle.steps.proofs.take_brief.Goals as goal
 
 module _ (β s : List ℕ) (room : ℕ) (st : State) (h : Head) (ty : Typed) (e : ty ≡ moved β s st.stack.cur.typed) (z : h.slots ≡ 0) where

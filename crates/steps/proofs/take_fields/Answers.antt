@@ -3,7 +3,6 @@ use mathlib.Core.Path.{sym, ◌∙◌}
 use Rattle.format.specs.Rows.{room_of}
 use Rattle.adding.specs.Held.{state_of}
 use Rattle.adding.specs.Laws.{act_13, act_14, act_12, act_11, act_object, act_plain}
-use borrow.Author.Rules.{rules}
 use Rattle.steps.proofs.take_fields.Goals as goal
 
 pub returns-then-kind-eq13 : goal.returns-then-kind-eq13

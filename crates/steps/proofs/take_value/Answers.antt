@@ -4,7 +4,6 @@ use Rattle.format.specs.Terms.{terms}
 use Rattle.format.specs.Rows.{room_of}
 use Rattle.adding.specs.Held.{state_of}
 use Rattle.adding.specs.Laws.{value_took, value_short, value_bad}
-use borrow.Author.Rules.{rules}
 use Rattle.steps.proofs.take_value.Goals as goal
 
 pub take_slots-requires : goal.take_slots-requires

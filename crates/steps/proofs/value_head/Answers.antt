@@ -4,7 +4,6 @@ use mathlib.Core.Path.{ap}
 use Rattle.format.specs.declared.SlotType.TheVariants as S
 use Rattle.format.specs.declared.Head.{Head}
 use Rattle.format.specs.Types.{alike}
-use borrow.Author.Rules.{rules}
 use Rattle.steps.proofs.value_head.Goals as goal
 
 abbrev with_code : ℕ → ℕ → Head

@@ -1,5 +1,4 @@
 -- One law for each answer, from what the prefix answers and then from what the text answers.
-use borrow.Author.Rules.{rules}
 use mathlib.Core.Path.{sym, ◌∙◌}
 use Rattle.strings.specs.Laws.{string_prefix, string_text, string_part}
 use Rattle.strings.proofs.string_at.Goals as goal

@@ -1,10 +1,10 @@
 -- Invariant: the words before i are zero, the others as they were. Measure: the words left.
 use borrow.Author.Fill.{fill_more}
 use mathlib.Core.Path.{◌≡◌, refl, ◌∙◌}
-use mathlib.Core.List.{◌++◌, append-nil}
-use Prim.Native.Nat.{◌≤◌, ◌-◌}
+use mathlib.Core.List.{append-nil}
+use Prim.Native.Nat.{◌-◌}
 use native.Mathlib.Omega.{arith}
-use lib.ListN.{length, drop, replicate, length-set}
+use lib.ListN.{length, length-set}
 use lib.Seq.{drop-length}
 use Rattle.table.proofs.clear.Goals as goal
 

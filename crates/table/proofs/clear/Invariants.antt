@@ -1,11 +1,8 @@
 -- Invariant: the words before i are zero, the others as they were. Measure: the words left.
-use borrow.Author.Fill.{fill_more}
-use mathlib.Core.Path.{◌≡◌, refl, ◌∙◌}
-use mathlib.Core.List.{◌++◌, append-nil}
+use mathlib.Core.Path.{◌≡◌}
+use mathlib.Core.List.{◌++◌}
 use Prim.Native.Nat.{◌≤◌, ◌-◌}
-use native.Mathlib.Omega.{arith}
-use lib.ListN.{length, drop, replicate, length-set}
-use lib.Seq.{drop-length}
+use lib.ListN.{length, drop, replicate}
 use Rattle.table.proofs.clear.Given as goal
 
 abbrev pub invariant-loop-i : goal.invariant-loop-i

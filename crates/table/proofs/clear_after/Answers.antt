@@ -1,7 +1,6 @@
 -- The part from row n on is cleared (`cleared`).
 use Rattle.table.specs.Rows.{cleared}
 use native.Mathlib.Omega.{arith}
-use borrow.Author.Rules.{rules}
 use Rattle.table.proofs.clear_after.Goals as goal
 
 pub returns : goal.returns

@@ -1,7 +1,6 @@
 -- The word is row i's (`row-in`).
 use mathlib.Core.Path.{ap}
 use native.Mathlib.Omega.{arith}
-use borrow.Author.Rules.{rules}
 use Rattle.format.specs.declared.Row.{Row}
 use Rattle.table.specs.Rows.{row_in_lem}
 use Rattle.table.proofs.owner_at.Goals as goal

@@ -2,7 +2,6 @@
 use Rattle.table.specs.Rows.{row_over}
 use native.Mathlib.Omega.{arith}
 use lib.ListN.{length-set}
-use borrow.Author.Rules.{rules}
 use Rattle.table.proofs.put_at.Goals as goal
 
 pub bounds-table-b-2 : goal.bounds-table-b-2

@@ -1,6 +1,5 @@
 -- The row after the first n is written over, which is one row more (`row_more`).
 use Rattle.table.specs.Rows.{row_more}
-use borrow.Author.Rules.{rules}
 use Rattle.table.proofs.put_row.Goals as goal
 
 pub returns : goal.returns

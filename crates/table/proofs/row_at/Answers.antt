@@ -1,7 +1,6 @@
 -- Eight reads are row i (`row-in`); past the first n it is the blank row (`row_out`).
 use Rattle.table.specs.Rows.{row_in_lem, row_out_lem}
 use native.Mathlib.Omega.{arith}
-use borrow.Author.Rules.{rules}
 use Rattle.table.proofs.row_at.Goals as goal
 
 pub returns-then-n-i : goal.returns-then-n-i

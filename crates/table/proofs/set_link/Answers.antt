@@ -1,7 +1,6 @@
 -- One store (`link_set`).
 use Rattle.table.specs.Rows.{link_set}
 use native.Mathlib.Omega.{arith}
-use borrow.Author.Rules.{rules}
 use Rattle.table.proofs.set_link.Goals as goal
 
 pub returns : goal.returns

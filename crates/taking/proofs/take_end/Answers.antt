@@ -3,7 +3,6 @@ use mathlib.Core.List.{[]}
 use native.Mathlib.Omega.{arith}
 use Rattle.format.specs.Rows.{room_of}
 use Rattle.adding.specs.Laws.{end_room, end_full}
-use borrow.Author.Rules.{rules}
 use Rattle.taking.proofs.take_end.Goals as goal
 
 pub returns-then-rows-room : goal.returns-then-rows-room

@@ -1,7 +1,6 @@
 -- The row apart and the added row, put together by one law.
 use Rattle.format.specs.Rows.{room_of}
 use Rattle.adding.specs.Laws.{took_library}
-use borrow.Author.Rules.{rules}
 use Rattle.taking.proofs.take_library.Goals as goal
 
 pub returns : goal.returns

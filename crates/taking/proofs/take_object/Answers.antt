@@ -1,7 +1,6 @@
 -- One law for each way: no slots, opened, too deep; each takes the row, the stack and the added row from its callee.
 use Rattle.format.specs.Rows.{room_of}
 use Rattle.adding.specs.Laws.{took_hollow, took_open, too_deep}
-use borrow.Author.Rules.{rules}
 use Rattle.taking.proofs.take_object.Goals as goal
 
 pub returns-then-slots-eq0 : goal.returns-then-slots-eq0

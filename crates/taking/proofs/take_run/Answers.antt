@@ -3,7 +3,6 @@ use mathlib.Core.Path.{◌∙◌}
 use Rattle.format.specs.Rows.{room_of}
 use Rattle.adding.specs.Held.{state_of}
 use Rattle.adding.specs.Laws.{run_long, run_over_lem, run_crossed}
-use borrow.Author.Rules.{rules}
 use Rattle.taking.proofs.take_run.Goals as goal
 
 pub returns-then-m-n : goal.returns-then-m-n

@@ -1,7 +1,6 @@
 -- The row, the filled slots and the added row, put together by one law.
 use Rattle.format.specs.Rows.{room_of}
 use Rattle.adding.specs.Laws.{took_slots}
-use borrow.Author.Rules.{rules}
 use Rattle.taking.proofs.take_slots.Goals as goal
 
 pub returns : goal.returns

@@ -1,5 +1,4 @@
 -- Each return is one case of `of_four`: what `has` ensures decides it.
-use borrow.Author.Rules.{rules}
 use Rattle.text.specs.Scalars.{of_four}
 use Rattle.text.proofs.four.Goals as goal
 

@@ -1,5 +1,4 @@
 -- Each return is one case of `has_at`: the tests of the branches decide it.
-use borrow.Author.Rules.{rules}
 use Rattle.fields.specs.Auto.{auto}
 use Rattle.text.specs.Scalars.{has_at}
 use Rattle.text.proofs.has.Goals as goal

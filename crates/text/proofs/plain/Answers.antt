@@ -1,10 +1,7 @@
 -- The invariant: all of s is text exactly when what is left of it behind the first n bytes is. The measure: the bytes left.
-use Prim.Native.Nat.{◌≤◌, ◌-◌}
-use mathlib.Core.Path.{◌≡◌, ◌∙◌, refl}
-use borrow.Author.Rules.{rules}
+use Prim.Native.Nat.{◌-◌}
+use mathlib.Core.Path.{◌∙◌, refl}
 use native.Mathlib.Omega.{arith}
-use lib.ListN.{length, drop}
-use Rattle.format.specs.Text.{well_formed}
 use Rattle.text.specs.Left.{plain_four}
 use Rattle.text.proofs.plain.Goals as goal
 

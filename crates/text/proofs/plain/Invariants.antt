@@ -1,11 +1,8 @@
 -- The invariant: all of s is text exactly when what is left of it behind the first n bytes is. The measure: the bytes left.
 use Prim.Native.Nat.{◌≤◌, ◌-◌}
-use mathlib.Core.Path.{◌≡◌, ◌∙◌, refl}
-use borrow.Author.Rules.{rules}
-use native.Mathlib.Omega.{arith}
+use mathlib.Core.Path.{◌≡◌}
 use lib.ListN.{length, drop}
 use Rattle.format.specs.Text.{well_formed}
-use Rattle.text.specs.Left.{plain_four}
 use Rattle.text.proofs.plain.Given as goal
 
 abbrev pub invariant-loop-n : goal.invariant-loop-n

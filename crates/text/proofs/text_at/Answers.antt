@@ -1,5 +1,4 @@
 -- Each return is one law of `text_at`; what `well_formed` ensures of the part picks the last two.
-use borrow.Author.Rules.{rules}
 use native.Mathlib.Omega.{arith}
 use mathlib.Core.Path.{sym, ◌∙◌}
 use Rattle.text.specs.Laws.{text_short, text_good, text_bad}

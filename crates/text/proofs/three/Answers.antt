@@ -1,5 +1,4 @@
 -- Each return is one case of `of_three`: what `has` ensures decides it.
-use borrow.Author.Rules.{rules}
 use Rattle.text.specs.Scalars.{of_three}
 use Rattle.text.proofs.three.Goals as goal
 

@@ -1,5 +1,4 @@
 -- Each return is one case of `of_two`: what `has` ensures decides it.
-use borrow.Author.Rules.{rules}
 use Rattle.text.specs.Scalars.{of_two}
 use Rattle.text.proofs.two.Goals as goal
 

@@ -1,10 +1,7 @@
 -- The invariant: all of s is text exactly when what is left of it from i on is. The measure: the bytes left.
-use Prim.Native.Nat.{◌≤◌, ◌-◌}
-use mathlib.Core.Path.{◌≡◌, sym, ◌∙◌}
-use borrow.Author.Rules.{rules}
+use Prim.Native.Nat.{◌-◌}
+use mathlib.Core.Path.{sym, ◌∙◌}
 use native.Mathlib.Omega.{arith}
-use lib.ListN.{length, drop}
-use Rattle.format.specs.Text.{well_formed}
 use Rattle.text.specs.Left.{scalar_on, scalar_none, nothing_left}
 use Rattle.text.proofs.well_formed.Goals as goal
 

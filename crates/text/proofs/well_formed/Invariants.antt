@@ -1,11 +1,8 @@
 -- The invariant: all of s is text exactly when what is left of it from i on is. The measure: the bytes left.
 use Prim.Native.Nat.{◌≤◌, ◌-◌}
-use mathlib.Core.Path.{◌≡◌, sym, ◌∙◌}
-use borrow.Author.Rules.{rules}
-use native.Mathlib.Omega.{arith}
+use mathlib.Core.Path.{◌≡◌}
 use lib.ListN.{length, drop}
 use Rattle.format.specs.Text.{well_formed}
-use Rattle.text.specs.Left.{scalar_on, scalar_none, nothing_left}
 use Rattle.text.proofs.well_formed.Given as goal
 
 abbrev pub invariant-loop-i : goal.invariant-loop-i

@@ -1,7 +1,6 @@
 -- Each return is one row of the table, or none: first the rows of one first byte, then those of a range, then what lies between and behind them.
 use mathlib.Core.Path.{◌∙◌}
 use native.Mathlib.Omega.{arith}
-use borrow.Author.Rules.{rules}
 use Rattle.text.specs.Rows.{row_1, row_2, row_3, row_4, row_5, row_6, row_7, row_8, row_9, before_row_2, after_row_9, by_row_lem, by_row_1, by_none}
 use Rattle.text.proofs.width_at.Goals as goal
 

@@ -1,6 +1,5 @@
 -- Each arm is a clause of `due_of`.
 use Rattle.turns.specs.Due.{due_of}
-use borrow.Author.Rules.{rules}
 use Rattle.turns.proofs.due_in.Goals as goal
 
 pub returns-in-Primitive : goal.returns-in-Primitive

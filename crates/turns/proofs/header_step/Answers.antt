@@ -5,7 +5,6 @@ use Rattle.format.specs.Rows.{room_of}
 use Rattle.adding.specs.Held.{state_of}
 use Rattle.kinds.specs.Kinds.{kind_within, taken_long, header_long}
 use Rattle.turns.specs.Records.{record_on, record_off}
-use borrow.Author.Rules.{rules}
 use Rattle.turns.proofs.header_step.Goals as goal
 
 pub long_step-requires : goal.long_step-requires

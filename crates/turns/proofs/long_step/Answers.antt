@@ -5,7 +5,6 @@ use Rattle.format.specs.Rows.{room_of}
 use Rattle.format.specs.Machine.{act}
 use Rattle.adding.specs.Held.{state_of}
 use Rattle.turns.specs.Records.{heading_short}
-use borrow.Author.Rules.{rules}
 use Rattle.turns.proofs.long_step.Goals as goal
 
 pub take-requires : goal.take-requires

@@ -6,7 +6,6 @@ use Rattle.adding.specs.Held.{state_of}
 use Rattle.format.specs.declared.Where.{Where}
 use Rattle.format.specs.Machine.{record_step}
 use Rattle.turns.specs.Due.{due_step}
-use borrow.Author.Rules.{rules}
 use Rattle.turns.proofs.one_step.Goals as goal
 
 pub returns-in-Value : goal.returns-in-Value

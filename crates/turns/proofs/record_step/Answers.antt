@@ -6,7 +6,6 @@ use Rattle.adding.specs.Held.{state_of}
 use Rattle.format.specs.Records.{kind_at}
 use Rattle.kinds.specs.Kinds.{kind_within, brief_within, brief_is, brief_taken, taken_long}
 use Rattle.turns.specs.Records.{heading_short, record_on, record_off}
-use borrow.Author.Rules.{rules}
 use Rattle.turns.proofs.record_step.Goals as goal
 
 pub bounds-s-at : goal.bounds-s-at

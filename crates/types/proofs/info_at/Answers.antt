@@ -1,5 +1,4 @@
 -- One law for each type byte that has a detail, and one for all others.
-use borrow.Author.Rules.{rules}
 use mathlib.Core.Path.{sym, ◌∙◌}
 use Rattle.codes.specs.Ends.{info_primitive, info_array, info_system, info_class, info_none}
 use Rattle.types.proofs.info_at.Goals as goal

@@ -1,5 +1,4 @@
 -- The definition asks for 0, and then for the sign.
-use borrow.Author.Rules.{rules}
 use borrow.Author.Tests.{ne_eqb}
 use Rattle.types.proofs.is_positive.Goals as goal
 

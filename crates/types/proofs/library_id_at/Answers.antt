@@ -1,5 +1,4 @@
 -- One law for each answer, from the number that is read.
-use borrow.Author.Rules.{rules}
 use mathlib.Core.Path.{sym, ◌∙◌}
 use Rattle.codes.specs.Ends.{library_short, library_end, library_bad}
 use Rattle.types.proofs.library_id_at.Goals as goal

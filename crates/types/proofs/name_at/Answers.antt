@@ -1,5 +1,4 @@
 -- One law for each answer of the string.
-use borrow.Author.Rules.{rules}
 use mathlib.Core.Path.{sym, ◌∙◌}
 use Rattle.codes.specs.Ends.{name_end, name_bad}
 use Rattle.types.proofs.name_at.Goals as goal

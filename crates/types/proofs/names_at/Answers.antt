@@ -1,9 +1,7 @@
 -- The invariant: the names that are left, from p on, answer what all of them answer. The measure: how many are left.
-use borrow.Author.Rules.{rules}
-use mathlib.Core.Path.{◌≡◌, refl, sym, ◌∙◌}
+use mathlib.Core.Path.{refl, sym, ◌∙◌}
 use native.Mathlib.Omega.{arith}
 use Rattle.fields.specs.Sequence.{times_none, times_more, times_fault}
-use Rattle.format.specs.Values.{times}
 use Rattle.format.specs.Types.{name_at}
 use Rattle.types.proofs.names_at.Goals as goal
 

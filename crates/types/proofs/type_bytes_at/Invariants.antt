@@ -1,8 +1,5 @@
 -- The invariant: the type bytes that are left, from p on, answer what all of them answer. The measure: how many are left.
-use borrow.Author.Rules.{rules}
-use mathlib.Core.Path.{◌≡◌, refl, sym, ◌∙◌}
-use native.Mathlib.Omega.{arith}
-use Rattle.fields.specs.Sequence.{times_none, times_more, times_fault}
+use mathlib.Core.Path.{◌≡◌}
 use Rattle.format.specs.Values.{times}
 use Rattle.format.specs.Types.{type_byte_at}
 use Rattle.types.proofs.type_bytes_at.Given as goal

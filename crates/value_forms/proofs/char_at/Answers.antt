@@ -1,5 +1,4 @@
 -- One law for each answer; the size is what the first byte announces.
-use borrow.Author.Rules.{rules}
 use mathlib.Core.Path.{sym, ◌∙◌}
 use native.Mathlib.Omega.{arith}
 use Rattle.value_forms.specs.Ends.{char_short, char_bad, char_scalar}

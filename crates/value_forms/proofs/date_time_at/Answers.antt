@@ -1,5 +1,4 @@
 -- One law for each answer, from the number that is read.
-use borrow.Author.Rules.{rules}
 use mathlib.Core.Path.{sym, ◌∙◌}
 use native.Mathlib.Omega.{arith}
 use Rattle.value_forms.specs.Ends.{date_short, date_kind, date_ticks, date_end}

@@ -1,5 +1,4 @@
 -- The definition is a function by cases of what the prefix answers.
-use borrow.Author.Rules.{rules}
 use Rattle.format.specs.Values.{decimal_at}
 use Rattle.value_forms.proofs.decimal_at.Goals as goal
 

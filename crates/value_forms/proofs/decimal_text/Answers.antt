@@ -1,5 +1,4 @@
 -- One law for each answer.
-use borrow.Author.Rules.{rules}
 use mathlib.Core.Path.{sym, ◌∙◌}
 use native.Mathlib.Omega.{arith}
 use Rattle.value_forms.specs.Ends.{decimal_short, decimal_end, decimal_bad}

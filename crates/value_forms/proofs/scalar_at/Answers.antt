@@ -1,5 +1,4 @@
 -- One law for each answer.
-use borrow.Author.Rules.{rules}
 use mathlib.Core.Path.{sym, ◌∙◌}
 use native.Mathlib.Omega.{arith}
 use Rattle.value_forms.specs.Ends.{scalar_short, scalar_end, scalar_bad}

@@ -1,5 +1,4 @@
 -- In each arm the definition is the callee's.
-use borrow.Author.Rules.{rules}
 use Rattle.format.specs.Values.{value_at}
 use Rattle.values.proofs.value_at.Goals as goal
 

@@ -1,5 +1,4 @@
 -- A code that has a size: so many bytes are its value. Else the answer is that of `value_at`.
-use borrow.Author.Rules.{rules}
 use mathlib.Core.Path.{◌∙◌}
 use Rattle.value_forms.specs.Ends.{value_sized}
 use Rattle.values.proofs.value_soon.Goals as goal

@@ -1,5 +1,4 @@
 -- One writer for Decimals, one for other values.
-use borrow.Author.Rules.{rules}
 use Rattle.values_out.proofs.put_values.Goals as goal
 
 pub returns-then-prefixed : goal.returns-then-prefixed

@@ -1,7 +1,6 @@
 -- One law for each answer: the place, the kind byte, the ObjectId, its sign, then the string.
 use mathlib.Core.Path.{sym, ◌∙◌}
 use Rattle.view.specs.Laws.{record_past, record_other, record_short, record_id, record_string}
-use borrow.Author.Rules.{rules}
 use Rattle.view.proofs.record_text.Goals as goal
 
 pub returns-then-s-at : goal.returns-then-s-at

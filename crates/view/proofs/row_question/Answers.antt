@@ -1,7 +1,6 @@
 -- The answer is that of `row_text`.
 use Rattle.format.proofs.Promised.{question_promised}
 use Rattle.view.specs.Laws.{question_part, question_fault}
-use borrow.Author.Rules.{rules}
 use Rattle.view.proofs.row_question.Goals as goal
 
 pub returns-in-Part : goal.returns-in-Part

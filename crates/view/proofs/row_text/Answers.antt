@@ -1,6 +1,5 @@
 -- One law for each answer: the room, the kind word, the record, then the end word.
 use Rattle.view.specs.Laws.{row_past, row_other, row_fault, row_part, row_elsewhere}
-use borrow.Author.Rules.{rules}
 use Rattle.view.proofs.row_text.Goals as goal
 
 pub returns-then-n-row : goal.returns-then-n-row

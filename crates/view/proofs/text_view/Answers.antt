@@ -1,7 +1,6 @@
 -- The part is that of `row_text`, which lies in the stream (`row_inside`).
 use native.Mathlib.Omega.{arith}
 use Rattle.view.specs.Laws.{row_inside, view_part, view_fault}
-use borrow.Author.Rules.{rules}
 use Rattle.view.proofs.text_view.Goals as goal
 
 pub slice_bounds-result-count : goal.slice_bounds-result-count

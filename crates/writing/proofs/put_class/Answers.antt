@@ -1,7 +1,6 @@
 -- The kind and the new number, then the fields.
 use Rattle.put.specs.Put.{joined_as}
 use Rattle.pieces.specs.Laws.{class_is}
-use borrow.Author.Rules.{rules}
 use Rattle.writing.proofs.put_class.Goals as goal
 
 pub returns : goal.returns

@@ -1,6 +1,5 @@
 -- The name, then the members.
 use Rattle.put.specs.Put.{joined}
-use borrow.Author.Rules.{rules}
 use Rattle.writing.proofs.put_class_fields.Goals as goal
 
 pub returns : goal.returns

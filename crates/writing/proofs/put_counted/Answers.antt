@@ -1,6 +1,5 @@
 -- The member count, then the members.
 use Rattle.put.specs.Put.{joined}
-use borrow.Author.Rules.{rules}
 use Rattle.writing.proofs.put_counted.Goals as goal
 
 pub returns : goal.returns

@@ -1,6 +1,5 @@
 -- The libraries that are needed, then the class.
 use Rattle.put.specs.Put.{joined}
-use borrow.Author.Rules.{rules}
 use Rattle.writing.proofs.put_first.Goals as goal
 
 pub returns : goal.returns

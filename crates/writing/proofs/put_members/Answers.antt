@@ -4,7 +4,6 @@ use native.Mathlib.Omega.{arith}
 use Rattle.spans.specs.Spans.{text_within}
 use Rattle.put.specs.Put.{joined_as}
 use Rattle.pieces.specs.Laws.{members_is}
-use borrow.Author.Rules.{rules}
 use Rattle.writing.proofs.put_members.Goals as goal
 
 pub overflow_add-names : goal.overflow_add-names

@@ -1,7 +1,6 @@
 -- In full, or by the first object of the class.
 use Rattle.put.specs.Put.{became}
 use Rattle.pieces.specs.Laws.{object_first, object_later}
-use borrow.Author.Rules.{rules}
 use Rattle.writing.proofs.put_object.Goals as goal
 
 pub returns-then-is_first : goal.returns-then-is_first

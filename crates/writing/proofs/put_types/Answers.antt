@@ -1,6 +1,5 @@
 -- The type bytes, then the details.
 use Rattle.put.specs.Put.{joined}
-use borrow.Author.Rules.{rules}
 use Rattle.writing.proofs.put_types.Goals as goal
 
 pub returns : goal.returns
