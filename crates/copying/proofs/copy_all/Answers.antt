@@ -15,7 +15,7 @@ pub loop-i-init : goal.loop-i-init
 loop-i-init c = (omega arith, omega arith, copy_start _ _ _ _)
 
 pub overflow_add-w : goal.overflow_add-w
-overflow_add-w c = omega (arith, c.loop-i.invariant.1, c.loop-i-test.true, c.requires.1, c.count_at.type-inv)
+overflow_add-w c = omega (arith, c.loop-i.invariant.1, c.loop-i-test.true, c.requires.1, c.count_at.type_inv)
 
 pub overflow_add-i : goal.overflow_add-i
 overflow_add-i c = omega (arith, c.loop-i-test.true, c.requires.1)
@@ -24,7 +24,7 @@ pub loop-i-smaller-then-is_more : goal.loop-i-smaller-then-is_more
 loop-i-smaller-then-is_more c = omega (arith, c.loop-i-test.true)
 
 pub loop-i-preserved-then-is_more : goal.loop-i-preserved-then-is_more
-loop-i-preserved-then-is_more c = row_skipped _ c.args.s.now _ _ (rows_of c.args.n c.args.table.now) _ _ _ _ _ _ _ _ (length_rows_of c.args.n c.args.table.now) c.loop-i-test.true c.kind_at-kind.ensures c.owner_at-owner.ensures c.count_at.ensures (omega (arith, c.count_at.type-inv)) (sym c.is_more.ensures ∙ c.if-is_more.true) refl c.loop-i.invariant.1 c.loop-i.invariant.2
+loop-i-preserved-then-is_more c = row_skipped _ c.args.s.now _ _ (rows_of c.args.n c.args.table.now) _ _ _ _ _ _ _ _ (length_rows_of c.args.n c.args.table.now) c.loop-i-test.true c.kind_at-kind.ensures c.owner_at-owner.ensures c.count_at.ensures (omega (arith, c.count_at.type_inv)) (sym c.is_more.ensures ∙ c.if-is_more.true) refl c.loop-i.invariant.1 c.loop-i.invariant.2
 
 pub stretch_from-kept-requires : goal.stretch_from-kept-requires
 stretch_from-kept-requires c = (omega (arith, c.loop-i-test.true), c.requires.0)
@@ -66,7 +66,7 @@ pub loop-i-smaller : goal.loop-i-smaller
 loop-i-smaller c = omega (arith, c.loop-i-test.true)
 
 pub loop-i-preserved : goal.loop-i-preserved
-loop-i-preserved c = row_copied _ c.args.s.now _ _ _ (rows_of c.args.n c.args.table.now) _ _ _ _ _ _ _ _ _ (length_rows_of c.args.n c.args.table.now) c.loop-i-test.true c.row_at-r.ensures (omega (arith, c.row_at-r.type-inv)) c.run_after-w.ensures c.loop-i.invariant.1 c.loop-i.invariant.2 c.least-from.ensures c.add_up-at-in-loop-i.ensures c.put_row-b.auto.out c.put_row-b.ensures
+loop-i-preserved c = row_copied _ c.args.s.now _ _ _ (rows_of c.args.n c.args.table.now) _ _ _ _ _ _ _ _ _ (length_rows_of c.args.n c.args.table.now) c.loop-i-test.true c.row_at-r.ensures (omega (arith, c.row_at-r.type_inv)) c.run_after-w.ensures c.loop-i.invariant.1 c.loop-i.invariant.2 c.least-from.ensures c.add_up-at-in-loop-i.ensures c.put_row-b.auto.out c.put_row-b.ensures
 
 pub slice_bounds-put_run-count : goal.slice_bounds-put_run-count
 slice_bounds-put_run-count c = omega (arith, c.least-from-2.ensures.within)
