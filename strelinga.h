@@ -1,5 +1,5 @@
 /* The four public jobs of Strelinga, for C: read a stream into a table of rows, say whether a row has text, show that text, and write the tidy
-   copy; and over them the one that answers whether two lists say the same. Link the archive that `tests/library` makes for this processor and
+   copy; and over them the one that answers whether two lists say the same. Link the archive that `tests/library` makes for x86-64 and
    prints the path of. docs/EMBEDDING.md says what to lend and what is left in it.
 
    A stream is bytes and their count, so is a class book, a table is 32-bit words and their count, an output is bytes and their count. Any bytes and
