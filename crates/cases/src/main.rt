@@ -113,8 +113,9 @@ fn failed(name: &[u8], error: Error) {
         unopened(name, b"");
         return;
     }
+    let n = text.position() as usize;
     let room = text.into_inner();
-    let all = str::from_utf8(&room).unwrap_or("");
+    let all = str::from_utf8(room.get(..n).unwrap_or(b"")).unwrap_or("");
     let words = all
         .split_once(" (os error ")
         .map_or(all, |(words, _)| words);

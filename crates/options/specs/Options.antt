@@ -1,4 +1,4 @@
--- What options choose for each list: its setting and its class book (02, (ii) and (iii)).
+-- What options choose for each list: its setting and its class book.
 use Rattle.std.specs.Prelude.{ℕ, ◌+◌, ◌-◌, ◌<◌, ◌≤◌, Bool, true, false, List, [], ◌∷◌, ◌++◌, eqb}
 use Rattle.format.specs.declared.Setting.{Setting}
 use Rattle.format.specs.declared.Setting.TheVariants as Q

@@ -21,11 +21,10 @@ pub loop-month-smaller : goal.loop-month-smaller
 loop-month-smaller c = omega arith
 
 pub loop-month-preserved : goal.loop-month-preserved
-loop-month-preserved c =
-    (
-      omega arith,
-      c.loop-month.invariant.1 ∙ month_passed _ _ _ _ _ _ (omega arith) c.days_of_month-days.ensures (omega arith),
-    )
+loop-month-preserved c = (
+  omega arith,
+  c.loop-month.invariant.1 ∙ month_passed _ _ _ _ _ _ (omega arith) c.days_of_month-days.ensures (omega arith),
+)
 
 pub returns : goal.returns
 returns c = sym (c.loop-month.invariant.1 ∙ month_last _ _ _ _ (omega arith))

@@ -22,13 +22,12 @@ pub loop-year-smaller : goal.loop-year-smaller
 loop-year-smaller c = omega arith
 
 pub loop-year-preserved : goal.loop-year-preserved
-loop-year-preserved c =
-    (
-      omega arith,
-      omega arith,
-      omega (arith, year_least c.loop-year.year),
-      c.loop-year.invariant.3 ∙ year_passed _ _ _ _ _ (omega arith) c.days_of_year-days.ensures (omega arith),
-    )
+loop-year-preserved c = (
+  omega arith,
+  omega arith,
+  omega (arith, year_least c.loop-year.year),
+  c.loop-year.invariant.3 ∙ year_passed _ _ _ _ _ (omega arith) c.days_of_year-days.ensures (omega arith),
+)
 
 pub overflow_add-result-2 : goal.overflow_add-result-2
 overflow_add-result-2 c = omega arith

@@ -14,12 +14,11 @@ returns-in-Fault c =
     ∙ (infos_step _ _ _ _ _ _ (omega arith) ∙ rw (← c.info_known.ensures, c.in-Fault.is)))
 
 pub loop-left-preserved : goal.loop-left-preserved
-loop-left-preserved c =
-    (
-      c.loop-left.invariant.0
-          ∙ (infos_step _ _ _ _ _ _ (omega arith) ∙ rw (← c.info_known.ensures, c.in-End.is)),
-      omega arith,
-    )
+loop-left-preserved c = (
+  c.loop-left.invariant.0
+      ∙ (infos_step _ _ _ _ _ _ (omega arith) ∙ rw (← c.info_known.ensures, c.in-End.is)),
+  omega arith,
+)
 
 pub returns : goal.returns
 returns c = sym (c.loop-left.invariant.0 ∙ infos_none _ _ _ _ _ _ (omega arith))
