@@ -1,21 +1,18 @@
 -- Demand 3 over the records: two lists, each read under its own terms, mean the same exactly when their tidy copies are equal, byte for byte; the records
 -- of a copy mean what those of its list mean, under any terms; and what is written is the tidy form of what the records mean.
-use Rattle.std.specs.Prelude.{ℕ, ◌≤◌, ◌≡◌, ◌↔◌, List, length, take}
+use Rattle.std.specs.Prelude.{ℕ, ◌≤◌, ◌≡◌, ◌↔◌, List, length}
 use Rattle.std.proofs.Common.{sym, ap, subst, ◌∙◌}
 use Rattle.format.specs.Terms.{Terms}
 use Rattle.format.specs.declared.ReadAnswer.{ReadAnswer}
-use Rattle.format.specs.declared.TidyAnswer.TheVariants as Q
 use Rattle.format.specs.declared.Row.{Row}
 use Rattle.format.specs.Grammar.{Reading}
 use Rattle.format.specs.Says.{Model, says, SayTheSame}
 use Rattle.format.specs.Meant.{meant_by}
 use Rattle.format.specs.Tidy.{tidy_of}
-use Rattle.format.specs.Promises.{TidyPromise}
-use Rattle.num.specs.Le.{Bytes}
 use Rattle.meant.specs.Laws.{says_meant}
 use Rattle.demands.specs.Readings.{reading_unique}
 use Rattle.demands.specs.Copies.{tidy_says, same_exactly}
-use Rattle.demands.specs.Calls.{tidy_writes, two_tidied, CopyShown}
+use Rattle.demands.specs.Calls.{CopyShown}
 
 -- two lists say the same exactly when their records mean the same
 pub same_meant : (τ υ : Terms) {s : List ℕ} {rows : List Row} (a : Reading τ s rows) {t : List ℕ} {others : List Row} (b : Reading υ t others)
@@ -57,22 +54,6 @@ copy_means τ υ {s} {rows} a small {copies} c =
     sym (says_meant υ c) ∙ f small c
 
 -- ---- from the promise of tidying alone
-
--- the copy that a call leaves is the tidy form of what the records mean
-pub written_meant : (τ : Terms) (s t d : List ℕ) → Bytes τ.book → Bytes s → (n : ℕ) (u e : List ℕ) → TidyPromise τ s t d (Q.Written n) u e → {rows : List Row} (w : Reading τ s rows)
-    → take n e ≡ tidy_of (meant_by w)
-written_meant τ s t d booked byte n u e p {rows} w =
-    let x = tidy_writes τ s t d booked byte n u e p in
-    x.copy_is ∙ ap tidy_of (says_meant τ x.reads ∙ one_meaning τ x.reads w)
-
--- two calls leave equal copies exactly when the records mean the same
-pub two_meant : (τ : Terms) (s t d : List ℕ) → Bytes τ.book → Bytes s → (n : ℕ) (u e : List ℕ) → TidyPromise τ s t d (Q.Written n) u e
-    → (τ' : Terms) (s' t' d' : List ℕ) → Bytes τ'.book → Bytes s' → (m : ℕ) (u' e' : List ℕ) → TidyPromise τ' s' t' d' (Q.Written m) u' e'
-    → {rows others : List Row} (w : Reading τ s rows) (w' : Reading τ' s' others) → (meant_by w ≡ meant_by w') ↔ (take n e ≡ take m e')
-two_meant τ s t d booked byte n u e p τ' s' t' d' booked' byte' m u' e' p' {rows} {others} w w' =
-    let x = two_tidied τ s t d booked byte n u e p τ' s' t' d' booked' byte' m u' e' p' rows others w w' in
-    let y = same_meant τ τ' w w' in
-    (λ h. x.0 (y.1 h), λ h. y.0 (x.1 h))
 
 -- and the records of a copy that is read again mean what those of its list mean
 pub shown_means : (τ υ : Terms) {s c l : List ℕ} {a : ReadAnswer} {v : List ℕ} (x : CopyShown τ υ s c l a v) {list : List Row} (w : Reading τ s list) → meant_by x.reads ≡ meant_by w

@@ -7,11 +7,9 @@ pub mod Copies
 pub mod Settled
 pub mod Calls
 pub mod Tidyings
-pub mod Lenient
 pub mod Texts
 pub mod Views
 pub mod Exactly
 pub mod Jobs
 pub mod Examples
-pub mod Wrong
 pub mod Lost

@@ -1,5 +1,5 @@
 -- The tidying says what the output holds; its front is the copy of the second list.
-use Rattle.sameness.specs.Laws.{copy_within, second_written, second_refused, second_full}
+use Rattle.sameness.proofs.Laws.{copy_within, second_written, second_refused, second_full}
 use borrow.Author.Rules.{rules}
 use Rattle.sameness.proofs.against.Goals as goal
 

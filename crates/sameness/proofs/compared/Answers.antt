@@ -1,6 +1,6 @@
 -- `check::same` tells whether the copies are equal.
 use mathlib.Core.Bool.{true, false}
-use Rattle.sameness.specs.Laws.{told}
+use Rattle.sameness.proofs.Laws.{told}
 use Rattle.sameness.proofs.compared.Goals as goal
 
 pub returns-then-same : goal.returns-then-same

@@ -1,5 +1,5 @@
 -- The first tidying says what its output holds, and its front is the copy of the first list; `against` says the rest.
-use Rattle.sameness.specs.Laws.{copy_within, first_written, first_refused, first_full}
+use Rattle.sameness.proofs.Laws.{copy_within, first_written, first_refused, first_full}
 use Rattle.num.specs.Le.{Bytes}
 use borrow.Author.Rules.{rules}
 use Rattle.sameness.proofs.say_the_same.Goals as goal

@@ -36,7 +36,8 @@ use Rattle.demands.specs.Books.{GoodBook, no_book, no_bytes, book_first_lem}
 use Rattle.demands.specs.Calls.{tabled, read_accepted}
 use Rattle.demands.specs.Examples.{bytes, bytes_are, Takes, accepted_reads, run7, reads_2, reads_sevens, reads_6, reads_7, none_empty, none_6, same_sevens, same_6, tidy_6, not_same_7}
 use Rattle.demands.specs.Records.{rec_from, records_in, records_are}
-use Rattle.demands.specs.Texts.{shown_rows, shown_in}
+use Rattle.demands.specs.Texts.{shown_in}
+use Rattle.demands.proofs.Texts.{shown_rows}
 use Rattle.demands.specs.Exactly.{same_meant, meant_small}
 use Rattle.demands.specs.Jobs.{Reader, Demand2, Filler, Demand2Table, TableRule, Copier, Within, Demand3, Tidier, written_in, Demand3Job}
 

@@ -24,8 +24,9 @@ use Rattle.prefix.specs.Widths.{lenient_width}
 use Rattle.laws.specs.Answers.{accepted_of, refused_of}
 use Rattle.readings.specs.Accept.{accepts}
 use Rattle.demands.specs.Readings.{accepted_exactly, not_both}
-use Rattle.demands.specs.Calls.{tidy_writes}
-use Rattle.demands.specs.Tidyings.{tidy_full, tidy_refuses, tidy_none}
+use Rattle.demands.proofs.Calls.{tidy_writes}
+use Rattle.demands.specs.Tidyings.{tidy_refuses, tidy_none}
+use Rattle.demands.proofs.Tidyings.{tidy_full}
 
 -- ---- from terms to wider ones
 
