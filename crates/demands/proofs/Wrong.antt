@@ -1,6 +1,6 @@
 -- Wrong programs against the demands (01, What the wording must hold): each kind of them, whatever else it computes, fails the demand that is to stop it;
 -- the counter examples are the witnesses.
-use Rattle.std.specs.Prelude.{ℕ, zero, suc, ◌+◌, ◌-◌, ◌*◌, ◌≤◌, ◌≡◌, refl, Bool, true, false, ◌||◌, List, [], ◌∷◌, ◌++◌, map, length, get_or, take, drop, replicate, leb, eqb}
+use Rattle.std.specs.Prelude.{ℕ, zero, suc, ◌+◌, ◌-◌, ◌*◌, ◌≤◌, ◌≡◌, refl, true, List, [], ◌∷◌, map, length, get_or, take, drop, replicate}
 use Rattle.std.proofs.Common.{sym, ap, subst, ◌∙◌, arith}
 use Rattle.std.proofs.lemmas.List.{length-replicate}
 use Rattle.std.proofs.Math.Seq.{take-append_seam}
@@ -13,7 +13,7 @@ use Rattle.format.specs.declared.ReadAnswer.TheVariants as A
 use Rattle.format.specs.declared.TidyAnswer.{TidyAnswer}
 use Rattle.format.specs.declared.TidyAnswer.TheVariants as Q
 use Rattle.format.specs.declared.Row.{Row}
-use Rattle.format.specs.Bytes.{pick, laid}
+use Rattle.format.specs.Bytes.{laid}
 use Rattle.format.specs.Numbers.{le, u32_at, le_bytes}
 use Rattle.format.specs.Prefix.{prefix_in, groups_of, groups_in, prefix_of}
 use Rattle.format.specs.Text.{need_of, lo_of, hi_of, lead_of, step_of, after, well_formed, text_at, string_at, span_at}
@@ -21,14 +21,14 @@ use Rattle.format.specs.Types.{name_at, moved, passed, passed_of}
 use Rattle.format.specs.Entries.{entry_at, bad_from, bad_entry}
 use Rattle.format.specs.Rows.{room_of, rows_of, find_from, object_row, link_of, linked}
 use Rattle.format.specs.Records.{allowed, kind_of, kind_at, header_at, string_record_at, heading_at}
-use Rattle.format.specs.Contents.{Rec, header, class_by_id, system_class, library_class, string, array, typed_primitive, reference, null, nulls, many_nulls, end, library, primitive_array, object_array, string_array, value, enc, encs}
+use Rattle.format.specs.Contents.{Rec, enc, encs}
 use Rattle.format.specs.Grammar.{ids_of, Reading}
 use Rattle.format.specs.Machine.{Outcome, accepted, refused, close, filled, opened, add, object, null_run, ending, act, record_step, step, finish, run, stream_of, read_of, table_words}
-use Rattle.format.specs.Says.{objects_in, order_of, what_from, spread, nodes_of, nodes_from, Model, says, SayTheSame}
+use Rattle.format.specs.Says.{objects_in, order_of, what_from, spread, nodes_of, nodes_from, says, SayTheSame}
 use Rattle.format.specs.Tidy.{records_of, after_what, pack, run_of, written, waiting, squeeze, tidy_records, tidy_of}
 use Rattle.format.specs.Promises.{ReadPromise}
 use Rattle.format.specs.Examples.{hex_onto}
-use Rattle.format.specs.CounterExamples.{header_of, string_of, case2, case6, sevens, string_rows, prefixed_rows, case7}
+use Rattle.format.specs.CounterExamples.{case2, case6, sevens, prefixed_rows}
 use Rattle.num.specs.Le.{Bytes}
 use Rattle.readings.specs.Accept.{accepts}
 use Rattle.demands.specs.Readings.{reading_unique, reading_short}
@@ -40,32 +40,9 @@ use Rattle.demands.specs.Texts.{shown_in}
 use Rattle.demands.proofs.Texts.{shown_rows}
 use Rattle.demands.specs.Exactly.{same_meant, meant_small}
 use Rattle.demands.specs.Jobs.{Reader, Demand2, Filler, Demand2Table, TableRule, Copier, Within, Demand3, Tidier, written_in, Demand3Job}
+use Rattle.demands.specs.Wrong.{rows2, rows27, rows7, two_strings, two, unneeded, row_each, nothing_written, one_written, KeepsLater, first_by, first_from, first_only, tidy_by, tidy_from, tidy_first_only, count_by, invented}
 
 -- ---- the witnesses
-
--- the rows of counter examples 2, of it with sevens, and 7
-abbrev rows2 : List Row
-rows2 = rows_of 3 (string_rows 1)
-
-abbrev rows27 : List Row
-rows27 = rows_of 3 (string_rows 7)
-
-abbrev rows7 : List Row
-rows7 = rows_of 4 case7
-
--- two strings 12E5 after the header, the second with this ObjectId
-abbrev pub two_strings : ℕ → List ℕ
-two_strings id = header_of 1 1 ++ (string_of 1 ++ (string_of id ++ (11 ∷ [])))
-
-abbrev pub two_rows : ℕ → List ℕ
-two_rows id =
-    0 ∷ 0 ∷ 17 ∷ 1 ∷ 0 ∷ 0 ∷ 2 ∷ 0
-    ∷ 6 ∷ 17 ∷ 27 ∷ 1 ∷ 0 ∷ 0 ∷ 0 ∷ 0
-    ∷ 6 ∷ 27 ∷ 37 ∷ id ∷ 0 ∷ 0 ∷ 0 ∷ 0
-    ∷ 11 ∷ 37 ∷ 38 ∷ 0 ∷ 0 ∷ 0 ∷ 0 ∷ 0 ∷ []
-
-abbrev two : ℕ → List Row
-two id = rows_of 4 (two_rows id)
 
 all_bytes : ((bytes case2 ≡ true) × ((bytes sevens ≡ true) × ((bytes run7 ≡ true) × (bytes case6 ≡ true)))) × ((bytes (two_strings 2) ≡ true) × (bytes (two_strings 3) ≡ true))
 unfolding bytes le_bytes hex_onto
@@ -195,11 +172,6 @@ both_settings job one other =
 
 -- ---- readers that judge the book too late
 
--- no row shows a record that needs the book
-abbrev pub unneeded : List Row → Bool
-unneeded [] = true
-unneeded (row ∷ rows) = pick (eqb row.kind 2 || eqb row.kind 3) false (unneeded rows)
-
 plain_2 : unneeded rows2 ≡ true
 unfolding rows_of
 plain_2 = refl
@@ -278,10 +250,6 @@ none_left τ (Q.Written k) n rows w = no_255 τ k n rows w
 none_left τ (Q.Refused r place) n rows w = none_empty τ rows w
 none_left τ (Q.OutFull k) n rows w = none_empty τ rows w
 
--- a table with a row for each byte
-abbrev row_each : List ℕ → List ℕ
-row_each s = replicate (8 * length s) 0
-
 row_each_lem : (s : List ℕ) → length s ≤ room_of (row_each s)
 row_each_lem s = let z = length-replicate {A = ℕ} (8 * length s) 0 in omega arith
 
@@ -297,17 +265,9 @@ writes_nothing τ good job leaves demand = go 16777216 (omega arith)
         let q = (job τ case2 (row_each case2) d).0 in
         none_left τ q n x.copies (subst (λ (e : List ℕ). Reading τ (written_in q e) x.copies) (leaves case2 (row_each case2) d) (x.reads τ (reads_2 τ good).classes (reads_2 τ good).book_is))
 
--- in full, with any answer and any table
-abbrev pub nothing_written : (List ℕ → List ℕ → List ℕ → TidyAnswer) → (List ℕ → List ℕ → List ℕ → List ℕ) → Tidier
-nothing_written answer table τ s t d = (answer s t d, (table s t d, d))
-
 pub nothing_written_lem : (answer : List ℕ → List ℕ → List ℕ → TidyAnswer) (table : List ℕ → List ℕ → List ℕ → List ℕ)
     → Demand3Job (nothing_written answer table) → ⊥
 nothing_written_lem answer table = writes_nothing strict no_bytes (nothing_written answer table) (λ s t d. refl)
-
--- one copy at the front of every output
-abbrev pub one_written : List ℕ → (List ℕ → List ℕ → List ℕ → List ℕ) → Tidier
-one_written copy table τ s t d = (Q.Written (length copy), (table s t d, laid copy d))
 
 pub one_written_lem : (copy : List ℕ) (table : List ℕ → List ℕ → List ℕ → List ℕ) → Demand3Job (one_written copy table) → ⊥
 unfolding laid
@@ -320,11 +280,6 @@ one_written_lem copy table demand = go 16777216 (omega arith)
         one_copy strict no_bytes _ copy (λ s rows w. take-append_seam copy (drop (length copy) d)) (demand row_each row_each_lem d (omega arith))
 
 -- ---- tidy jobs that renumber only the first object
-
--- the objects of the copy after the first have the numbers that they have in the list
-abbrev pub KeepsLater : Terms → Copier → Type 0
-KeepsLater τ job = (s : List ℕ) (rows : List Row) (w : Reading τ s rows) (copies : List Row) (c : Reading τ (job τ s) copies)
-    → drop 1 (ids_of (records_in τ c)) ≡ drop 1 (ids_of (records_in τ w))
 
 later_ids : (β : List ℕ) → (drop 1 (ids_of (map (rec_from β (two_strings 2) (two 2)) (two 2))) ≡ 2 ∷ []) × (drop 1 (ids_of (map (rec_from β (two_strings 3) (two 3)) (two 3))) ≡ 3 ∷ [])
 unfolding rows_of rec_from
@@ -357,48 +312,6 @@ itself_keeps τ s rows w copies c =
     let e = records_are τ c ∙ (ap (λ (l : List Row). map (rec_from τ.book s l) l) (reading_unique τ s copies rows c w) ∙ sym (records_are τ w)) in
     ap (λ (l : List Rec). drop 1 (ids_of l)) e
 
--- two programs of that kind in full. Every number of an object by this function: ObjectIds, IdRefs, MetadataIds and the root, which HeaderId repeats
-abbrev pub with_numbers : (ℕ → ℕ) → Rec → Rec
-with_numbers f (header r h) = header (f r) (f r)
-with_numbers f (class_by_id i k) = class_by_id (f i) (f k)
-with_numbers f (system_class i n ms) = system_class (f i) n ms
-with_numbers f (library_class i n ms l) = library_class (f i) n ms l
-with_numbers f (string i x) = string (f i) x
-with_numbers f (array i t ns d vs) = array (f i) t ns d vs
-with_numbers f (typed_primitive c v) = typed_primitive c v
-with_numbers f (reference i) = reference (f i)
-with_numbers f null = null
-with_numbers f (nulls k) = nulls k
-with_numbers f (many_nulls k) = many_nulls k
-with_numbers f end = end
-with_numbers f (library i n) = library i n
-with_numbers f (primitive_array i n c vs) = primitive_array (f i) n c vs
-with_numbers f (object_array i n) = object_array (f i) n
-with_numbers f (string_array i n) = string_array (f i) n
-with_numbers f (value c v) = value c v
-
--- the first object of the list becomes 1, and the rest is copied
-abbrev pub first_by : List Rec → List ℕ
-first_by rs = let first = get_or (ids_of rs) 0 0 in encs (map (with_numbers (λ i. pick (eqb i first) 1 i)) rs)
-
-abbrev first_from : (β s : List ℕ) → Outcome → List ℕ
-first_from β s (accepted rows) = first_by (map (rec_from β s rows) rows)
-first_from β s (refused r place) = []
-
-unfoldable pub first_only : Copier
-first_only τ s = first_from τ.book s (read_of τ s (length s))
-
--- the copy of 01, with packed nulls, shared classes and needed libraries, but every object after the first has its number in the list
-abbrev pub tidy_by : List ℕ → Model → List ℕ
-tidy_by ids m = encs (map (with_numbers (λ k. pick (leb k 1) k (get_or ids (k - 1) 0))) (tidy_records m))
-
-abbrev tidy_from : (β s : List ℕ) → Outcome → List ℕ
-tidy_from β s (accepted rows) = tidy_by (ids_of (map (rec_from β s rows) rows)) (says β s rows)
-tidy_from β s (refused r place) = []
-
-unfoldable pub tidy_first_only : Copier
-tidy_first_only τ s = tidy_from τ.book s (read_of τ s (length s))
-
 unchanged : ((first_by (map (rec_from [] (two_strings 2) (two 2)) (two 2)) ≡ two_strings 2) × (first_by (map (rec_from [] (two_strings 3) (two 3)) (two 3)) ≡ two_strings 3))
     × ((tidy_by (ids_of (map (rec_from [] (two_strings 2) (two 2)) (two 2))) (says [] (two_strings 2) (two 2)) ≡ two_strings 2)
     × (tidy_by (ids_of (map (rec_from [] (two_strings 3) (two 3)) (two 3))) (says [] (two_strings 3) (two 3)) ≡ two_strings 3))
@@ -429,14 +342,6 @@ tidy_first_only_lem =
     keeps_both strict no_bytes tidy_first_only (ap (tidy_from [] (two_strings 2)) (read_two strict no_bytes) ∙ unchanged.1.0) (ap (tidy_from [] (two_strings 3)) (read_three strict no_bytes) ∙ unchanged.1.1)
 
 -- ---- an invented row count
-
--- the table that reading promises, with a count of its own
-abbrev count_by : ℕ → ℕ → Outcome → ReadAnswer × List ℕ
-count_by k n (accepted rows) = (A.Accepted k, table_words n (accepted rows))
-count_by k n (refused r place) = (A.Refused r place, table_words n (refused r place))
-
-unfoldable pub invented : Terms → (List ℕ → List ℕ → ℕ) → Filler
-invented τ count s t = count_by (count s t) (length t) (read_of τ s (room_of t))
 
 -- a job that shows the reading and keeps the table rule answers the number of rows
 pub count_settled : (τ : Terms) (job : Filler) → TableRule job → (s t : List ℕ) → Bytes s → (n : ℕ) → (job s t).0 ≡ A.Accepted n → (rows : List Row) → Reading τ s rows

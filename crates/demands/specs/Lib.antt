@@ -12,4 +12,5 @@ pub mod Views
 pub mod Exactly
 pub mod Jobs
 pub mod Examples
+pub mod Wrong
 pub mod Lost
