@@ -5,7 +5,6 @@ use Rattle.std.specs.Prelude.{◌≡◌, refl}
 use Rattle.calendar.specs.declared.Date.{Date}
 use Rattle.calendar.specs.declared.Clock.{Clock}
 use Rattle.calendar.specs.Calendar.{leap_year, days_of_year, days_of_month}
-use Rattle.calendar.specs.Laws.{year_least}
 
 -- ---- what a date is, and the days before it
 

@@ -1,12 +1,9 @@
 -- One law for each way that the code ends.
 use Rattle.std.specs.Prelude.{ℕ, zero, suc, ◌+◌, ◌-◌, ◌≤◌, ◌<◌, ◌≡◌, refl, Bool, true, false}
-use Rattle.std.proofs.Common.{arith, rules, lt-ltb, le-ltb, le-leb, eq-eqb, ne_eqb}
+use Rattle.std.proofs.Common.{arith, lt-ltb, le-ltb, le-leb}
 use Rattle.std.proofs.lemmas.Bool.{lt-leb}
 use Rattle.format.specs.Bytes.{pick}
 use Rattle.calendar.specs.Calendar.{leap_year, days_of_year, days_of_month, year_from, year_of, month_from, month_of}
-
--- closes a return whose definition picks its case by tests
-pub ruleset auto = (rules, lt-ltb, le-ltb, le-leb, lt-leb, eq-eqb, ne_eqb)
 
 -- ---- years and months
 
@@ -46,6 +43,9 @@ unfolding year_from
 year_last zero year left h = refl
 year_last (suc k) year left h = absurd (omega arith)
 
+-- closes what the loop leaves
+pub ruleset years = (year_least, year_begins, year_here, year_passed, year_last)
+
 -- ---- the loop over months, likewise
 
 pub month_begins : (year day : ℕ) → month_of year day ≡ month_from 11 year 1 day
@@ -68,3 +68,6 @@ pub month_last : (k year month left : ℕ) → k ≤ 0 → month_from k year mon
 unfolding month_from
 month_last zero year month left h = refl
 month_last (suc k) year month left h = absurd (omega arith)
+
+-- closes what the loop leaves
+pub ruleset months = (month_begins, month_here, month_passed, month_last)

@@ -8,6 +8,7 @@ ghost use Rattle.calendar.specs.Calendar.{leap_year, days_of_year, days_of_month
 // ---- years and months
 
 // Whether the year has a 29th of February.
+#[tactic(auto, unfolding(crate::specs::Calendar::leap_year))]
 pub fn is_leap_year(year: u64) -> bool
     ensures { result ≡ leap_year year }
 {
@@ -20,34 +21,28 @@ pub fn is_leap_year(year: u64) -> bool
     year % 4 == 0
 }
 
+#[tactic(auto, unfolding(crate::specs::Calendar::days_of_year))]
 pub fn days_of_year(year: u64) -> u64
     ensures { result ≡ days_of_year year }
 {
-    if is_leap_year(year) {
-        return 366;
-    }
-    365
+    if is_leap_year(year) { 366 } else { 365 }
 }
 
+#[tactic(auto, unfolding(crate::specs::Calendar::days_of_month))]
 fn days_of_february(year: u64) -> u64
     ensures { result ≡ days_of_month year 2 }
 {
-    if is_leap_year(year) {
-        return 29;
-    }
-    28
+    if is_leap_year(year) { 29 } else { 28 }
 }
 
 // The days of a month, which is 1 for January; a number that is no month has 31.
+#[tactic(auto, unfolding(crate::specs::Calendar::days_of_month))]
 pub fn days_of_month(year: u64, month: u64) -> u64
     ensures { result ≡ days_of_month year month }
 {
     match month {
         2 => days_of_february(year),
-        4 => 30,
-        6 => 30,
-        9 => 30,
-        11 => 30,
+        4 | 6 | 9 | 11 => 30,
         _ => 31,
     }
 }
@@ -55,14 +50,14 @@ pub fn days_of_month(year: u64, month: u64) -> u64
 // ---- the date of a day number
 
 // A year, and a day of it: 1 is the 1st of January.
-#[derive(Clone, Copy)]
+#[derive(Clone, Copy, Debug, PartialEq, Eq)]
 pub struct DayOfYear {
     pub year: u64,
     pub day: u64,
 }
 
 // Month and day are counted from 1.
-#[derive(Clone, Copy)]
+#[derive(Clone, Copy, Debug, PartialEq, Eq)]
 pub struct Date {
     pub year: u64,
     pub month: u64,
@@ -71,53 +66,53 @@ pub struct Date {
 
 // The year in which a day falls, and which of its days it is. No year after 60,000 is looked at: a later day is taken for one of that year. The
 // days of all ticks of eight bytes are earlier.
+#[tactic(auto, using(crate::specs::Laws::years))]
 pub fn year_of(day: u64) -> DayOfYear
     ensures { result ≡ year_of day }
 {
-    let mut year: u64 = 1;
     let mut left = day;
-    while year < 60000 {
+    for year in 1..60000 {
         let days = days_of_year(year);
         if left < days {
             return DayOfYear {
-                year: year,
+                year,
                 day: left + 1,
             };
         }
         left -= days;
-        year += 1;
     }
     DayOfYear {
-        year: year,
+        year: 60000,
         day: left + 1,
     }
 }
 
 // The date of a day of a year. A day past the year's end is one of December.
+// Not one loop with `year_of`: days are counted from 0 there and from 1 here, and not every u64 has a number one less or one more that fits.
+#[tactic(auto, using(crate::specs::Laws::months))]
 pub fn month_of(year: u64, day: u64) -> Date
     ensures { result ≡ month_of year day }
 {
-    let mut month: u64 = 1;
     let mut left = day;
-    while month < 12 {
+    for month in 1..12 {
         let days = days_of_month(year, month);
         if left <= days {
             return Date {
-                year: year,
-                month: month,
+                year,
+                month,
                 day: left,
             };
         }
         left -= days;
-        month += 1;
     }
     Date {
-        year: year,
-        month: month,
+        year,
+        month: 12,
         day: left,
     }
 }
 
+#[tactic(auto, unfolding(crate::specs::Calendar::date_of))]
 pub fn date_of(day: u64) -> Date
     ensures { result ≡ date_of day }
 {
@@ -128,7 +123,7 @@ pub fn date_of(day: u64) -> Date
 // ---- the time of day
 
 // The time of day, to the tick: ten million ticks are a second.
-#[derive(Clone, Copy)]
+#[derive(Clone, Copy, Debug, PartialEq, Eq)]
 pub struct Clock {
     pub hours: u64,
     pub minutes: u64,
@@ -136,6 +131,7 @@ pub struct Clock {
     pub ticks: u64,
 }
 
+#[tactic(auto, unfolding(crate::specs::Calendar::clock_of))]
 pub fn clock_of(ticks: u64) -> Clock
     ensures { result ≡ clock_of ticks }
 {
