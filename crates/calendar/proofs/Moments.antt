@@ -65,19 +65,15 @@ dated_exactly x = (there, back)
 
 -- ---- what is shown
 
-same_clock : (h m s t i n u v : ℕ) → h ≡ i → m ≡ n → s ≡ u → t ≡ v
-    → ◌≡◌ {A = Clock} (record { hours = h; minutes = m; seconds = s; ticks = t }) (record { hours = i; minutes = n; seconds = u; ticks = v })
-same_clock h m s t i n u v a b c d = rw (a, b, c, d)
-
 -- a time of day is found again, whatever the day
 clock_again : (n : ℕ) (c : Clock) → IsClock c → clock_of (864000000000 * n + ticks_before c) ≡ c
 unfolding clock_of
 clock_again n c i =
-    same_clock _ _ _ _ c.hours c.minutes c.seconds c.ticks
-    (omega (arith, i.hours_most, i.minutes_most, i.seconds_most, i.ticks_most))
-    (omega (arith, i.hours_most, i.minutes_most, i.seconds_most, i.ticks_most))
-    (omega (arith, i.hours_most, i.minutes_most, i.seconds_most, i.ticks_most))
-    (omega (arith, i.ticks_most))
+    let hours : (864000000000 * n + ticks_before c) / 36000000000 % 24 ≡ c.hours = omega (arith, i.hours_most, i.minutes_most, i.seconds_most, i.ticks_most) in
+    let minutes : (864000000000 * n + ticks_before c) / 600000000 % 60 ≡ c.minutes = omega (arith, i.minutes_most, i.seconds_most, i.ticks_most) in
+    let seconds : (864000000000 * n + ticks_before c) / 10000000 % 60 ≡ c.seconds = omega (arith, i.seconds_most, i.ticks_most) in
+    let ticks : (864000000000 * n + ticks_before c) % 10000000 ≡ c.ticks = omega (arith, i.ticks_most) in
+    rw (hours, minutes, seconds, ticks)
 
 -- the kind, the date and the time that are shown of the bits are theirs
 pub dated_shown : (x : ℕ) (w : Dated x) → ShownAs x w
