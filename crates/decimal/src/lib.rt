@@ -34,13 +34,8 @@ fn whole_digit(st: Limbs, d: u8) -> Limbs
     let low = 10 * st.lo + (d as u64);
     let hi = 10 * st.hi + low / 1000000000000000;
     let lo = low % 1000000000000000;
-    if 79228162514264 < hi {
+    if 79228162514264 < hi || hi == 79228162514264 && 337593543950335 < lo {
         return refuse();
-    }
-    if hi == 79228162514264 {
-        if 337593543950335 < lo {
-            return refuse();
-        }
     }
     Limbs { phase: 2, hi, lo }
 }
@@ -50,16 +45,10 @@ fn fraction_digit(st: Limbs, d: u8) -> Limbs
     requires { Fine st }
     ensures { Stands result (fraction_digit (read st) d) }
 {
-    let hi = st.hi;
-    let lo = st.lo;
-    if d != 0 {
-        if hi == 79228162514264 {
-            if lo == 337593543950335 {
-                return refuse();
-            }
-        }
+    if d != 0 && st.hi == 79228162514264 && st.lo == 337593543950335 {
+        return refuse();
     }
-    Limbs { phase: 4, hi, lo }
+    Limbs { phase: 4, ..st }
 }
 
 // After a digit. What is refused stays refused.
@@ -68,13 +57,11 @@ fn any_digit(st: Limbs, d: u8) -> Limbs
     requires d_bound { d ≤ 9 }
     ensures { Stands result (digit (read st) d) }
 {
-    if st.phase <= 2 {
-        return whole_digit(st, d);
+    match st.phase {
+        0..=2 => whole_digit(st, d),
+        3..=4 => fraction_digit(st, d),
+        _ => refuse(),
     }
-    if st.phase <= 4 {
-        return fraction_digit(st, d);
-    }
-    refuse()
 }
 
 // After any byte. A minus stands only first, a point only after a digit of the whole part.
@@ -82,31 +69,16 @@ fn any_byte(st: Limbs, b: u8) -> Limbs
     requires { Fine st }
     ensures { Stands result (decimal_byte (read st) b) }
 {
-    if 48 <= b {
-        if b <= 57 {
-            return any_digit(st, b - 48);
-        }
-        return refuse();
+    match b {
+        b'0'..=b'9' => any_digit(st, b - b'0'),
+        b'-' if st.phase == 0 => Limbs {
+            phase: 1,
+            hi: 0,
+            lo: 0,
+        },
+        b'.' if st.phase == 2 => Limbs { phase: 3, ..st },
+        _ => refuse(),
     }
-    if b == 45 {
-        if st.phase == 0 {
-            return Limbs {
-                phase: 1,
-                hi: 0,
-                lo: 0,
-            };
-        }
-        return refuse();
-    }
-    if b == 46 {
-        if st.phase == 2 {
-            let hi = st.hi;
-            let lo = st.lo;
-            return Limbs { phase: 3, hi, lo };
-        }
-        return refuse();
-    }
-    refuse()
 }
 
 // Whether all of s is Decimal text. It ends in the whole part or in the fraction, so no text, a lone minus and a last point are none.
@@ -118,11 +90,8 @@ pub fn is_decimal(s: &[u8]) -> bool
         hi: 0,
         lo: 0,
     };
-    let mut i: usize = 0;
-    while i < s.len() {
-        st = any_byte(st, s[i]);
-        i += 1;
+    for &b in s {
+        st = any_byte(st, b);
     }
-    let phase = st.phase;
-    phase == 2 || phase == 4
+    st.phase == 2 || st.phase == 4
 }
