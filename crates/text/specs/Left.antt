@@ -11,6 +11,7 @@ use Rattle.text.specs.Laws.{need_bound}
 use Rattle.text.specs.Steps.{waits, lead, begins, along, next, not_broken, has_next}
 use Rattle.text.specs.Scalars.{ends_at, width_at}
 use Rattle.text.specs.Rows.{row_1, breaks_first, from_first, by_row_1}
+use Rattle.text.specs.Rests.{rest, In, of_all}
 
 -- of the bytes that are waited for, as many as the first byte says are enough
 enough : (k lo hi : ℕ) (l : List ℕ) → (after (waits k lo hi) l).need ≡ 0 → (after (waits k lo hi) (take k l)).need ≡ 0
@@ -87,7 +88,7 @@ scalar_on s i n e z h =
 plain_on : (s : List ℕ) (i : ℕ) → i < length s → get_or s i 0 ≤ 0x7F → well_formed (drop i s) ≡ well_formed (drop (i + 1) s)
 plain_on s i h u = (scalar_on s i 1 (by_row_1 s i h (row_1 (get_or s i 0) u)) (omega arith) h).1
 
-pub plain_four : (s : List ℕ) (i : ℕ) → i + 4 ≤ length s → get_or s i 0 ≤ 0x7F → get_or s (i + 1) 0 ≤ 0x7F → get_or s (i + 2) 0 ≤ 0x7F → get_or s (i + 3) 0 ≤ 0x7F
+plain_four : (s : List ℕ) (i : ℕ) → i + 4 ≤ length s → get_or s i 0 ≤ 0x7F → get_or s (i + 1) 0 ≤ 0x7F → get_or s (i + 2) 0 ≤ 0x7F → get_or s (i + 3) 0 ≤ 0x7F
     → well_formed (drop i s) ≡ well_formed (drop (i + 4) s)
 plain_four s i h a b c d =
     let two : i + 1 + 1 ≡ i + 2 = omega arith in
@@ -95,6 +96,17 @@ plain_four s i h a b c d =
     let four : i + 3 + 1 ≡ i + 4 = omega arith in
     plain_on s i (omega arith) a
     ∙ (rw two at (plain_on s (i + 1) (omega arith) b) ∙ (rw three at (plain_on s (i + 2) (omega arith) c) ∙ rw four at (plain_on s (i + 3) (omega arith) d)))
+
+-- the same, of what is left as code has it
+pub plain_rest : (s : List ℕ) (i : ℕ) → In (rest s i) 0 0 0x7F → In (rest s i) 1 0 0x7F → In (rest s i) 2 0 0x7F → In (rest s i) 3 0 0x7F
+    → (i + 4 ≤ length s) × (well_formed (drop i s) ≡ well_formed (drop (i + 4) s))
+plain_rest s i a b c d =
+    let p = of_all s i 0 i 0 0x7F (omega arith) a in
+    let q = of_all s i 1 (i + 1) 0 0x7F (omega arith) b in
+    let r = of_all s i 2 (i + 2) 0 0x7F (omega arith) c in
+    let t = of_all s i 3 (i + 3) 0 0x7F (omega arith) d in
+    let l : i + 4 ≤ length s = omega (arith, t.0) in
+    (l, plain_four s i l p.1.1 q.1.1 r.1.1 t.1.1)
 
 -- without a scalar
 pub scalar_none : (s : List ℕ) (i n : ℕ) → n ≡ width_at s i → n ≡ 0 → i < length s → well_formed (drop i s) ≡ false

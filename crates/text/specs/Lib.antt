@@ -2,6 +2,7 @@
 pub mod Steps
 pub mod Scalars
 pub mod Rows
+pub mod Rests
 pub mod Left
 pub mod Walked
 pub mod Laws

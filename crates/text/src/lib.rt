@@ -7,59 +7,6 @@ ghost use Rattle.text.specs.Scalars.{has_at, width_of, width_at};
 
 use format::{Field, Refusal};
 
-// Whether s has a byte at i, from lo to hi.
-fn has(s: &[u8], i: usize, lo: u8, hi: u8) -> bool
-    ensures { result ≡ has_at s.now i lo hi }
-{
-    if s.len() <= i {
-        return false;
-    }
-    let b = s[i];
-    if b < lo {
-        return false;
-    }
-    b <= hi
-}
-
-// 2 where the first byte at i is followed by a second from lo to hi, else 0.
-fn two(s: &[u8], i: usize, lo: u8, hi: u8) -> usize
-    requires { i < length s.now }
-    ensures { result ≡ width_of s.now i 1 lo hi }
-{
-    if has(s, i + 1, lo, hi) {
-        return 2;
-    }
-    0
-}
-
-// 3 where the first byte at i is followed by a second from lo to hi and a third from 80 to BF, else 0.
-fn three(s: &[u8], i: usize, lo: u8, hi: u8) -> usize
-    requires { i < length s.now }
-    ensures { result ≡ width_of s.now i 2 lo hi }
-{
-    if has(s, i + 1, lo, hi) {
-        if has(s, i + 2, 0x80, 0xBF) {
-            return 3;
-        }
-    }
-    0
-}
-
-// 4 where the first byte at i is followed by a second from lo to hi, and a third and a fourth from 80 to BF, else 0.
-fn four(s: &[u8], i: usize, lo: u8, hi: u8) -> usize
-    requires { i < length s.now }
-    ensures { result ≡ width_of s.now i 3 lo hi }
-{
-    if has(s, i + 1, lo, hi) {
-        if has(s, i + 2, 0x80, 0xBF) {
-            if has(s, i + 3, 0x80, 0xBF) {
-                return 4;
-            }
-        }
-    }
-    0
-}
-
 // How many bytes the scalar at i has; 0 where none stands there. The rows stand in the order of the table; no first byte is in two of them.
 //
 //     Unicode 5.0, table 3-7: well-formed UTF-8
@@ -77,17 +24,17 @@ fn width_at(s: &[u8], i: usize) -> usize
     requires { i < length s.now }
     ensures { result ≡ width_at s.now i }
 {
-    let first = s[i];
-    match first {
+    let rest = &s[i + 1..];
+    match s[i] {
         0x00..=0x7F => 1, // row 1
-        0xC2..=0xDF => two(s, i, 0x80, 0xBF), // row 2
-        0xE0 => three(s, i, 0xA0, 0xBF), // row 3
-        0xE1..=0xEC => three(s, i, 0x80, 0xBF), // row 4
-        0xED => three(s, i, 0x80, 0x9F), // row 5
-        0xEE..=0xEF => three(s, i, 0x80, 0xBF), // row 6
-        0xF0 => four(s, i, 0x90, 0xBF), // row 7
-        0xF1..=0xF3 => four(s, i, 0x80, 0xBF), // row 8
-        0xF4 => four(s, i, 0x80, 0x8F), // row 9
+        0xC2..=0xDF if matches!(rest, [0x80..=0xBF, ..]) => 2, // row 2
+        0xE0 if matches!(rest, [0xA0..=0xBF, 0x80..=0xBF, ..]) => 3, // row 3
+        0xE1..=0xEC if matches!(rest, [0x80..=0xBF, 0x80..=0xBF, ..]) => 3, // row 4
+        0xED if matches!(rest, [0x80..=0x9F, 0x80..=0xBF, ..]) => 3, // row 5
+        0xEE..=0xEF if matches!(rest, [0x80..=0xBF, 0x80..=0xBF, ..]) => 3, // row 6
+        0xF0 if matches!(rest, [0x90..=0xBF, 0x80..=0xBF, 0x80..=0xBF, ..]) => 4, // row 7
+        0xF1..=0xF3 if matches!(rest, [0x80..=0xBF, 0x80..=0xBF, 0x80..=0xBF, ..]) => 4, // row 8
+        0xF4 if matches!(rest, [0x80..=0x8F, 0x80..=0xBF, 0x80..=0xBF, ..]) => 4, // row 9
         _ => 0,
     }
 }
@@ -98,19 +45,7 @@ fn plain(s: &[u8]) -> usize
     ensures { (result ≤ length s.now) × (well_formed s.now ≡ well_formed (drop result s.now)) }
 {
     let mut n: usize = 0;
-    while 4 <= s.len() - n {
-        if s[n] > 0x7F {
-            return n;
-        }
-        if s[n + 1] > 0x7F {
-            return n;
-        }
-        if s[n + 2] > 0x7F {
-            return n;
-        }
-        if s[n + 3] > 0x7F {
-            return n;
-        }
+    while let [0x00..=0x7F, 0x00..=0x7F, 0x00..=0x7F, 0x00..=0x7F, ..] = &s[n..] {
         n += 4;
     }
     n
@@ -153,20 +88,11 @@ pub fn text_at(s: &[u8], at: usize, n: usize) -> Field
 pub fn need_of(b: u8) -> u8
     ensures { result ≡ need_of b }
 {
-    if b < 0x80 {
-        return 0;
+    match b {
+        0x00..=0x7F => 0,
+        0xC2..=0xDF => 1,
+        0xE0..=0xEF => 2,
+        0xF0..=0xF4 => 3,
+        _ => 4,
     }
-    if b < 0xC2 {
-        return 4;
-    }
-    if b < 0xE0 {
-        return 1;
-    }
-    if b < 0xF0 {
-        return 2;
-    }
-    if b < 0xF5 {
-        return 3;
-    }
-    4
 }

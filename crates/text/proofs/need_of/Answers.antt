@@ -1,28 +1,28 @@
--- Each return is one case of `need_of`: the tests of the branches decide it.
+-- Each return is one case of `need_of`: the bounds of its arm decide it.
 use Rattle.format.specs.Text.{need_of}
 use Rattle.fields.specs.Auto.{auto}
 use Rattle.text.proofs.need_of.Goals as goal
 
-pub returns-then-b-lt128 : goal.returns-then-b-lt128
+pub returns-in-0-to-127 : goal.returns-in-0-to-127
 unfolding need_of
-returns-then-b-lt128 c = search auto
+returns-in-0-to-127 c = search auto
 
-pub returns-then-b-lt194 : goal.returns-then-b-lt194
+pub returns-in-194-to-223 : goal.returns-in-194-to-223
 unfolding need_of
-returns-then-b-lt194 c = search auto
+returns-in-194-to-223 c = search auto
 
-pub returns-then-b-lt224 : goal.returns-then-b-lt224
+pub returns-in-224-to-239 : goal.returns-in-224-to-239
 unfolding need_of
-returns-then-b-lt224 c = search auto
+returns-in-224-to-239 c = search auto
 
-pub returns-then-b-lt240 : goal.returns-then-b-lt240
+pub returns-in-240-to-244 : goal.returns-in-240-to-244
 unfolding need_of
-returns-then-b-lt240 c = search auto
+returns-in-240-to-244 c = search auto
 
-pub returns-then-b-lt245 : goal.returns-then-b-lt245
+pub returns-in_default : goal.returns-in_default
 unfolding need_of
-returns-then-b-lt245 c = search auto
+returns-in_default c = search auto
 
-pub returns : goal.returns
+pub returns-in_default-2 : goal.returns-in_default-2
 unfolding need_of
-returns c = search auto
+returns-in_default-2 c = search auto

@@ -1,5 +1,4 @@
 -- The invariant: all of s is text exactly when what is left of it from i on is. The measure: the bytes left.
-use Prim.Native.Nat.{◌-◌}
 use mathlib.Core.Path.{sym, ◌∙◌}
 use native.Mathlib.Omega.{arith}
 use Rattle.text.specs.Left.{scalar_on, scalar_none, nothing_left}
