@@ -8,17 +8,8 @@ ghost use Rattle.format.specs.Bytes.{same_part};
 pub fn same_part(s: &[u8], a: usize, b: usize, n: usize) -> bool
     ensures { result ≡ same_part s.now a b n }
 {
-    if s.len() < a {
+    if s.len() < a || s.len() - a < n || s.len() < b || s.len() - b < n {
         return false;
     }
-    if s.len() - a < n {
-        return false;
-    }
-    if s.len() < b {
-        return false;
-    }
-    if s.len() - b < n {
-        return false;
-    }
-    check::same(&s[a..a + n], &s[b..b + n])
+    &s[a..a + n] == &s[b..b + n]
 }

@@ -33,16 +33,18 @@ pub fn row_at(table: &[u32], n: usize, i: usize) -> Row
             count: 0,
         };
     }
-    let b = 8 * i;
+    let &[kind, offset, end, id, owner, slot, link, count, ..] = &table[8 * i..] else {
+        unreachable!();
+    };
     Row {
-        kind: table[b],
-        offset: table[b + 1],
-        end: table[b + 2],
-        id: table[b + 3],
-        owner: table[b + 4],
-        slot: table[b + 5],
-        link: table[b + 6],
-        count: table[b + 7],
+        kind,
+        offset,
+        end,
+        id,
+        owner,
+        slot,
+        link,
+        count,
     }
 }
 
@@ -84,14 +86,10 @@ pub fn put_at(table: &mut [u32], n: usize, i: usize, r: Row)
     ensures { rows_of n table.new ≡ set (rows_of n table.old) i r }
 {
     let b = 8 * i;
-    table[b] = r.kind;
-    table[b + 1] = r.offset;
-    table[b + 2] = r.end;
-    table[b + 3] = r.id;
-    table[b + 4] = r.owner;
-    table[b + 5] = r.slot;
-    table[b + 6] = r.link;
-    table[b + 7] = r.count;
+    let words = [
+        r.kind, r.offset, r.end, r.id, r.owner, r.slot, r.link, r.count,
+    ];
+    table[b..b + 8].copy_from_slice(&words);
 }
 
 // r is one row more than the first n.
@@ -117,11 +115,7 @@ pub fn set_link(table: &mut [u32], n: usize, i: usize, link: u32)
 pub fn clear(table: &mut [u32])
     ensures { table.new ≡ replicate (length table.old) 0 }
 {
-    let mut i = 0;
-    while i < table.len() {
-        table[i] = 0;
-        i += 1;
-    }
+    table.fill(0);
 }
 
 // All words after the first n rows are zero, those of a broken last row too.

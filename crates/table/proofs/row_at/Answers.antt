@@ -1,5 +1,5 @@
--- Eight reads are row i (`row-in`); past the first n it is the blank row (`row_out`).
-use Rattle.table.specs.Rows.{row_in_lem, row_out_lem}
+-- Eight words are row i (`row_front`); past the first n it is the blank row (`row_out_lem`).
+use Rattle.table.specs.Rows.{row_front, row_out_lem}
 use native.Mathlib.Omega.{arith}
 use Rattle.table.proofs.row_at.Goals as goal
 
@@ -7,4 +7,4 @@ pub returns-then-n-i : goal.returns-then-n-i
 returns-then-n-i c = row_out_lem _ _ _ (omega arith)
 
 pub returns : goal.returns
-returns c = row_in_lem _ _ _ (omega arith)
+returns c = row_front _ _ _ (omega arith)
