@@ -1,6 +1,7 @@
 -- What a kind byte says where it stands: one law for each answer, and what a kind that is taken says.
 use Rattle.std.specs.Prelude.{ℕ, ◌≤◌, ◌<◌, ◌≡◌, Bool, ◌&&◌, ◌||◌, List, length, get_or, ltb, eqb}
 use Rattle.std.proofs.Math.Path.{refl}
+use Rattle.std.proofs.Math.Decide.{dec_lt}
 use Rattle.std.proofs.Common.{sym, ap, subst, ◌∙◌, arith}
 use Rattle.std.proofs.Math.Bool.{true, false}
 use borrow.Author.Tests.{lt-ltb, le-ltb, ltb-true, ne_eqb, eqb-true}
@@ -53,14 +54,6 @@ Hollow (H.Bad f) = Unit {0}
 -- ---- the slots
 
 module _ (k : ℕ) where
-  pub string_rest : (k ≡ 6 → ⊥) → allowed W.StringSlot k ≡ in_slot k
-  unfolding allowed
-  string_rest six = rw (ne_eqb k 6 six)
-
-  pub object_rest : (k ≡ 1 → ⊥) → (k ≡ 4 → ⊥) → (k ≡ 5 → ⊥) → (k ≡ 6 → ⊥) → (k ≡ 8 → ⊥) → allowed W.ObjectSlot k ≡ in_slot k
-  unfolding allowed
-  object_rest one four five six eight = rw (ne_eqb k 1 one, ne_eqb k 4 four, ne_eqb k 5 five, ne_eqb k 6 six, ne_eqb k 8 eight)
-
   -- ---- a kind byte
 
   module _ (w : Where) where
@@ -169,6 +162,14 @@ module _ (w : Where) (k : ℕ) where
   pub brief_known : (n : ℕ) (q : Bool) → is_brief n ≡ true → k ≡ n → q ≡ allowed w n → q ≡ brief_in w k
   unfolding brief_in
   brief_known n q b e a = rw (e, b) a
+
+  -- 9 and 10, which have one arm
+  pub brief_either : (q : Bool) → 9 ≤ k → k ≤ 10 → (q ≡ allowed w 9) × (q ≡ allowed w 10) → q ≡ brief_in w k
+  brief_either q l u a = go (dec_lt k 10)
+    where
+      go : Dec (k < 10) → q ≡ brief_in w k
+      go (yes h) = brief_known 9 q refl (omega arith) a.0
+      go (no h) = brief_known 10 q refl (omega arith) a.1
 
   pub brief_other : (k ≡ 6 → ⊥) → (k ≡ 8 → ⊥) → (k ≡ 9 → ⊥) → (k ≡ 10 → ⊥) → false ≡ brief_in w k
   unfolding brief_in

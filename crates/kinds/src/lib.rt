@@ -14,14 +14,7 @@ use format::{Kind, Refusal, Where};
 fn is_kind(k: u8) -> bool
     ensures { result ≡ is_kind k }
 {
-    if k <= 17 {
-        return true;
-    }
-    match k {
-        21 => true,
-        22 => true,
-        _ => false,
-    }
+    matches!(k, 0..=17 | 21 | 22)
 }
 
 // Refused by name: SystemClassWithMembers (2, 2.3.2.4), ClassWithMembers (3, 2.3.2.2), BinaryMethodCall (21, 2.2.3.1) and BinaryMethodReturn (22,
@@ -29,73 +22,41 @@ fn is_kind(k: u8) -> bool
 fn not_taken(k: u8) -> bool
     ensures { result ≡ not_taken k }
 {
-    match k {
-        2 => true,
-        3 => true,
-        21 => true,
-        22 => true,
-        _ => false,
-    }
+    matches!(k, 2 | 3 | 21 | 22)
 }
 
-// References, nulls and libraries stand in every slot that waits for a record: MemberReference (9, 2.5.3), ObjectNull (10, 2.5.4), BinaryLibrary
+// References, nulls and libraries stand in every slot that waits for a record, libraries since they stand wherever a kind byte is expected after the header: MemberReference (9, 2.5.3), ObjectNull (10, 2.5.4), BinaryLibrary
 // (12, 2.6.2), ObjectNullMultiple256 (13, 2.5.6), ObjectNullMultiple (14, 2.5.5).
 fn in_slot(k: u8) -> bool
     ensures { result ≡ in_slot k }
 {
-    match k {
-        9 => true,
-        10 => true,
-        12 => true, // wherever a kind byte is expected after the header
-        13 => true,
-        14 => true,
-        _ => false,
-    }
+    matches!(k, 9 | 10 | 12 | 13 | 14)
 }
 
 // ClassWithId (1, 2.3.2.5), the classes with types (4, 2.3.2.3; 5, 2.3.2.1), BinaryObjectString (6, 2.5.7), BinaryArray (7, 2.4.3.1), MessageEnd (11,
 // 2.6.3), BinaryLibrary (12, 2.6.2), ArraySinglePrimitive, ArraySingleObject and ArraySingleString (15, 2.4.3.3; 16, 2.4.3.2; 17, 2.4.3.4).
+#[tactic(auto, unfolding(format::specs::Records::allowed))]
 fn at_top(k: u8) -> bool
     ensures { result ≡ allowed W.Top k }
 {
-    match k {
-        1 => true,
-        4 => true,
-        5 => true,
-        6 => true,
-        7 => true,
-        11 => true,
-        12 => true,
-        15 => true,
-        16 => true,
-        17 => true,
-        _ => false,
-    }
+    matches!(k, 1 | 4 | 5 | 6 | 7 | 11 | 12 | 15 | 16 | 17)
 }
 
 // BinaryObjectString (6, 2.5.7), and what stands in every slot.
+#[tactic(auto, unfolding(format::specs::Records::allowed))]
 fn in_string_slot(k: u8) -> bool
     ensures { result ≡ allowed W.StringSlot k }
 {
-    match k {
-        6 => true,
-        _ => in_slot(k),
-    }
+    k == 6 || in_slot(k)
 }
 
 // ClassWithId (1, 2.3.2.5), the classes with types (4, 2.3.2.3; 5, 2.3.2.1), BinaryObjectString (6, 2.5.7), MemberPrimitiveTyped (8, 2.5.1), and what
 // stands in every slot.
+#[tactic(auto, unfolding(format::specs::Records::allowed))]
 fn in_object_slot(k: u8) -> bool
     ensures { result ≡ allowed W.ObjectSlot k }
 {
-    match k {
-        1 => true,
-        4 => true,
-        5 => true,
-        6 => true,
-        8 => true,
-        _ => in_slot(k),
-    }
+    matches!(k, 1 | 4 | 5 | 6 | 8) || in_slot(k)
 }
 
 // The header, SerializationHeaderRecord (0, 2.6.1), stands first and nowhere else.
@@ -140,42 +101,27 @@ pub fn kind_at(s: &[u8], w: Where, at: usize) -> Kind
 // ---- brief kinds: they fill one slot and open nothing
 
 // BinaryObjectString (6) stands at the top, in string slots and in object slots.
+#[tactic(auto, unfolding(format::specs::Records::allowed))]
 fn takes_string(w: Where) -> bool
     ensures { result ≡ allowed w 6 }
 {
-    match w {
-        Where::Start => false,
-        Where::Top => true,
-        Where::StringSlot => true,
-        Where::ObjectSlot => true,
-        Where::ArraySlot => false,
-    }
+    matches!(w, Where::Top | Where::StringSlot | Where::ObjectSlot)
 }
 
 // MemberPrimitiveTyped (8) stands in object slots alone.
+#[tactic(auto, unfolding(format::specs::Records::allowed))]
 fn takes_typed(w: Where) -> bool
     ensures { result ≡ allowed w 8 }
 {
-    match w {
-        Where::Start => false,
-        Where::Top => false,
-        Where::StringSlot => false,
-        Where::ObjectSlot => true,
-        Where::ArraySlot => false,
-    }
+    matches!(w, Where::ObjectSlot)
 }
 
 // MemberReference (9) and ObjectNull (10) stand in every slot.
+#[tactic(auto, unfolding(format::specs::Records::allowed))]
 fn takes_null(w: Where) -> bool
     ensures { (result ≡ allowed w 9) × (result ≡ allowed w 10) }
 {
-    match w {
-        Where::Start => false,
-        Where::Top => false,
-        Where::StringSlot => true,
-        Where::ObjectSlot => true,
-        Where::ArraySlot => true,
-    }
+    matches!(w, Where::StringSlot | Where::ObjectSlot | Where::ArraySlot)
 }
 
 // Whether this kind is brief and may stand here.
@@ -185,8 +131,7 @@ fn is_brief_in(w: Where, k: u8) -> bool
     match k {
         6 => takes_string(w),
         8 => takes_typed(w),
-        9 => takes_null(w),
-        10 => takes_null(w),
+        9 | 10 => takes_null(w),
         _ => false,
     }
 }
@@ -195,8 +140,5 @@ fn is_brief_in(w: Where, k: u8) -> bool
 pub fn is_brief_at(s: &[u8], w: Where, at: usize) -> bool
     ensures { result ≡ brief_at s.now w at }
 {
-    if at < s.len() {
-        return is_brief_in(w, s[at]);
-    }
-    false
+    at < s.len() && is_brief_in(w, s[at])
 }

@@ -22,48 +22,30 @@ enum Wanted {
 pub fn is_object(kind: u32) -> bool
     ensures { result ≡ is_object kind }
 {
-    match kind {
-        1 => true,
-        4 => true,
-        5 => true,
-        6 => true,
-        7 => true,
-        15 => true,
-        16 => true,
-        17 => true,
-        _ => false,
-    }
+    matches!(kind, 1 | 4 | 5 | 6 | 7 | 15 | 16 | 17)
 }
 
 // Whether a row of this kind is a class that a kind 1 may name.
 pub fn is_class(kind: u32) -> bool
     ensures { result ≡ is_class kind }
 {
-    match kind {
-        4 => true,
-        5 => true,
-        _ => false,
-    }
+    matches!(kind, 4 | 5)
 }
 
 // Whether the types of a class of this kind stand in the class book.
 pub fn is_untyped(kind: u32) -> bool
     ensures { result ≡ is_untyped kind }
 {
-    match kind {
-        2 => true,
-        3 => true,
-        _ => false,
-    }
+    matches!(kind, 2 | 3)
 }
 
 // The number of what is looked up, as a row's id word has it.
+#[tactic(auto, unfolding(crate::specs::Find::id_of))]
 fn id_of(what: Wanted) -> u32
     ensures { result ≡ id_of what }
 {
     match what {
-        Wanted::Object(id) => id.0,
-        Wanted::Class(id) => id.0,
+        Wanted::Object(id) | Wanted::Class(id) => id.0,
         Wanted::Library(id) => id.0,
     }
 }
@@ -84,10 +66,7 @@ fn names(table: &[u32], n: usize, i: usize, what: Wanted) -> bool
     requires { (i < n) × (n ≤ room_of table.now) }
     ensures { result ≡ named (is_of what) (id_of what) (get_or (rows_of n table.now) i blank) }
 {
-    if table::id_at(table, n, i) != id_of(what) {
-        return false;
-    }
-    is_of(what, table::kind_at(table, n, i))
+    table::id_at(table, n, i) == id_of(what) && is_of(what, table::kind_at(table, n, i))
 }
 
 // What is looked up among the first n rows: the number of its row plus 1; 0 if there is none.
@@ -95,12 +74,10 @@ fn find(table: &[u32], n: usize, what: Wanted) -> usize
     requires { n ≤ room_of table.now }
     ensures { result ≡ find_from (named (is_of what) (id_of what)) 0 (rows_of n table.now) }
 {
-    let mut i: usize = 0;
-    while i < n {
+    for i in 0..n {
         if names(table, n, i, what) {
             return i + 1;
         }
-        i += 1;
     }
     0
 }
