@@ -24,13 +24,11 @@ pub fn first_library(s: &[u8], table: &[u32], n: usize, r: Row) -> u32
     requires { (n ≤ room_of table.now) × (n < 4294967296) }
     ensures { result ≡ first_library s.now (rows_of n table.now) r }
 {
-    let mut i: usize = 0;
-    while i < n {
+    for i in 0..n {
         let other = table::row_at(table, n, i);
         if marks::same_name(s, r, other) {
             return (i + 1) as u32;
         }
-        i += 1;
     }
     0
 }
@@ -38,6 +36,7 @@ pub fn first_library(s: &[u8], table: &[u32], n: usize, r: Row) -> u32
 // ---- the first row of an equal class, libraries compared by their first rows
 
 // Whether the details of one type, from a to x and from b to y, are the same.
+#[tactic(auto, unfolding(marks::specs::Marks::same_info))]
 fn same_info(
     s: &[u8],
     table: &[u32],
@@ -51,17 +50,15 @@ fn same_info(
     requires { n ≤ room_of table.now }
     ensures { result ≡ same_info s.now (rows_of n table.now) kind a x b y }
 {
-    if kind == 4 {
-        if marks::same_text(s, a, b) {
-            let library = marks::library_at(s, table, n, marks::less(x, 4));
-            return library == marks::library_at(s, table, n, marks::less(y, 4));
+    match kind {
+        4 => {
+            marks::same_text(s, a, b)
+                && marks::library_at(s, table, n, marks::less(x, 4))
+                    == marks::library_at(s, table, n, marks::less(y, 4))
         }
-        return false;
+        3 => marks::same_text(s, a, b),
+        _ => marks::same_between(s, a, x, b, y),
     }
-    if kind == 3 {
-        return marks::same_text(s, a, b);
-    }
-    marks::same_between(s, a, x, b, y)
 }
 
 // Where the first member of a class stands.
@@ -93,14 +90,10 @@ fn same_member(s: &[u8], table: &[u32], n: usize, a: Cursor, x: usize, b: Cursor
     requires { n ≤ room_of table.now }
     ensures { result ≡ same_member s.now (rows_of n table.now) a x b y }
 {
-    if marks::same_text(s, a.name, b.name) {
-        let kind = codes::byte_at(s, a.kind);
-        if kind == codes::byte_at(s, b.kind) {
-            return same_info(s, table, n, kind, a.info, x, b.info, y);
-        }
-        return false;
-    }
-    false
+    let kind = codes::byte_at(s, a.kind);
+    marks::same_text(s, a.name, b.name)
+        && kind == codes::byte_at(s, b.kind)
+        && same_info(s, table, n, kind, a.info, x, b.info, y)
 }
 
 // Whether as many members as count, the first ones at a and b, are the same.
@@ -108,10 +101,9 @@ fn same_members(s: &[u8], table: &[u32], n: usize, count: u32, a: Cursor, b: Cur
     requires { (n ≤ room_of table.now) × (a.kind < 4294967296) × (b.kind < 4294967296) }
     ensures { result ≡ same_members s.now (rows_of n table.now) count a b }
 {
-    let mut left = count;
     let mut one = a;
     let mut other = b;
-    while left > 0 {
+    for _ in 0..count {
         let after_one = next_member(s, one);
         let after_other = next_member(s, other);
         if !same_member(s, table, n, one, after_one.info, other, after_other.info) {
@@ -119,21 +111,19 @@ fn same_members(s: &[u8], table: &[u32], n: usize, count: u32, a: Cursor, b: Cur
         }
         one = after_one;
         other = after_other;
-        left -= 1;
     }
     true
 }
 
 // Whether two classes both come from the system, or from libraries with one name.
+#[tactic(auto, unfolding(marks::specs::Marks::same_own))]
 fn same_own(s: &[u8], table: &[u32], n: usize, a: Row, b: Row) -> bool
     requires { n ≤ room_of table.now }
     ensures { result ≡ same_own s.now (rows_of n table.now) a b }
 {
-    if a.kind == 5 {
-        let library = marks::library_at(s, table, n, marks::less(a.end as usize, 4));
-        return library == marks::library_at(s, table, n, marks::less(b.end as usize, 4));
-    }
-    true
+    a.kind != 5
+        || marks::library_at(s, table, n, marks::less(a.end as usize, 4))
+            == marks::library_at(s, table, n, marks::less(b.end as usize, 4))
 }
 
 // Whether two classes with as many members have the same members and the same library.
@@ -143,27 +133,19 @@ fn same_details(s: &[u8], table: &[u32], n: usize, a: Row, b: Row) -> bool
 {
     let one = first_member(s, a);
     let other = first_member(s, b);
-    if same_members(s, table, n, a.count, one, other) {
-        return same_own(s, table, n, a, b);
-    }
-    false
+    same_members(s, table, n, a.count, one, other) && same_own(s, table, n, a, b)
 }
 
 // Whether two rows have equal classes.
+#[tactic(auto, unfolding(marks::specs::Marks::same_class_row))]
 fn same_class_row(s: &[u8], table: &[u32], n: usize, a: Row, b: Row) -> bool
     requires { n ≤ room_of table.now }
     ensures { result ≡ same_class_row s.now (rows_of n table.now) a b }
 {
-    if b.kind == a.kind {
-        if b.count == a.count {
-            if marks::same_text(s, (a.offset as usize) + 5, (b.offset as usize) + 5) {
-                return same_details(s, table, n, a, b);
-            }
-            return false;
-        }
-        return false;
-    }
-    false
+    b.kind == a.kind
+        && b.count == a.count
+        && marks::same_text(s, (a.offset as usize) + 5, (b.offset as usize) + 5)
+        && same_details(s, table, n, a, b)
 }
 
 // The first row, plus 1, of a class equal to that of r.
@@ -171,13 +153,11 @@ pub fn first_class(s: &[u8], table: &[u32], n: usize, r: Row) -> u32
     requires { (n ≤ room_of table.now) × (n < 4294967296) }
     ensures { result ≡ first_class s.now (rows_of n table.now) r }
 {
-    let mut i: usize = 0;
-    while i < n {
+    for i in 0..n {
         let other = table::row_at(table, n, i);
         if same_class_row(s, table, n, r, other) {
             return (i + 1) as u32;
         }
-        i += 1;
     }
     0
 }

@@ -7,7 +7,6 @@ use Prim.Native.Nat.{ℕ, zero, suc, ◌+◌, ◌-◌, ◌*◌, ◌≤◌, ◌<�
 use native.Mathlib.Omega.{arith}
 use Rattle.std.proofs.Math.Numerals.{add-two, add-three, add-four, add_five}
 use Rattle.std.proofs.lemmas.List.Edits.{sets}
-use Rattle.format.specs.declared.SlotType.{SlotType}
 use Rattle.format.specs.declared.Where.{Where}
 use Rattle.format.specs.declared.Where.TheVariants as W
 use Rattle.format.specs.declared.Typed.{Typed}

@@ -54,44 +54,25 @@ pub fn settle(frames: &[u32; Reader::WORDS], m: Reader) -> Reader
 {
     let mut depth = m.depth;
     let mut top = m.top;
-    while depth != 0 {
-        if top.left != 0 {
-            return Reader {
-                at: m.at,
-                rows: m.rows,
-                depth,
-                top,
-            };
-        }
+    while depth != 0 && top.left == 0 {
         depth -= 1;
         top = frame_at(frames, depth);
     }
-    Reader {
-        at: m.at,
-        rows: m.rows,
-        depth,
-        top,
-    }
+    Reader { depth, top, ..m }
 }
 
 // The reader after k slots of the innermost object, with the type t for the next one; full objects are not closed.
 fn passed(m: Reader, k: u32, t: Typed) -> Reader
     ensures { result ≡ record { at = m.at; rows = m.rows; depth = m.depth; top = filled_by m.top k t } }
 {
-    let owner = m.top.owner;
-    let count = m.top.count;
-    let left = m.top.left;
-    let rest = slot_words::less(left, k);
+    let left = slot_words::less(m.top.left, k);
     Reader {
-        at: m.at,
-        rows: m.rows,
-        depth: m.depth,
         top: Frame {
-            owner,
-            count,
-            left: rest,
+            left,
             typed: t,
+            ..m.top
         },
+        ..m
     }
 }
 
@@ -129,31 +110,24 @@ pub fn open_object(
     requires { (m.depth < 64) × (length frames.old ≡ 384) }
     ensures { Deeper frames.new m result (opened (open_of frames.old m) row h t) }
 {
-    let owner = m.top.owner;
-    let count = m.top.count;
-    let left = m.top.left;
-    let rest = slot_words::less(left, 1);
+    let left = slot_words::less(m.top.left, 1);
     save(
         frames,
         m.depth,
         Frame {
-            owner,
-            count,
-            left: rest,
+            left,
             typed: t,
+            ..m.top
         },
     );
-    let slots = h.slots;
-    let first = h.first;
     Reader {
-        at: m.at,
-        rows: m.rows,
         depth: m.depth + 1,
         top: Frame {
             owner: row,
-            count: slots,
-            left: slots,
-            typed: first,
+            count: h.slots,
+            left: h.slots,
+            typed: h.first,
         },
+        ..m
     }
 }

@@ -15,10 +15,7 @@ use format::{LibraryNo, ObjectNo, Row};
 pub fn less(a: usize, b: usize) -> usize
     ensures { result ≡ a - b }
 {
-    if a < b {
-        return 0;
-    }
-    a - b
+    a.saturating_sub(b)
 }
 
 // A number as a word has it.
@@ -32,7 +29,7 @@ pub fn word(n: usize) -> u32
 pub fn plus(n: u32, k: u32) -> u32
     ensures { result ≡ word (n + k) }
 {
-    word((n as usize) + (k as usize))
+    n.wrapping_add(k)
 }
 
 // The number after an object's.
@@ -53,7 +50,7 @@ pub fn next_library(last: LibraryNo) -> LibraryNo
 fn joined(a: u8, b: u8, c: u8, d: u8) -> u32
     ensures { result ≡ a + 256 * b + 65536 * c + 16777216 * d }
 {
-    (a as u32) + 256 * (b as u32) + 65536 * (c as u32) + 16777216 * (d as u32)
+    u32::from_le_bytes([a, b, c, d])
 }
 
 // ---- rows
@@ -62,46 +59,19 @@ fn joined(a: u8, b: u8, c: u8, d: u8) -> u32
 pub fn with_object_no(r: Row, id: ObjectNo) -> Row
     ensures { result ≡ with_id r id.0 }
 {
-    Row {
-        kind: r.kind,
-        offset: r.offset,
-        end: r.end,
-        id: id.0,
-        owner: r.owner,
-        slot: r.slot,
-        link: r.link,
-        count: r.count,
-    }
+    Row { id: id.0, ..r }
 }
 
 pub fn with_slot(r: Row, slot: u32) -> Row
     ensures { result ≡ with_slot r slot }
 {
-    Row {
-        kind: r.kind,
-        offset: r.offset,
-        end: r.end,
-        id: r.id,
-        owner: r.owner,
-        slot,
-        link: r.link,
-        count: r.count,
-    }
+    Row { slot, ..r }
 }
 
 fn with_link(r: Row, link: u32) -> Row
     ensures { result ≡ with_link r link }
 {
-    Row {
-        kind: r.kind,
-        offset: r.offset,
-        end: r.end,
-        id: r.id,
-        owner: r.owner,
-        slot: r.slot,
-        link,
-        count: r.count,
-    }
+    Row { link, ..r }
 }
 
 // A library's row whose link is its new number.
@@ -121,16 +91,7 @@ pub fn with_first_row(r: Row, first: u32) -> Row
 pub fn with_count(r: Row, count: u32) -> Row
     ensures { result ≡ with_count r count }
 {
-    Row {
-        kind: r.kind,
-        offset: r.offset,
-        end: r.end,
-        id: r.id,
-        owner: r.owner,
-        slot: r.slot,
-        link: r.link,
-        count,
-    }
+    Row { count, ..r }
 }
 
 // Where the details of a class's members begin.
@@ -144,14 +105,8 @@ pub fn infos_place(r: Row) -> usize
 pub fn is_first(i: usize, r: Row) -> bool
     ensures { result ≡ is_first i r }
 {
-    if lookups::is_class(r.kind) {
-        // A link of 0 names no row, and i + 1 need not fit.
-        if r.link == 0 {
-            return false;
-        }
-        return ((r.link - 1) as usize) == i;
-    }
-    false
+    // A link of 0 names no row, and i + 1 need not fit.
+    lookups::is_class(r.kind) && r.link != 0 && ((r.link - 1) as usize) == i
 }
 
 // The row that a word names.
@@ -211,15 +166,12 @@ pub fn library_at(s: &[u8], table: &[u32], n: usize, p: usize) -> u32
 // ---- the same bytes
 
 // Whether the bytes from a to x and those from b to y are the same.
+#[tactic(auto, unfolding(crate::specs::Marks::same_between))]
 pub fn same_between(s: &[u8], a: usize, x: usize, b: usize, y: usize) -> bool
     ensures { result ≡ same_between s.now a x b y }
 {
     let size = less(x, a);
-    let other = less(y, b);
-    if size == other {
-        return same::same_part(s, a, b, size);
-    }
-    false
+    size == less(y, b) && same::same_part(s, a, b, size)
 }
 
 // Whether the strings at a and b have the same text, whatever their prefixes.
@@ -232,11 +184,9 @@ pub fn same_text(s: &[u8], a: usize, b: usize) -> bool
 }
 
 // Whether row b is a library with the name of library a.
+#[tactic(auto, unfolding(crate::specs::Marks::same_name))]
 pub fn same_name(s: &[u8], a: Row, b: Row) -> bool
     ensures { result ≡ same_name s.now a b }
 {
-    if b.kind == 12 {
-        return same_text(s, (a.offset as usize) + 5, (b.offset as usize) + 5);
-    }
-    false
+    b.kind == 12 && same_text(s, (a.offset as usize) + 5, (b.offset as usize) + 5)
 }

@@ -56,13 +56,12 @@ pub fn slot_code(t: SlotType) -> u32
     }
 }
 
+#[tactic(auto, unfolding(crate::specs::Words::slot_from))]
 pub fn slot_from(k: u32) -> SlotType
     ensures { result ≡ slot_from k }
 {
-    if k < 20 {
-        return SlotType::Primitive(code_from(k));
-    }
     match k {
+        0..=19 => SlotType::Primitive(code_from(k)),
         20 => SlotType::Text,
         21 => SlotType::Object,
         22 => SlotType::SystemClass,
@@ -79,8 +78,5 @@ pub fn slot_from(k: u32) -> SlotType
 pub fn less(a: u32, b: u32) -> u32
     ensures { result ≡ a - b }
 {
-    if a < b {
-        return 0;
-    }
-    a - b
+    a.saturating_sub(b)
 }

@@ -9,7 +9,7 @@ returns c =
     let a = c.args in
     record {
       sized = c.save.ensures.0;
-      stack = open_at _ _ c.args.m _ _ c.args.h _ c.less-rest.ensures c.save.ensures.1;
+      stack = open_at _ _ c.args.m _ _ c.args.h _ c.less-left.ensures c.save.ensures.1;
       place = refl;
       rows = refl;
       deep = refl;

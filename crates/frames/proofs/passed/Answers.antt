@@ -2,4 +2,4 @@
 use Rattle.frames.proofs.passed.Goals as goal
 
 pub returns : goal.returns
-returns c = rw c.less-rest.ensures
+returns c = rw c.less-left.ensures
