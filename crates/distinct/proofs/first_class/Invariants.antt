@@ -1,5 +1,4 @@
--- One scan: the answer is that of the first row which passes. Measure: the rows left.
-use Prim.Native.Nat.{◌-◌}
+-- One scan: the answer is that of the first row which passes.
 use Rattle.format.specs.Rows.{rows_of}
 use Rattle.lookups.specs.Find.{Scan}
 use Rattle.marks.specs.Marks.{same_class_row}
@@ -8,5 +7,3 @@ use Rattle.distinct.proofs.first_class.Given as goal
 abbrev pub invariant-loop-i : goal.invariant-loop-i
 invariant-loop-i l = Scan (same_class_row l.s (rows_of l.n l.table) l.r) l.n l.table l.i
 
-abbrev pub decreases-loop-i : goal.decreases-loop-i
-decreases-loop-i l = l.n - l.i

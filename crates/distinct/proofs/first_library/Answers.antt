@@ -1,6 +1,4 @@
--- One scan: the answer is that of the first row which passes. Measure: the rows left.
-use Prim.Native.Nat.{◌-◌}
-use native.Mathlib.Omega.{arith}
+-- One scan: the answer is that of the first row which passes.
 use Rattle.lookups.specs.Find.{scan_start, scan_end, scan_hit, scan_miss}
 use Rattle.marks.specs.Marks.{same_name, first_library}
 use Rattle.distinct.proofs.first_library.Goals as goal
@@ -9,29 +7,9 @@ pub loop-i-init : goal.loop-i-init
 unfolding first_library
 loop-i-init c = scan_start _ _ _
 
-pub row_at-other-requires : goal.row_at-other-requires
-unfolding first_library
-row_at-other-requires c = omega arith
-
-pub overflow_add-result : goal.overflow_add-result
-unfolding first_library
-overflow_add-result c = omega arith
-
-pub overflow_cast-result : goal.overflow_cast-result
-unfolding first_library
-overflow_cast-result c = omega arith
-
 pub returns-then-same_name : goal.returns-then-same_name
 unfolding first_library
 returns-then-same_name c = scan_hit _ _ _ _ c.loop-i.invariant c.loop-i-test.true _ c.row_at-other.ensures _ c.same_name.ensures c.if-same_name.true
-
-pub overflow_add-i : goal.overflow_add-i
-unfolding first_library
-overflow_add-i c = omega arith
-
-pub loop-i-smaller : goal.loop-i-smaller
-unfolding first_library
-loop-i-smaller c = omega arith
 
 pub loop-i-preserved : goal.loop-i-preserved
 unfolding first_library

@@ -1,5 +1,4 @@
--- One scan: the answer is that of the first row which passes. Measure: the rows left.
-use Prim.Native.Nat.{◌-◌}
+-- One scan: the answer is that of the first row which passes.
 use Rattle.lookups.specs.Find.{Scan}
 use Rattle.marks.specs.Marks.{same_name}
 use Rattle.distinct.proofs.first_library.Given as goal
@@ -7,5 +6,3 @@ use Rattle.distinct.proofs.first_library.Given as goal
 abbrev pub invariant-loop-i : goal.invariant-loop-i
 invariant-loop-i l = Scan (same_name l.s l.r) l.n l.table l.i
 
-abbrev pub decreases-loop-i : goal.decreases-loop-i
-decreases-loop-i l = l.n - l.i
