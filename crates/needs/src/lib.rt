@@ -59,17 +59,13 @@ fn need_infos(
     requires { n ≤ room_of table.old }
     ensures { pass result.0 (rows_of n table.new) ≡ need_infos s.now count types infos (pass last.0 (rows_of n table.old)) }
 {
-    let mut left = count;
-    let mut t = types as usize;
     let mut p = infos;
     let mut number = last;
-    while left > 0 {
-        let kind = codes::byte_at(s, t);
+    for i in 0..count {
+        let kind = codes::byte_at(s, (types as usize) + (i as usize));
         let end = spans::after_info(s, kind, p);
         number = need_info(s, table, n, kind, end, number);
         p = end;
-        t += 1;
-        left -= 1;
     }
     number
 }

@@ -1,6 +1,6 @@
 -- Writers into a lent part, one after the other. A writer promises the length that its bytes need, whether they fit or not, and the bytes
 -- where they do. Lengths past the greatest usize are told as that one, so that sums of them need no bound.
-use Rattle.std.specs.Prelude.{ℕ, ◌+◌, ◌-◌, ◌≤◌, ◌<◌, ◌≡◌, refl, List, [], ◌++◌, length, drop, leb}
+use Rattle.std.specs.Prelude.{ℕ, ◌+◌, ◌-◌, ◌≤◌, ◌<◌, ◌≡◌, refl, List, [], ◌++◌, length, drop, min, leb}
 use Rattle.std.proofs.Common.{sym, ap, ap₂, ◌∙◌, append_assoc, append-nil, arith, length-append, length-drop, take_all, le-leb}
 use Rattle.std.proofs.Math.Decide.{dec_lt}
 use Rattle.std.proofs.lemmas.Bool.{lt-leb}
@@ -36,6 +36,13 @@ capped_below n h = rw (le-leb _ _ h)
 pub capped_above : (n : ℕ) → most < n → capped n ≡ most
 unfolding capped
 capped_above n h = rw (lt-leb _ _ h)
+
+pub capped_min : (n : ℕ) → min n most ≡ capped n
+capped_min n = go (dec_lt most n)
+  where
+    go : Dec (most < n) → min n most ≡ capped n
+    go (yes h) = rw (capped_above n h) (omega arith)
+    go (no h) = rw (capped_below n (omega arith)) (omega arith)
 
 -- a total that is less than the greatest usize is the length
 pub capped_within : (n d : ℕ) → n ≤ d → d ≤ most → capped n ≡ n

@@ -15,20 +15,14 @@ use format::LibraryNo;
 pub fn least(a: usize, b: usize) -> usize
     ensures { Least a b result }
 {
-    if b < a {
-        return b;
-    }
-    a
+    a.min(b)
 }
 
 // The sum, or the greatest usize where that is more.
 pub fn add_up(a: usize, b: usize) -> usize
     ensures { result ≡ capped (a + b) }
 {
-    if 18446744073709551615 - a < b {
-        return 18446744073709551615;
-    }
-    a + b
+    a.saturating_add(b)
 }
 
 // ---- bytes and numbers
@@ -60,10 +54,7 @@ pub fn put_number(out: &mut [u8], n: u32) -> usize
     if out.len() < 4 {
         return 4;
     }
-    out[0] = (n % 256) as u8;
-    out[1] = (n / 256 % 256) as u8;
-    out[2] = (n / 256 / 256 % 256) as u8;
-    out[3] = (n / 256 / 256 / 256 % 256) as u8;
+    out[..4].copy_from_slice(&n.to_le_bytes());
     4
 }
 
@@ -111,14 +102,12 @@ pub fn put_texts(out: &mut [u8], s: &[u8], n: u32, p: usize) -> usize
     ensures { Filled (texts_out s.now n p) out.old out.new result }
 {
     let mut at: usize = 0;
-    let mut left = n;
     let mut q = p;
-    while left > 0 {
+    for _ in 0..n {
         let from = least(at, out.len());
         let b = put_text(&mut out[from..], s, q);
         at = add_up(at, b);
         q = spans::after_text(s, q);
-        left -= 1;
     }
     at
 }

@@ -1,30 +1,23 @@
--- Invariant: the details that are left, from p on, lead where all of them lead; their type bytes' places fit; the slice keeps its length.
--- Measure: the details left.
-use mathlib.Core.Path.{refl, sym, ◌∙◌}
-use native.Mathlib.Omega.{arith}
+-- Invariant: the details that are left, from p on, lead where all of them lead; the slice keeps its length.
+use Rattle.std.proofs.Common.{◌≡◌, ◌+◌, ◌-◌, refl, sym, ◌∙◌, arith}
 use Rattle.needs.specs.Laws.{infos_none, infos_need}
 use Rattle.needs.proofs.need_infos.Goals as goal
 
-pub loop-left-init : goal.loop-left-init
-loop-left-init c = (refl, omega arith, refl)
+pub loop-i-init : goal.loop-i-init
+loop-i-init c =
+    let z : c.args.count - 0 ≡ c.args.count = omega arith in
+    let w : c.args.types + 0 ≡ c.args.types = omega arith in
+    (refl, rw (z, w))
 
-pub need_info-number-requires : goal.need_info-number-requires
-need_info-number-requires c = omega arith
-
-pub overflow_add-t : goal.overflow_add-t
-overflow_add-t c = omega arith
-
-pub overflow_sub-left : goal.overflow_sub-left
-overflow_sub-left c = omega arith
-
-pub loop-left-smaller : goal.loop-left-smaller
-loop-left-smaller c = omega arith
-
-pub loop-left-preserved : goal.loop-left-preserved
-loop-left-preserved c = (c.need_info-number.auto.table ∙ c.loop-left.invariant.0, omega arith, sym (infos_need _ _ _ _ _ _ _ _ c.loop-left-test.true c.byte_at-kind.ensures c.after_info-end.ensures c.need_info-number.ensures) ∙ c.loop-left.invariant.2)
+pub loop-i-preserved : goal.loop-i-preserved
+loop-i-preserved c =
+    let m : c.args.count - (c.loop-i.i + 1) ≡ c.args.count - c.loop-i.i - 1 = omega arith in
+    let t : c.args.types + (c.loop-i.i + 1) ≡ c.args.types + c.loop-i.i + 1 = omega arith in
+    (c.need_info-number.auto.table ∙ c.loop-i.invariant.0,
+     rw (m, t) (sym (infos_need _ _ _ _ _ _ _ _ (omega arith) c.byte_at-kind.ensures c.after_info-end.ensures c.need_info-number.ensures) ∙ c.loop-i.invariant.1))
 
 pub shape_of-table : goal.shape_of-table
-shape_of-table c = c.loop-left.invariant.0
+shape_of-table c = c.loop-i.invariant.0
 
 pub returns : goal.returns
-returns c = sym (infos_none _ _ _ _ _ c.loop-left-test.false) ∙ c.loop-left.invariant.2
+returns c = sym (infos_none _ _ _ _ _ (omega arith)) ∙ c.loop-i.invariant.1
