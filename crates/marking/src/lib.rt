@@ -30,10 +30,8 @@ fn number_all(table: &mut [u32], n: usize)
     ensures { rows_of n table.new ≡ numbered (rows_of n table.old) }
 {
     let mut last = ObjectNo(0);
-    let mut i: usize = 0;
-    while i < n {
+    for i in 0..n {
         last = number_one(table, n, i, last);
-        i += 1;
     }
 }
 
@@ -60,10 +58,8 @@ fn place_all(s: &[u8], table: &mut [u32], n: usize)
     requires { (n ≤ room_of table.old) × (n < 4294967296) }
     ensures { rows_of n table.new ≡ placed s.now (rows_of n table.old) }
 {
-    let mut i: usize = 0;
-    while i < n {
+    for i in 0..n {
         place_one(s, table, n, i);
-        i += 1;
     }
 }
 
@@ -86,10 +82,8 @@ fn first_all(s: &[u8], table: &mut [u32], n: usize)
     requires { (n ≤ room_of table.old) × (n < 4294967296) }
     ensures { rows_of n table.new ≡ firsts s.now (rows_of n table.old) }
 {
-    let mut i: usize = 0;
-    while i < n {
+    for i in 0..n {
         first_one(s, table, n, i);
-        i += 1;
     }
 }
 
@@ -101,10 +95,8 @@ fn need_all(s: &[u8], table: &mut [u32], n: usize)
     ensures { rows_of n table.new ≡ needed s.now (rows_of n table.old) }
 {
     let mut last = LibraryNo(0);
-    let mut i: usize = 0;
-    while i < n {
+    for i in 0..n {
         last = needs::need_one(s, table, n, i, last);
-        i += 1;
     }
 }
 

@@ -1,12 +1,11 @@
 -- The invariant: what is written and the records for the details still left are all of them.
-use Prim.Native.Nat.{◌-◌}
-use native.Mathlib.Omega.{arith}
+use Rattle.std.proofs.Common.{arith}
 use Rattle.put.specs.Put.{along_more, along_end}
 use Rattle.pieces.specs.Laws.{needs_start, needs_more, needs_end}
 use Rattle.libraries_out.proofs.put_need_infos.Goals as goal
 
 pub loop-i-init : goal.loop-i-init
-loop-i-init c = (omega arith, needs_start _ _ _ _ _ _)
+loop-i-init c = needs_start _ _ _ _ _ _
 
 pub slice_bounds-put_need_info-count : goal.slice_bounds-put_need_info-count
 slice_bounds-put_need_info-count c = omega (arith, c.least-from.ensures.within)
@@ -18,10 +17,10 @@ pub slice_bounds-put_need_info-end : goal.slice_bounds-put_need_info-end
 slice_bounds-put_need_info-end c = omega (arith, c.least-from.ensures.within)
 
 pub loop-i-preserved : goal.loop-i-preserved
-loop-i-preserved c = (omega arith, along_more _ _ _ _ _ _ _ _ _ c.loop-i.invariant.1 c.least-from.ensures c.add_up-at.ensures _ _ (needs_more _ _ _ _ _ _ _ _ c.loop-i-test.true c.byte_at-kind.ensures c.after_info-e.ensures) c.put_need_info-b.auto.out c.put_need_info-b.ensures)
+loop-i-preserved c = along_more _ _ _ _ _ _ _ _ _ c.loop-i.invariant c.least-from.ensures c.add_up-at.ensures _ _ (needs_more _ _ _ _ _ _ _ _ c.loop-i-test.true c.byte_at-kind.ensures c.after_info-e.ensures) c.put_need_info-b.auto.out c.put_need_info-b.ensures
 
 pub shape_of-out : goal.shape_of-out
-shape_of-out c = c.loop-i.invariant.1.sized
+shape_of-out c = c.loop-i.invariant.sized
 
 pub returns : goal.returns
-returns c = along_end _ _ _ _ _ c.loop-i.invariant.1 (needs_end _ _ _ _ _ _ (omega arith))
+returns c = along_end _ _ _ _ _ c.loop-i.invariant (needs_end _ _ _ _ _ _ (omega arith))
