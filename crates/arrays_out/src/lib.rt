@@ -16,10 +16,7 @@ use format::{ObjectNo, Row};
 fn are_anew(s: &[u8], kind: u8, p: usize, anew: u32) -> bool
     ensures { result ≡ (eqb kind 0 && eqb (get_or s.now p 0) anew) }
 {
-    if kind == 0 {
-        return (codes::byte_at(s, p) as u32) == anew;
-    }
-    false
+    kind == 0 && (codes::byte_at(s, p) as u32) == anew
 }
 
 // From the item type at p on, its detail ending at e.

@@ -47,15 +47,13 @@ fn put_infos(out: &mut [u8], s: &[u8], table: &[u32], n: usize, r: Row) -> usize
     let kinds = r.slot as usize;
     let mut at: usize = 0;
     let mut p = kinds + count;
-    let mut i: usize = 0;
-    while i < count {
+    for i in 0..count {
         let kind = codes::byte_at(s, kinds + i);
         let e = spans::after_info(s, kind, p);
         let from = put::least(at, out.len());
         let b = put_info(&mut out[from..], s, table, n, kind, p, e);
         at = put::add_up(at, b);
         p = e;
-        i += 1;
     }
     at
 }

@@ -63,11 +63,11 @@ module _ (δ : ℕ) (s : List ℕ) (p : ℕ) (r : Row) where
 -- ---- the loop
 
 module _ (δ : ℕ) (s : List ℕ) (n : ℕ) (t : List ℕ) (i p : ℕ) where
-  pub stretch_end : n ≤ i → stretch δ s i p (drop i (rows_of n t)) ≡ record { next = i; end = p }
+  pub stretch_end : n ≡ i → stretch δ s i p (drop i (rows_of n t)) ≡ record { next = n; end = p }
   unfolding stretch
-  stretch_end h =
+  stretch_end e =
       let l = length_rows_of n t in
-      rw (drop_of_length-le (rows_of n t) {i = i} (omega arith))
+      rw (drop_of_length-le (rows_of n t) {i = i} (omega arith), e)
 
   module _ (r : Row) (h : i < n) (x : r ≡ get_or (rows_of n t) i blank) where
     here : drop i (rows_of n t) ≡ r ∷ drop (i + 1) (rows_of n t)

@@ -20,38 +20,26 @@ fn is_plain(s: &[u8], r: Row, anew: u32) -> bool
     ensures { result ≡ is_plain anew s.now r }
 {
     let at = r.offset as usize;
-    if (codes::byte_at(s, at + 1) as u32) == anew {
-        return false;
-    }
-    at + 2 <= (r.end as usize)
+    (codes::byte_at(s, at + 1) as u32) != anew && at + 2 <= (r.end as usize)
 }
 
 // Any other value is kept, whether a member value (MemberPrimitiveUnTyped, 2.5.2) or one with its kind.
 fn is_kept(s: &[u8], r: Row, anew: u32) -> bool
     ensures { result ≡ is_kept anew s.now r }
 {
-    if r.kind == 32 {
-        if r.link == anew {
-            return false;
-        }
-        return true;
+    match r.kind {
+        32 => r.link != anew,
+        8 => is_plain(s, r, anew),
+        _ => false,
     }
-    if r.kind == 8 {
-        return is_plain(s, r, anew);
-    }
-    false
 }
 
 // Whether row r is kept and its bytes begin at this place.
+#[tactic(auto, unfolding(crate::specs::Stretches::is_next))]
 fn is_next(s: &[u8], place: u32, r: Row, anew: u32) -> bool
     ensures { result ≡ is_next anew s.now place r }
 {
-    if r.offset == place {
-        if place <= r.end {
-            return is_kept(s, r, anew);
-        }
-    }
-    false
+    r.offset == place && place <= r.end && is_kept(s, r, anew)
 }
 
 // The stretch that begins with row `first` at this place; one of no rows where that row is not kept, or lies elsewhere.
@@ -66,15 +54,13 @@ pub fn stretch_from(
     requires { (first ≤ n) × (n ≤ room_of table.now) }
     ensures { result ≡ stretch anew s.now first place (drop first (rows_of n table.now)) }
 {
-    let mut i = first;
     let mut end = place;
-    while i < n {
+    for i in first..n {
         let r = table::row_at(table, n, i);
         if !is_next(s, end, r, anew) {
             return Stretch { next: i, end };
         }
         end = r.end;
-        i += 1;
     }
-    Stretch { next: i, end }
+    Stretch { next: n, end }
 }

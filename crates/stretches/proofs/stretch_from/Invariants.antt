@@ -1,5 +1,4 @@
--- The invariant: the stretch is what the rows from i on give at the place that is reached. Measure: the rows left.
-use Prim.Native.Nat.{◌≤◌, ◌-◌}
+-- The invariant: the stretch is what the rows from i on give at the place that is reached.
 use mathlib.Core.Path.{◌≡◌}
 use lib.ListN.{drop}
 use Rattle.format.specs.Rows.{rows_of}
@@ -7,7 +6,4 @@ use Rattle.stretches.specs.Stretches.{stretch}
 use Rattle.stretches.proofs.stretch_from.Given as goal
 
 abbrev pub invariant-loop-i : goal.invariant-loop-i
-invariant-loop-i l = (l.i ≤ l.n) × (stretch l.anew l.s l.first l.place (drop l.first (rows_of l.n l.table)) ≡ stretch l.anew l.s l.i l.end (drop l.i (rows_of l.n l.table)))
-
-abbrev pub decreases-loop-i : goal.decreases-loop-i
-decreases-loop-i l = l.n - l.i
+invariant-loop-i l = stretch l.anew l.s l.first l.place (drop l.first (rows_of l.n l.table)) ≡ stretch l.anew l.s l.i l.end (drop l.i (rows_of l.n l.table))
