@@ -1,13 +1,14 @@
 -- What each writer of arrays and of kept objects puts out, and one law for each kind of row.
-use Rattle.std.specs.Prelude.{ℕ, ◌+◌, ◌%◌, ◌≡◌, Bool, ◌&&◌, List, ◌++◌, get_or, eqb}
+use Rattle.std.specs.Prelude.{ℕ, ◌+◌, ◌%◌, ◌≤◌, ◌<◌, ◌≡◌, Bool, ◌&&◌, List, [], ◌++◌, get_or, eqb}
 use Rattle.std.proofs.Math.Path.{refl, ap}
-use Rattle.std.proofs.Common.{sym, ◌∙◌, ne_eqb}
+use Rattle.std.proofs.Common.{sym, ◌∙◌, arith, ne_eqb}
+use Rattle.std.proofs.Math.Decide.{dec_lt}
 use Rattle.format.specs.declared.Row.{Row}
 use Rattle.format.specs.Types.{after_info}
 use Rattle.put.specs.Out.{between, text_out, head_out, by_id_out, header_out}
 use Rattle.marks.specs.Marks.{row_at, item_type}
 use Rattle.pieces.specs.Laws.{record_as_lem}
-use Rattle.pieces.specs.Copy.{need_info_out, info_out, value_out, values_out, typed_out, items_out, body_out, array_out, primitive_items_out, primitives_out, kept_out, string_out, record_out}
+use Rattle.pieces.specs.Copy.{need_info_out, info_out, value_out, values_out, typed_out, items_out, body_out, array_out, primitive_items_out, primitives_out, kept_out, object_out, string_out, record_out}
 
 -- ---- what is written as two pieces
 pub kept_is : (s : List ℕ) (r : Row) → kept_out s r ≡ head_out (r.kind % 256) r.id ++ between s (r.offset + 5) r.end
@@ -63,6 +64,29 @@ module _ (δ : ℕ) (s : List ℕ) (rs : List Row) (i : ℕ) (r : Row) where
 
   pub record_9 : (t : Row) → r.kind ≡ 9 → t ≡ row_at rs r.link → record_out δ s rs i r ≡ head_out 9 t.id
   record_9 t h x = record_as_lem δ s rs i r 9 h ∙ ap (λ (q : Row). head_out 9 q.id) (sym x)
+
+  -- two kinds or three that are written alike
+  pub record_class : 4 ≤ r.kind → r.kind < 6 → record_out δ s rs i r ≡ object_out s rs i r
+  record_class l u = go (dec_lt r.kind 5)
+    where
+      go : Dec (r.kind < 5) → record_out δ s rs i r ≡ object_out s rs i r
+      go (yes h) = record_as_lem δ s rs i r 4 (omega arith)
+      go (no h) = record_as_lem δ s rs i r 5 (omega arith)
+
+  pub record_kept : 16 ≤ r.kind → r.kind < 18 → record_out δ s rs i r ≡ kept_out s r
+  record_kept l u = go (dec_lt r.kind 17)
+    where
+      go : Dec (r.kind < 17) → record_out δ s rs i r ≡ kept_out s r
+      go (yes h) = record_as_lem δ s rs i r 16 (omega arith)
+      go (no h) = record_as_lem δ s rs i r 17 (omega arith)
+
+  pub record_passed : 12 ≤ r.kind → r.kind < 15 → record_out δ s rs i r ≡ []
+  record_passed l u = go (dec_lt r.kind 13) (dec_lt r.kind 14)
+    where
+      go : Dec (r.kind < 13) → Dec (r.kind < 14) → record_out δ s rs i r ≡ []
+      go (yes h) b = record_as_lem δ s rs i r 12 (omega arith)
+      go (no h) (yes g) = record_as_lem δ s rs i r 13 (omega arith)
+      go (no h) (no g) = record_as_lem δ s rs i r 14 (omega arith)
 
   abbrev Not : ℕ → Type 0
   Not k = r.kind ≡ k → ⊥

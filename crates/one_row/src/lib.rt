@@ -92,8 +92,7 @@ pub fn put_record(
     requires { (n ≤ room_of table.now) × (n < 4294967296) × (i < 4294967296) }
     ensures { Filled (record_out anew s.now (rows_of n table.now) i r) out.old out.new result }
 {
-    let kind = r.kind;
-    match kind {
+    match r.kind {
         0 => {
             let t = marks::row_named(table, n, r.link);
             heads::put_header(out, ObjectNo(t.id))
@@ -103,8 +102,7 @@ pub fn put_record(
             let t = marks::row_named(table, n, c.link);
             heads::put_by_id(out, ObjectNo(r.id), ObjectNo(t.id))
         }
-        4 => writing::put_object(out, s, table, n, i, r),
-        5 => writing::put_object(out, s, table, n, i, r),
+        4 | 5 => writing::put_object(out, s, table, n, i, r),
         6 => put_string(out, s, r),
         7 => arrays_out::put_array(out, s, table, n, r, anew),
         8 => put_typed(out, s, r, anew),
@@ -112,13 +110,9 @@ pub fn put_record(
             let t = marks::row_named(table, n, r.link);
             heads::put_reference(out, ObjectNo(t.id))
         }
-        10 => 0,
-        12 => 0,
-        13 => 0,
-        14 => 0,
+        10 | 12 | 13 | 14 => 0,
         15 => put_primitives(out, s, r, anew),
-        16 => put_kept(out, s, r),
-        17 => put_kept(out, s, r),
+        16 | 17 => put_kept(out, s, r),
         32 => put_member(out, s, r, anew),
         _ => put::put_part(out, s, r.offset as usize, r.end as usize),
     }

@@ -1,7 +1,8 @@
 -- One clause for each kind.
+use Rattle.std.proofs.Common.{arith}
 use Rattle.put.specs.Put.{became, nothing}
 use Rattle.pieces.specs.Laws.{record_as_lem}
-use Rattle.arrays_out.specs.Laws.{record_0, record_1, record_9, record_other}
+use Rattle.arrays_out.specs.Laws.{record_0, record_1, record_9, record_class, record_kept, record_passed, record_other}
 use Rattle.one_row.proofs.put_record.Goals as goal
 
 pub returns-in-0 : goal.returns-in-0
@@ -11,10 +12,7 @@ pub returns-in-1 : goal.returns-in-1
 returns-in-1 c = became _ _ _ _ _ (record_1 _ _ _ _ _ _ _ c.in-1.is c.row_named-c.ensures c.row_named-t-in-1.ensures) c.put_by_id.ensures
 
 pub returns-in-4 : goal.returns-in-4
-returns-in-4 c = became _ _ _ _ _ (record_as_lem _ _ _ _ _ 4 c.in-4.is) c.put_object.ensures
-
-pub returns-in-5 : goal.returns-in-5
-returns-in-5 c = became _ _ _ _ _ (record_as_lem _ _ _ _ _ 5 c.in-5.is) c.put_object-in-5.ensures
+returns-in-4 c = became _ _ _ _ _ (record_class _ _ _ _ _ (omega arith) (omega arith)) c.put_object.ensures
 
 pub returns-in-6 : goal.returns-in-6
 returns-in-6 c = became _ _ _ _ _ (record_as_lem _ _ _ _ _ 6 c.in-6.is) c.put_string.ensures
@@ -31,26 +29,17 @@ returns-in-9 c = became _ _ _ _ _ (record_9 _ _ _ _ _ _ c.in-9.is c.row_named-t-
 pub returns-in-10 : goal.returns-in-10
 returns-in-10 c = nothing _ _ (record_as_lem _ _ _ _ _ 10 c.in-10.is)
 
-pub returns-in-12 : goal.returns-in-12
-returns-in-12 c = nothing _ _ (record_as_lem _ _ _ _ _ 12 c.in-12.is)
-
-pub returns-in-13 : goal.returns-in-13
-returns-in-13 c = nothing _ _ (record_as_lem _ _ _ _ _ 13 c.in-13.is)
-
-pub returns-in-14 : goal.returns-in-14
-returns-in-14 c = nothing _ _ (record_as_lem _ _ _ _ _ 14 c.in-14.is)
+pub returns-in-10-2 : goal.returns-in-10-2
+returns-in-10-2 c = nothing _ _ (record_passed _ _ _ _ _ (omega arith) (omega arith))
 
 pub returns-in-15 : goal.returns-in-15
 returns-in-15 c = became _ _ _ _ _ (record_as_lem _ _ _ _ _ 15 c.in-15.is) c.put_primitives.ensures
 
 pub returns-in-16 : goal.returns-in-16
-returns-in-16 c = became _ _ _ _ _ (record_as_lem _ _ _ _ _ 16 c.in-16.is) c.put_kept.ensures
-
-pub returns-in-17 : goal.returns-in-17
-returns-in-17 c = became _ _ _ _ _ (record_as_lem _ _ _ _ _ 17 c.in-17.is) c.put_kept-in-17.ensures
+returns-in-16 c = became _ _ _ _ _ (record_kept _ _ _ _ _ (omega arith) (omega arith)) c.put_kept.ensures
 
 pub returns-in-32 : goal.returns-in-32
 returns-in-32 c = became _ _ _ _ _ (record_as_lem _ _ _ _ _ 32 c.in-32.is) c.put_member.ensures
 
 pub returns-in_default : goal.returns-in_default
-returns-in_default c = became _ _ _ _ _ (record_other _ _ _ _ _ c.in_default.in_default-own.rest.0.0.0.0.0.0.0.0.0.0.0.0.0.0.0.1 c.in_default.in_default-own.rest.0.0.0.0.0.0.0.0.0.0.0.0.0.0.1 c.in_default.in_default-own.rest.0.0.0.0.0.0.0.0.0.0.0.0.0.1 c.in_default.in_default-own.rest.0.0.0.0.0.0.0.0.0.0.0.0.1 c.in_default.in_default-own.rest.0.0.0.0.0.0.0.0.0.0.0.1 c.in_default.in_default-own.rest.0.0.0.0.0.0.0.0.0.0.1 c.in_default.in_default-own.rest.0.0.0.0.0.0.0.0.0.1 c.in_default.in_default-own.rest.0.0.0.0.0.0.0.0.1 c.in_default.in_default-own.rest.0.0.0.0.0.0.0.1 c.in_default.in_default-own.rest.0.0.0.0.0.0.1 c.in_default.in_default-own.rest.0.0.0.0.0.1 c.in_default.in_default-own.rest.0.0.0.0.1 c.in_default.in_default-own.rest.0.0.0.1 c.in_default.in_default-own.rest.0.0.1 c.in_default.in_default-own.rest.0.1 c.in_default.in_default-own.rest.1) c.put_part.ensures
+returns-in_default c = became _ _ _ _ _ (record_other _ _ _ _ _ (grind arith) (grind arith) (grind arith) (grind arith) (grind arith) (grind arith) (grind arith) (grind arith) (grind arith) (grind arith) (grind arith) (grind arith) (grind arith) (grind arith) (grind arith) (grind arith)) c.put_part.ensures
