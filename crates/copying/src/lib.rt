@@ -19,39 +19,30 @@ use pieces::Gathered;
 fn is_nulls(kind: u32) -> bool
     ensures { result ≡ is_nulls kind }
 {
-    match kind {
-        10 => true,
-        13 => true,
-        14 => true,
-        _ => false,
-    }
+    matches!(kind, 10 | 13 | 14)
 }
 
 // Rows that a run is gathered across: libraries, and runs of 0.
 fn is_passed(r: Row) -> bool
     ensures { result ≡ is_passed r }
 {
-    if r.kind == 12 {
-        return true;
-    }
-    if is_nulls(r.kind) {
-        return r.count == 0;
-    }
-    false
+    r.kind == 12 || is_nulls(r.kind) && r.count == 0
+}
+
+// Whether a row of this kind and owner is more of the nulls gathered so far: it adds nothing to the copy yet.
+#[tactic(auto, unfolding(crate::specs::Laws::is_more))]
+fn is_more(w: Gathered, kind: u32, owner: u32) -> bool
+    ensures { result ≡ is_more w kind owner }
+{
+    is_nulls(kind) && owner == w.owner
 }
 
 // The nulls gathered so far, if row r is no more of them.
 fn put_before(out: &mut [u8], w: Gathered, r: Row) -> usize
     ensures { Filled (before_out w r) out.old out.new result }
 {
-    if is_passed(r) {
+    if is_passed(r) || is_more(w, r.kind, r.owner) {
         return 0;
-    }
-    if is_nulls(r.kind) {
-        if r.owner == w.owner {
-            return 0;
-        }
-        return heads::put_run(out, w.count);
     }
     heads::put_run(out, w.count)
 }
@@ -77,16 +68,6 @@ fn run_after(before: Gathered, r: Row) -> Gathered
         };
     }
     Gathered { owner: 0, count: 0 }
-}
-
-// Whether a row of this kind and owner is more of the nulls gathered so far: it adds nothing to the copy yet.
-fn is_more(w: Gathered, kind: u32, owner: u32) -> bool
-    ensures { result ≡ is_more w kind owner }
-{
-    if is_nulls(kind) {
-        return owner == w.owner;
-    }
-    false
 }
 
 // ---- the copy
