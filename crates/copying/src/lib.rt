@@ -110,6 +110,7 @@ fn copy_all(out: &mut [u8], s: &[u8], table: &[u32], n: usize, anew: u32) -> usi
     let mut at: usize = 0;
     let mut w = Gathered { owner: 0, count: 0 };
     let mut i: usize = 0;
+    // A stretch is one step over all its rows, so no range counts them.
     while i < n {
         let kind = table::kind_at(table, n, i);
         let owner = table::owner_at(table, n, i);

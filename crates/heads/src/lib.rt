@@ -91,14 +91,10 @@ fn put_long_run(out: &mut [u8], count: u32) -> usize
 pub fn put_run(out: &mut [u8], n: usize) -> usize
     ensures { Filled (run_out n) out.old out.new result }
 {
-    if n == 0 {
-        return 0;
+    match n {
+        0 => 0,
+        1 => put::put_byte(out, 10),
+        2..=255 => put::put_two(out, 13, n as u8),
+        _ => put_long_run(out, (n % 4294967296) as u32),
     }
-    if n == 1 {
-        return put::put_byte(out, 10);
-    }
-    if n <= 255 {
-        return put::put_two(out, 13, n as u8);
-    }
-    put_long_run(out, (n % 4294967296) as u32)
 }

@@ -48,6 +48,8 @@ pub fn row_at(table: &[u32], n: usize, i: usize) -> Row
     }
 }
 
+// ---- a word of a row: one function for each that is asked for alone, since callers know no word's number
+
 // The kind of row i alone.
 pub fn kind_at(table: &[u32], n: usize, i: usize) -> u32
     requires { (i < n) × (n ≤ room_of table.now) }
@@ -79,6 +81,8 @@ pub fn count_at(table: &[u32], n: usize, i: usize) -> u32
 {
     table[8 * i + 7]
 }
+
+// ---- rows written
 
 // Row i of the first n is r.
 pub fn put_at(table: &mut [u32], n: usize, i: usize, r: Row)

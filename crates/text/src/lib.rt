@@ -56,6 +56,7 @@ pub fn well_formed(s: &[u8]) -> bool
     ensures { result ≡ well_formed s.now }
 {
     let mut i: usize = plain(s);
+    // A step is as wide as a scalar, so no range counts it.
     while i < s.len() {
         let n = width_at(s, i);
         if n == 0 {
