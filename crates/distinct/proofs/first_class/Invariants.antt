@@ -6,4 +6,3 @@ use Rattle.distinct.proofs.first_class.Given as goal
 
 abbrev pub invariant-loop-i : goal.invariant-loop-i
 invariant-loop-i l = Scan (same_class_row l.s (rows_of l.n l.table) l.r) l.n l.table l.i
-

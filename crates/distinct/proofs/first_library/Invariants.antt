@@ -5,4 +5,3 @@ use Rattle.distinct.proofs.first_library.Given as goal
 
 abbrev pub invariant-loop-i : goal.invariant-loop-i
 invariant-loop-i l = Scan (same_name l.s l.r) l.n l.table l.i
-

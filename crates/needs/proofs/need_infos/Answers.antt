@@ -12,9 +12,10 @@ loop-i-init c =
 pub loop-i-preserved : goal.loop-i-preserved
 loop-i-preserved c =
     let m : c.args.count - (c.loop-i.i + 1) ≡ c.args.count - c.loop-i.i - 1 = omega arith in
-    let t : c.args.types + (c.loop-i.i + 1) ≡ c.args.types + c.loop-i.i + 1 = omega arith in
-    (c.need_info-number.auto.table ∙ c.loop-i.invariant.0,
-     rw (m, t) (sym (infos_need _ _ _ _ _ _ _ _ (omega arith) c.byte_at-kind.ensures c.after_info-end.ensures c.need_info-number.ensures) ∙ c.loop-i.invariant.1))
+    let t : c.args.types + (c.loop-i.i + 1) ≡ c.args.types + c.loop-i.i + 1 = omega arith in (
+      c.need_info-number.auto.table ∙ c.loop-i.invariant.0,
+      rw (m, t) (sym (infos_need _ _ _ _ _ _ _ _ (omega arith) c.byte_at-kind.ensures c.after_info-end.ensures c.need_info-number.ensures) ∙ c.loop-i.invariant.1),
+    )
 
 pub shape_of-table : goal.shape_of-table
 shape_of-table c = c.loop-i.invariant.0
