@@ -1,15 +1,21 @@
 -- What options choose for each list: its setting and its class book.
-use Rattle.std.specs.Prelude.{ℕ, ◌+◌, ◌-◌, ◌<◌, ◌≤◌, Bool, true, false, List, [], ◌∷◌, ◌++◌, eqb}
+use Rattle.std.specs.Prelude.{ℕ, ◌+◌, ◌-◌, ◌<◌, ◌≤◌, Bool, true, false, List, [], ◌∷◌, ◌++◌, eqb, IfOk}
+use Rattle.std.specs.declared.option.Option.{Option}
+use Rattle.std.specs.declared.option.Option.TheVariants.{None, Some}
+use Rattle.std.specs.Option.{option_map, option_or}
+use Rattle.std.specs.declared.result.Result.{Result}
+use Rattle.std.specs.declared.result.Result.TheVariants.{Ok, Err}
 use Rattle.format.specs.declared.Setting.{Setting}
 use Rattle.format.specs.declared.Setting.TheVariants as Q
 use Rattle.format.specs.Bytes.{pick, same_bytes}
+use Rattle.options.specs.declared.What.{What}
+use Rattle.options.specs.declared.What.TheVariants as A
+use Rattle.options.specs.declared.Lists.{Lists}
+use Rattle.options.specs.declared.Lists.TheVariants as L
 use Rattle.options.specs.declared.Word.{Word}
-use Rattle.options.specs.declared.Word.TheVariants as W
 use Rattle.options.specs.declared.Choice.{Choice}
-use Rattle.options.specs.declared.Chosen.{Chosen}
-use Rattle.options.specs.declared.Chosen.TheVariants as C
-use Rattle.options.specs.declared.Before.{Before}
-use Rattle.options.specs.declared.Before.TheVariants as B
+use Rattle.options.specs.declared.Choices.{Choices}
+use Rattle.options.specs.declared.WrongCall.{WrongCall}
 
 -- ---- the words
 
@@ -29,99 +35,92 @@ lenient_word = 45 ∷ 45 ∷ 108 ∷ 101 ∷ 110 ∷ 105 ∷ 101 ∷ 110 ∷ 116
 abbrev pub book_word : List ℕ
 book_word = 45 ∷ 45 ∷ 98 ∷ 111 ∷ 111 ∷ 107 ∷ []
 
--- the option that chooses a setting
-unfoldable pub setting_word : List ℕ → Word
-setting_word w =
-    pick (same_bytes w lenient_word) W.Lenient
-    (pick (same_bytes w (lenient_word ++ first_end)) W.LenientFirst
-    (pick (same_bytes w (lenient_word ++ second_end)) W.LenientSecond
-    W.Other))
+-- the lists for which a word is the option o
+unfoldable pub lists_of : List ℕ → List ℕ → Option Lists
+lists_of w o =
+    pick (same_bytes w o) (Some L.Both)
+    (pick (same_bytes w (o ++ first_end)) (Some L.First)
+    (pick (same_bytes w (o ++ second_end)) (Some L.Second)
+    None))
+
+-- an option for some lists
+abbrev pub option_for : What → Option Lists → Option Word
+option_for a l = option_map (λ x. record { what = a; lists = x }) l
 
 -- the option that a word is
-unfoldable pub option_of : List ℕ → Word
-option_of w =
-    pick (same_bytes w book_word) W.Book
-    (pick (same_bytes w (book_word ++ first_end)) W.BookFirst
-    (pick (same_bytes w (book_word ++ second_end)) W.BookSecond
-    (setting_word w)))
+abbrev pub option_of : List ℕ → Option Word
+option_of w = option_or (option_for A.Book (lists_of w book_word)) (option_for A.Lenient (lists_of w lenient_word))
 
 -- whether a file's name comes after an option
+abbrev pub named_by : What → Bool
+named_by A.Lenient = false
+named_by A.Book = true
+
 abbrev pub names_book : Word → Bool
-names_book W.Lenient = false
-names_book W.LenientFirst = false
-names_book W.LenientSecond = false
-names_book W.Book = true
-names_book W.BookFirst = true
-names_book W.BookSecond = true
-names_book W.Other = false
+names_book w = named_by w.what
 
 -- the option in a program with one list
-abbrev pub for_one : Word → Word
-for_one W.Lenient = W.Lenient
-for_one W.LenientFirst = W.Other
-for_one W.LenientSecond = W.Other
-for_one W.Book = W.Book
-for_one W.BookFirst = W.Other
-for_one W.BookSecond = W.Other
-for_one W.Other = W.Other
+abbrev pub one_for : Lists → Word → Option Word
+one_for L.First w = None
+one_for L.Second w = None
+one_for L.Both w = Some w
+
+abbrev pub for_one : Word → Option Word
+for_one w = one_for w.lists w
 
 -- ---- what they choose
 
 -- without an option: strict, with an empty book
-abbrev pub plainly : Choice
-plainly = record { first = Q.Strict; second = Q.Strict; first_book = 0; second_book = 0 }
+abbrev pub plainly : Choices
+plainly = record { first = record { setting = Q.Strict; book = None }; second = record { setting = Q.Strict; book = None } }
 
 -- a list is made lenient that was not
-abbrev pub from_strict : Setting → Chosen → Chosen
-from_strict Q.Strict q = q
-from_strict Q.Lenient q = C.Wrong
+abbrev pub from_strict : Setting → Choice → Result Choice WrongCall
+from_strict Q.Strict d = Ok d
+from_strict Q.Lenient d = Err (record {})
+
+-- a list is given a book that had none
+abbrev pub from_none : Option ℕ → Choice → Result Choice WrongCall
+from_none None d = Ok d
+from_none (Some i) d = Err (record {})
+
+-- what an option chooses for a list, b the word that names a book
+abbrev pub with_option : What → Option ℕ → Choice → Result Choice WrongCall
+with_option A.Lenient b c = from_strict c.setting (record { setting = Q.Lenient; book = c.book })
+with_option A.Book b c = from_none c.book (record { setting = c.setting; book = b })
 
 -- one choice after another
-abbrev pub and_then : (Choice → Chosen) → Chosen → Chosen
-and_then f (C.Take c) = f c
-and_then f C.Wrong = C.Wrong
+abbrev pub and_then : {T U : Type 0} → (T → Result U WrongCall) → Result T WrongCall → Result U WrongCall
+and_then f (Ok c) = f c
+and_then f (Err e) = Err e
 
-unfoldable pub lenient_first : Choice → Chosen
-lenient_first c = from_strict c.first (C.Take (record { first = Q.Lenient; second = c.second; first_book = c.first_book; second_book = c.second_book }))
+-- what f chooses for the first list, and for the second
+abbrev pub for_first : (Choice → Result Choice WrongCall) → Choices → Result Choices WrongCall
+for_first f c = and_then (λ d. Ok (record { first = d; second = c.second })) (f c.first)
 
-unfoldable pub lenient_second : Choice → Chosen
-lenient_second c = from_strict c.second (C.Take (record { first = c.first; second = Q.Lenient; first_book = c.first_book; second_book = c.second_book }))
+abbrev pub for_second : (Choice → Result Choice WrongCall) → Choices → Result Choices WrongCall
+for_second f c = and_then (λ d. Ok (record { first = c.first; second = d })) (f c.second)
 
-abbrev pub lenient_both : Choice → Chosen
-lenient_both c = and_then lenient_second (lenient_first c)
+-- what it chooses for the lists that an option is for
+abbrev pub for_lists : Lists → (Choice → Result Choice WrongCall) → Choices → Result Choices WrongCall
+for_lists L.First f c = for_first f c
+for_lists L.Second f c = for_second f c
+for_lists L.Both f c = and_then (for_second f) (for_first f c)
 
--- the book that word i names, for a list that had none
-unfoldable pub book_first : ℕ → Choice → Chosen
-book_first i c = pick (eqb c.first_book 0) (C.Take (record { first = c.first; second = c.second; first_book = i; second_book = c.second_book })) C.Wrong
-
-unfoldable pub book_second : ℕ → Choice → Chosen
-book_second i c = pick (eqb c.second_book 0) (C.Take (record { first = c.first; second = c.second; first_book = c.first_book; second_book = i })) C.Wrong
-
-abbrev pub book_both : ℕ → Choice → Chosen
-book_both i c = and_then (book_second i) (book_first i c)
-
--- what an option chooses, i the number of the word after it
-abbrev pub chosen_by : Word → ℕ → Choice → Chosen
-chosen_by W.Lenient i c = lenient_both c
-chosen_by W.LenientFirst i c = lenient_first c
-chosen_by W.LenientSecond i c = lenient_second c
-chosen_by W.Book i c = book_both i c
-chosen_by W.BookFirst i c = book_first i c
-chosen_by W.BookSecond i c = book_second i c
-chosen_by W.Other i c = C.Wrong
+-- what an option chooses, b the word after it
+abbrev pub chosen_by : Word → Option ℕ → Choices → Result Choices WrongCall
+chosen_by w b c = for_lists w.lists (with_option w.what b) c
 
 -- with the number of the word that is looked at next
-abbrev pub next_to : Chosen → ℕ → Before
-next_to (C.Take c) k = B.Go c k
-next_to C.Wrong k = B.Wrong
+abbrev pub next_to : Result Choices WrongCall → ℕ → Result (Choices × ℕ) WrongCall
+next_to q k = and_then (λ c. Ok (c, k)) q
 
 -- what an option at word i of n adds
-unfoldable pub taken : Word → ℕ → ℕ → Choice → Before
+unfoldable pub taken : Word → ℕ → ℕ → Choices → Result (Choices × ℕ) WrongCall
 taken w i n c =
-    pick (names_book w) (pick (eqb (n - i) 1) B.Wrong (next_to (chosen_by w (i + 1) c) (i + 2)))
-    (next_to (chosen_by w (i + 1) c) (i + 1))
+    pick (names_book w) (pick (eqb (n - i) 1) (Err (record {})) (next_to (chosen_by w (Some (i + 1)) c) (i + 2)))
+    (next_to (chosen_by w (Some (i + 1)) c) (i + 1))
 
 -- the next word lies behind word i, at most at the end of n words
-abbrev pub Onward : ℕ → ℕ → Before → Type 0
-Onward i n (B.Go c k) = (i < k) × (k ≤ n)
-Onward i n B.Wrong = Unit {0}
+abbrev pub Onward : ℕ → ℕ → Result (Choices × ℕ) WrongCall → Type 0
+Onward i n r = IfOk r (λ x. (i < x.1) × (x.1 ≤ n))
