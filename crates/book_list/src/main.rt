@@ -6,8 +6,6 @@ use format::Refusal;
 use peeking::{byte_at, on};
 use spelling::{number, say};
 
-const STDIN: i32 = 0;
-
 // The prefixed text at a place, between quotation marks for names.
 fn named(book: &[u8], at: usize) {
     say(b"`");
@@ -139,17 +137,10 @@ fn told(book: &[u8]) {
     refusals::around(book, bad - 1);
 }
 
-// The book on standard input, with room for it.
-fn shown(room: &mut [u8]) {
-    let n = io::read_full(STDIN, room);
-    if n == 1048576 {
-        say(b"unusable: a class book has at most 1,048,575 bytes here\n");
-        return;
-    }
-    told(&room[..n]);
-}
-
 fn main() {
-    let mut room = files::book_room();
-    shown(&mut room);
+    let mut room: [u8; 1048576] = rooms::room(0);
+    match files::input(&mut room) {
+        Some(book) => told(book),
+        None => say(b"unusable: a class book has at most 1,048,575 bytes here\n"),
+    }
 }

@@ -11,22 +11,17 @@ const STDOUT: i32 = 1;
 
 const STDERR: i32 = 2;
 
-// One stream with a table of 512 words.
-fn one(name: &[u8], s: &[u8]) {
+// One stream with a table.
+fn with_table(name: &[u8], s: &[u8], table: &mut [u32]) {
     io::write_all(STDOUT, name);
     io::write_all(STDOUT, b": ");
-    let mut table = [0u32; 512];
-    let a = reader::read(s, b"", &mut table, Setting::Strict);
-    lines::answer(&table, a);
+    let a = reader::read(s, b"", table, Setting::Strict);
+    lines::answer(table, a);
 }
 
-// One stream with a table of 16 words.
-fn small(name: &[u8], s: &[u8]) {
-    io::write_all(STDOUT, name);
-    io::write_all(STDOUT, b": ");
-    let mut table = [0u32; 16];
-    let a = reader::read(s, b"", &mut table, Setting::Strict);
-    lines::answer(&table, a);
+// One stream with a table of 512 words.
+fn one(name: &[u8], s: &[u8]) {
+    with_table(name, s, &mut [0; 512]);
 }
 
 // Cases 1 to 6: a string, as it should be, cut, longer, with a root that is not there, with a longer prefix.
@@ -88,9 +83,10 @@ fn of_an_array() {
         b"12",
         b"\x00\x01\x00\x00\x00\x01\x00\x00\x00\x01\x00\x00\x00\x00\x00\x00\x00\x10\x01\x00\x00\x00\x00\x01\x00\x00\x0d\xff\x0a\x0b",
     );
-    small(
+    with_table(
         b"13",
         b"\x00\x01\x00\x00\x00\x01\x00\x00\x00\x01\x00\x00\x00\x00\x00\x00\x00\x06\x01\x00\x00\x00\x04\x31\x32\x45\x35\x0b",
+        &mut [0; 16],
     );
     one(
         b"14",

@@ -3,14 +3,7 @@
 // class book of at most 1,048,575 bytes.
 #![tactic(auto)]
 
-ghost use Rattle.std.specs.Prelude.{◌≡◌, length};
-
 use format::{Setting, TidyAnswer};
-use options::{Choice, Chosen};
-use std::env::Env;
-use std::fs::Files;
-
-const STDIN: i32 = 0;
 
 const STDOUT: i32 = 1;
 
@@ -41,56 +34,20 @@ fn answer(out: &[u8], a: TidyAnswer) {
     }
 }
 
-// Only null runs grow in a copy, three bytes to five at the most (255 nulls and one more, which become one run of 256), so every copy fits.
-fn copy_room() -> [u8; 131072]
-    ensures { 131072 ≡ length result }
-{
-    [0; 131072]
-}
-
-// 65,536 rows. No row has less than a byte, so every list has room.
-fn table_room() -> [u32; 524288]
-    ensures { 524288 ≡ length result }
-{
-    [0; 524288]
-}
-
-// The copy with a book and under a setting.
+// The copy with a book and under a setting. No row has less than a byte, so 65,536 rows are room for every list; and only null runs grow in a copy, three
+// bytes to five at the most (255 nulls and one more, which become one run of 256), so every copy fits.
 fn copied(book: &[u8], setting: Setting) {
     let mut space = io::large_buffer();
-    let n = io::read_full(STDIN, &mut space);
-    if n == 65536 {
+    let Some(s) = files::input(&mut space) else {
         refused(1, 0);
         return;
-    }
-    let mut table = table_room();
-    let mut out = copy_room();
-    let a = tidy::tidy(&space[..n], book, &mut table, &mut out, setting);
+    };
+    let mut table: [u32; 524288] = rooms::room(0);
+    let mut out: [u8; 131072] = rooms::room(0);
+    let a = tidy::tidy(s, book, &mut table, &mut out, setting);
     answer(&out, a);
 }
 
-// The copy as the words of the call choose, with room for a book. A book is never longer than its room, so the second test only says so to the proof.
-fn chosen(rt: &(impl Env + Files), room: &mut [u8], c: Choice) {
-    let setting = c.first;
-    let l = files::load_book(rt, c.first_book, room);
-    if files::unusable_book(rt, STDERR, c.first_book, l) {
-        return;
-    }
-    let k = l.size;
-    if k <= room.len() {
-        copied(&room[..k], setting);
-    }
-}
-
-// The call with a room for its book.
-fn called(rt: &(impl Env + Files), c: Choice) {
-    let mut room = files::book_room();
-    chosen(rt, &mut room, c);
-}
-
 fn main(rt: HostRuntime) {
-    match options::one(&rt) {
-        Chosen::Take(c) => called(&rt, c),
-        Chosen::Wrong => options::usage(b"copy [--lenient] [--book FILE]"),
-    }
+    files::for_one_list(&rt, b"copy [--lenient] [--book FILE]", copied);
 }

@@ -4,16 +4,22 @@
 // `--book-first` and `--book-second` go before the file of a class book, of at most 1,048,575 bytes.
 #![tactic(auto)]
 
-ghost use Rattle.std.specs.Prelude.{◌≡◌, not, ◌||◌, length, eqb};
-
-use files::Loaded;
+use files::Unusable;
 use format::{ReadAnswer, Refusal, Sameness, Setting};
-use options::{Choice, Chosen};
+use options::Choices;
 use spelling::{number, say};
 use std::env::Env;
 use std::fs::Files;
 
 const STDOUT: i32 = 1;
+
+// A list as it is given: its bytes, its class book and the setting under which it is read.
+#[derive(Clone, Copy)]
+struct List<'a> {
+    bytes: &'a [u8],
+    book: &'a [u8],
+    setting: Setting,
+}
 
 // The file that argument i names, as a text.
 fn file_name(rt: &impl Env, i: usize) {
@@ -30,22 +36,19 @@ fn refused(rt: &impl Env, i: usize, r: Refusal, place: usize) {
     refusals::refusal(r, place);
 }
 
-// Whether no list can be read from a file, since it was not opened or has more than 65,535 bytes; then it says so.
-fn unusable(rt: &impl Env, i: usize, l: Loaded) -> bool
-    ensures { result ≡ (not l.opened || eqb l.size 65536) }
-{
-    if !l.opened {
-        say(b"unusable: ");
-        file_name(rt, i);
-        say(b": cannot be opened\n");
-        return true;
+// Says that no list can be read from the file that word i names, and why.
+fn unusable(rt: &impl Env, i: usize, why: Unusable) {
+    match why {
+        Unusable::Unopened => {
+            say(b"unusable: ");
+            file_name(rt, i);
+            say(b": cannot be opened\n");
+        }
+        Unusable::TooLarge => {
+            refused(rt, i, Refusal::TooLarge, 0);
+            say(b"this program takes lists of at most 65,535 bytes\n");
+        }
     }
-    if l.size == 65536 {
-        refused(rt, i, Refusal::TooLarge, 0);
-        say(b"this program takes lists of at most 65,535 bytes\n");
-        return true;
-    }
-    false
 }
 
 // The row of a copy that holds the byte at a place, by its number and its kind, and what it says. A copy is read alike under both settings and
@@ -127,100 +130,61 @@ fn compared(
     }
 }
 
-// Only null runs grow in a copy, three bytes to five at the most (255 nulls and one more, which become one run of 256), so every copy fits.
-fn copy_room() -> [u8; 131072]
-    ensures { 131072 ≡ length result }
-{
-    [0; 131072]
-}
-
-// 65,536 rows. No row has less than a byte, so every list has room.
-fn table_room() -> [u32; 524288]
-    ensures { 524288 ≡ length result }
-{
-    [0; 524288]
-}
-
-// Both lists, with room for their copies.
-fn both(
-    rt: &impl Env,
-    a: &[u8],
-    a_book: &[u8],
-    b: &[u8],
-    b_book: &[u8],
-    a_setting: Setting,
-    b_setting: Setting,
-) {
-    let mut table = table_room();
-    let mut first = copy_room();
-    let mut second = copy_room();
+// Both lists, with room for a table and their copies. No row has less than a byte, so 65,536 rows are room for every list; and only null runs grow in a copy,
+// three bytes to five at the most (255 nulls and one more, which become one run of 256), so every copy fits.
+fn both(rt: &impl Env, a: List<'_>, b: List<'_>) {
+    let mut table: [u32; 524288] = rooms::room(0);
+    let mut first: [u8; 131072] = rooms::room(0);
+    let mut second: [u8; 131072] = rooms::room(0);
     compared(
         rt,
-        a,
-        a_book,
-        b,
-        b_book,
+        a.bytes,
+        a.book,
+        b.bytes,
+        b.book,
         &mut table,
         &mut first,
         &mut second,
-        a_setting,
-        b_setting,
+        a.setting,
+        b.setting,
     );
 }
 
+// Does a job with the list in the file that word i names. Where it cannot be used that is said, and the job is not done.
+fn with_list<F: FnOnce(&[u8])>(rt: &(impl Env + Files), i: usize, job: F)
+    requires { F.IsAlwaysCallable job }
+{
+    let mut space = io::large_buffer();
+    match files::load(rt, i, &mut space) {
+        Ok(s) => job(s),
+        Err(why) => unusable(rt, i, why),
+    }
+}
+
 // The lists in both files, each with its own book and under its own setting.
-fn lists(
-    rt: &(impl Env + Files),
-    a_book: &[u8],
-    b_book: &[u8],
-    a_setting: Setting,
-    b_setting: Setting,
-) {
-    let mut a = io::large_buffer();
-    let mut b = io::large_buffer();
-    let p = files::load(rt, 1, &mut a);
-    if unusable(rt, 1, p) {
-        return;
-    }
-    let q = files::load(rt, 2, &mut b);
-    if unusable(rt, 2, q) {
-        return;
-    }
-    let m = p.size;
-    let n = q.size;
-    if m <= a.len() {
-        if n <= b.len() {
-            both(rt, &a[..m], a_book, &b[..n], b_book, a_setting, b_setting);
-        }
-    }
+fn lists(rt: &(impl Env + Files), a_book: &[u8], b_book: &[u8], c: Choices) {
+    with_list(rt, 1, |a| {
+        with_list(rt, 2, |b| {
+            let first = List {
+                bytes: a,
+                book: a_book,
+                setting: c.first.setting,
+            };
+            let second = List {
+                bytes: b,
+                book: b_book,
+                setting: c.second.setting,
+            };
+            both(rt, first, second);
+        })
+    });
 }
 
-// The lists as the words of the call choose, with room for their books, which are looked for first.
-fn chosen(rt: &(impl Env + Files), a: &mut [u8], b: &mut [u8], c: Choice) {
-    let first = c.first;
-    let second = c.second;
-    let p = files::load_book(rt, c.first_book, a);
-    if files::unusable_book(rt, STDOUT, c.first_book, p) {
-        return;
-    }
-    let q = files::load_book(rt, c.second_book, b);
-    if files::unusable_book(rt, STDOUT, c.second_book, q) {
-        return;
-    }
-    let m = p.size;
-    let n = q.size;
-    if m <= a.len() {
-        if n <= b.len() {
-            lists(rt, &a[..m], &b[..n], first, second);
-        }
-    }
-}
-
-// The call with rooms for its books.
-fn called(rt: &(impl Env + Files), c: Choice) {
-    let mut a = files::book_room();
-    let mut b = files::book_room();
-    chosen(rt, &mut a, &mut b, c);
+// The lists as the words of the call choose. Their books are looked for first.
+fn called(rt: &(impl Env + Files), c: Choices) {
+    files::with_book(rt, STDOUT, c.first.book, |a| {
+        files::with_book(rt, STDOUT, c.second.book, |b| lists(rt, a, b, c))
+    });
 }
 
 // How the program is called.
@@ -233,7 +197,7 @@ fn usage() {
 
 fn main(rt: HostRuntime) {
     match options::two(&rt) {
-        Chosen::Take(c) => called(&rt, c),
-        Chosen::Wrong => usage(),
+        Ok(c) => called(&rt, c),
+        Err(_) => usage(),
     }
 }

@@ -1,21 +1,29 @@
-// The files that words of a call name: lists where a call takes two, and class books. A book that no word names is an empty one.
+// The files that words of a call name: lists where a call takes two, and class books; and what stands on standard input. A book that no word names is an
+// empty one. What fills the space that is lent for it may go on, and is too large.
 #![tactic(auto)]
 
-ghost use Rattle.std.specs.Prelude.{◌≡◌, not, ◌||◌, ◌≤◌, length, eqb};
+ghost use Rattle.std.specs.Prelude.{◌≡◌, ◌≤◌, ◌<◌, ◌&&◌, length, ltb, is_some, IfSome, IfOk};
 
+use format::Setting;
+use options::Choice;
 use std::env::Env;
 use std::fs::{File, Files};
 use std::io::Read;
 use std::str;
 
-// Whether a file could be opened, and how many bytes were read from it.
-#[derive(Clone, Copy)]
-pub struct Loaded {
-    pub opened: bool,
-    pub size: usize,
+const STDIN: i32 = 0;
+
+const STDERR: i32 = 2;
+
+// Why a file cannot be used.
+#[derive(Clone, Copy, Debug, PartialEq, Eq)]
+pub enum Unusable {
+    Unopened,
+    TooLarge,
 }
 
-// Fills `space` with what a file still has, as far as there is room and no read fails; how many bytes it put there.
+// Fills `space` with what a file still has, as far as there is room and no read fails; how many bytes it put there. No method of std tells how many
+// came before the end, so the loop stays.
 pub fn read_full(file: &mut impl Read, space: &mut [u8]) -> usize
     ensures { result ≤ length space.new }
 {
@@ -30,83 +38,78 @@ pub fn read_full(file: &mut impl Read, space: &mut [u8]) -> usize
     done
 }
 
-// Puts the bytes of the file with a name into `space`, as many as it has room for.
-fn read_file(rt: &impl Files, name: &str, space: &mut [u8]) -> Loaded
-    ensures { result.size ≤ length space.new }
+// The n bytes that were put into a space, where they do not fill it.
+fn whole(space: &[u8], n: usize) -> Option<&[u8]>
+    ensures short { IfSome result (λ s. length s.now ≡ n) }
+    ensures variant { is_some result ≡ ltb n (length space.now) }
 {
-    match File::open(rt, name) {
-        Ok(mut file) => Loaded {
-            opened: true,
-            size: read_full(&mut file, space),
-        },
-        Err(_) => Loaded {
-            opened: false,
-            size: 0,
-        },
+    if n < space.len() {
+        Some(&space[..n])
+    } else {
+        None
     }
 }
 
-// Puts the bytes of the file that word i names into `space`, as many as it has room for. A name that is not UTF-8 names no file that can be opened.
-pub fn load(rt: &(impl Env + Files), i: usize, space: &mut [u8]) -> Loaded
-    ensures { result.size ≤ length space.new }
+// What stands on standard input, put into `space`.
+pub fn input(space: &mut [u8]) -> Option<&[u8]>
+    ensures { IfSome result (λ s. length s.now < length space.old) }
+{
+    let n = io::read_full(STDIN, space);
+    whole(space, n)
+}
+
+// The bytes of the file that word i names, put into `space`. A name that is not UTF-8 names no file that can be opened.
+pub fn load<'a>(
+    rt: &(impl Env + Files),
+    i: usize,
+    space: &'a mut [u8],
+) -> Result<&'a [u8], Unusable>
+    ensures { IfOk result (λ s. length s.now < length space.old) }
 {
     let mut path = io::buffer();
     let n = rt.arg(i, &mut path).unwrap_or(0);
-    match str::from_utf8(&path[..n]) {
-        Ok(name) => read_file(rt, name, space),
-        Err(_) => Loaded {
-            opened: false,
-            size: 0,
-        },
-    }
+    let name = str::from_utf8(&path[..n]).map_err(|_| Unusable::Unopened)?;
+    let mut file = File::open(rt, name).map_err(|_| Unusable::Unopened)?;
+    let n = read_full(&mut file, space);
+    whole(space, n).ok_or(Unusable::TooLarge)
 }
 
-// Puts the bytes of the class book that word i names into `space`; without a name, where i is 0, there are none.
-pub fn load_book(rt: &(impl Env + Files), i: usize, space: &mut [u8]) -> Loaded
-    ensures { result.size ≤ length space.new }
-{
-    if i == 0 {
-        return Loaded {
-            opened: true,
-            size: 0,
-        };
-    }
-    load(rt, i, space)
-}
-
-// Room for a class book of at most 1,048,575 bytes: one that fills it may go on.
-pub fn book_room() -> [u8; 1048576]
-    ensures { 1048576 ≡ length result }
-{
-    [0; 1048576]
-}
-
-// Says to a descriptor that the file which word i names cannot be used, and why.
-fn unusable(rt: &impl Env, fd: i32, i: usize, why: &[u8]) {
+// Says to a descriptor that the class book which word i names cannot be used, and why.
+fn unusable_book(rt: &impl Env, fd: i32, i: usize, why: Unusable) {
     let mut path = io::buffer();
     let n = rt.arg(i, &mut path).unwrap_or(0);
     io::write_all(fd, b"unusable: ");
     io::write_all(fd, &path[..n]);
-    io::write_all(fd, why);
+    match why {
+        Unusable::Unopened => io::write_all(fd, b": cannot be opened\n"),
+        Unusable::TooLarge => {
+            io::write_all(fd, b": a class book has at most 1,048,575 bytes here\n")
+        }
+    };
 }
 
-// Whether no book can be read from the file that word i names, since it was not opened or has more than 1,048,575 bytes; then it says so to a
-// descriptor.
-pub fn unusable_book(rt: &impl Env, fd: i32, i: usize, l: Loaded) -> bool
-    ensures { result ≡ (not l.opened || eqb l.size 1048576) }
+// Does a job with the class book that a word names, of at most 1,048,575 bytes. Where it cannot be used that is said to a descriptor, and the job is not done.
+pub fn with_book<F: FnOnce(&[u8])>(rt: &(impl Env + Files), fd: i32, word: Option<usize>, job: F)
+    requires { F.IsAlwaysCallable job }
 {
-    if !l.opened {
-        unusable(rt, fd, i, b": cannot be opened\n");
-        return true;
+    let Some(i) = word else {
+        job(b"");
+        return;
+    };
+    let mut room: [u8; 1048576] = rooms::room(0);
+    match load(rt, i, &mut room) {
+        Ok(book) => job(book),
+        Err(why) => unusable_book(rt, fd, i, why),
     }
-    if l.size == 1048576 {
-        unusable(
-            rt,
-            fd,
-            i,
-            b": a class book has at most 1,048,575 bytes here\n",
-        );
-        return true;
+}
+
+// The program of one list: does a job with the class book and under the setting that the words of the call choose. Where they choose nothing it says how it is
+// called.
+pub fn for_one_list<F: FnOnce(&[u8], Setting)>(rt: &(impl Env + Files), call: &[u8], job: F)
+    requires { F.IsAlwaysCallable job }
+{
+    match options::one(rt) {
+        Ok(c) => with_book(rt, STDERR, c.book, |book| job(book, c.setting)),
+        Err(_) => options::usage(call),
     }
-    false
 }

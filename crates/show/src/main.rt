@@ -6,14 +6,7 @@
 ghost use Rattle.std.specs.Prelude.{◌≤◌};
 
 use format::{ReadAnswer, Refusal, Row, Setting};
-use options::{Choice, Chosen};
 use spelling::{number, say};
-use std::env::Env;
-use std::fs::Files;
-
-const STDIN: i32 = 0;
-
-const STDERR: i32 = 2;
 
 // The same words n times.
 fn repeated(words: &[u8], n: usize) {
@@ -118,40 +111,17 @@ fn answer(s: &[u8], book: &[u8], table: &[u32], a: ReadAnswer, setting: Setting)
 // The list with a book and under a setting.
 fn list(book: &[u8], setting: Setting) {
     let mut space = io::large_buffer();
-    let n = io::read_full(STDIN, &mut space);
-    if n == 65536 {
+    let Some(s) = files::input(&mut space) else {
         say(b"refused: ");
         refusals::refusal(Refusal::TooLarge, 0);
         limits(Refusal::TooLarge);
         return;
-    }
+    };
     let mut table = [0u32; 8192];
-    let a = reader::read(&space[..n], book, &mut table, setting);
-    answer(&space[..n], book, &table, a, setting);
-}
-
-// The list as the words of the call choose, with room for a book. A book is never longer than its room, so the second test only says so to the proof.
-fn chosen(rt: &(impl Env + Files), room: &mut [u8], c: Choice) {
-    let setting = c.first;
-    let l = files::load_book(rt, c.first_book, room);
-    if files::unusable_book(rt, STDERR, c.first_book, l) {
-        return;
-    }
-    let k = l.size;
-    if k <= room.len() {
-        list(&room[..k], setting);
-    }
-}
-
-// The call with a room for its book.
-fn called(rt: &(impl Env + Files), c: Choice) {
-    let mut room = files::book_room();
-    chosen(rt, &mut room, c);
+    let a = reader::read(s, book, &mut table, setting);
+    answer(s, book, &table, a, setting);
 }
 
 fn main(rt: HostRuntime) {
-    match options::one(&rt) {
-        Chosen::Take(c) => called(&rt, c),
-        Chosen::Wrong => options::usage(b"show [--lenient] [--book FILE]"),
-    }
+    files::for_one_list(&rt, b"show [--lenient] [--book FILE]", list);
 }

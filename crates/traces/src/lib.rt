@@ -1,11 +1,13 @@
-// What a job leaves in the lent table and output, as hashes that programs print, what stands there before it, and the sizes and bytes of a
-// stream as they come. For comparing with the independent reader and tidier; what is written cannot be promised, what is hashed is.
+// What a job leaves in the lent table and output, as hashes that programs print, what stands there before it, the sizes and bytes of a stream as they
+// come, and one stream after another. For comparing with the independent reader and tidier; what is written cannot be promised, what is hashed is.
 #![tactic(auto)]
 
-ghost use Rattle.std.specs.Prelude.{◌<◌, ◌≤◌, ◌≡◌, false, length};
+ghost use Rattle.std.specs.Prelude.{◌<◌, ◌≤◌, ◌≡◌, length, IfSome};
 ghost use Rattle.traces.specs.Traces.{stirred, lanes_of, littered_words, littered_bytes, size_at};
 
-use format::Number32;
+use format::{Number32, Setting};
+use options::Choice;
+use std::env::Env;
 
 const STDIN: i32 = 0;
 
@@ -15,22 +17,14 @@ const STDOUT: i32 = 1;
 pub fn litter_words(table: &mut [u32])
     ensures { table.new ≡ littered_words table.old }
 {
-    let mut i: usize = 0;
-    while i < table.len() {
-        table[i] = 2779096485;
-        i += 1;
-    }
+    table.fill(2779096485);
 }
 
 // So does the output.
 pub fn litter_bytes(out: &mut [u8])
     ensures { out.new ≡ littered_bytes out.old }
 {
-    let mut i: usize = 0;
-    while i < out.len() {
-        out[i] = 165;
-        i += 1;
-    }
+    out.fill(165);
 }
 
 // Two lanes of a hash in which every word counts, and its place.
@@ -41,6 +35,7 @@ pub struct Lanes {
 }
 
 // The lanes after one word more.
+#[tactic(auto, unfolding(crate::specs::Traces::stirred))]
 fn stir(l: Lanes, w: u32) -> Lanes
     requires { (l.a < 4294967291) × (l.b < 4294967291) }
     ensures { result ≡ stirred l w }
@@ -56,23 +51,19 @@ pub fn words(table: &[u32]) -> Lanes
     ensures { result ≡ lanes_of table.now }
 {
     let mut l = Lanes { a: 0, b: 0 };
-    let mut i: usize = 0;
-    while i < table.len() {
-        l = stir(l, table[i]);
-        i += 1;
+    for w in table {
+        l = stir(l, *w);
     }
     l
 }
 
-// The hash of the bytes of an output, each taken as a word.
+// The hash of the bytes of an output, each taken as a word. A trait that gives the word of each type would be longer than the two loops.
 pub fn bytes(out: &[u8]) -> Lanes
     ensures { result ≡ lanes_of out.now }
 {
     let mut l = Lanes { a: 0, b: 0 };
-    let mut i: usize = 0;
-    while i < out.len() {
-        l = stir(l, out[i] as u32);
-        i += 1;
+    for b in out {
+        l = stir(l, u32::from(*b));
     }
     l
 }
@@ -108,13 +99,38 @@ pub fn size_at(head: &[u8], at: usize) -> usize
     }
 }
 
-// Puts the bytes that come next into a space, so many. Answers whether they are missing: the space has no room for them, or the input ends before.
-pub fn missing(space: &mut [u8], n: usize) -> bool
-    ensures { result ≡ false → n ≤ length space.new }
+// The n bytes that come next, put into a space. None where the space has no room for them, or the input ends before.
+pub fn next(space: &mut [u8], n: usize) -> Option<&[u8]>
+    ensures { IfSome result (λ s. (length s.now ≡ n) × (n ≤ length space.old)) }
 {
-    if space.len() < n {
-        return true;
+    let space = space.get_mut(..n)?;
+    let got = io::read_full(STDIN, space);
+    (got == n).then_some(space)
+}
+
+// Does a job for one stream after another, until one is missing or a million are done.
+pub fn each_stream<F: FnMut() -> Option<()>>(mut job: F)
+    requires { F.IsAlwaysCallable job }
+{
+    for _ in 0..1000000 {
+        if job().is_none() {
+            return;
+        }
     }
-    let got = io::read_full(STDIN, &mut space[..n]);
-    got != n
+}
+
+// Does a job under the setting that the words of the call choose; a book comes with each stream, and none from a file. Where they choose nothing it says
+// how the program is called.
+pub fn under_setting<F: FnOnce(Setting)>(rt: &impl Env, call: &[u8], job: F)
+    requires { F.IsAlwaysCallable job }
+{
+    match options::one(rt) {
+        Ok(
+            Choice {
+                setting,
+                book: None,
+            },
+        ) => job(setting),
+        _ => options::usage(call),
+    }
 }

@@ -1,16 +1,10 @@
--- Invariant: the lanes are the hash of the first i words. Measure: the words left.
-use native.Mathlib.Omega.{arith}
-use Rattle.traces.specs.Laws.{hashed_none, hashed_more, hashed_all}
+-- One law for one more word, one for the end.
+use Rattle.std.proofs.Common.{arith}
+use Rattle.traces.specs.Laws.{hashed_more, hashed_all}
 use Rattle.traces.proofs.words.Goals as goal
 
-pub loop-i-init : goal.loop-i-init
-loop-i-init c = hashed_none _
-
-pub stir-l-requires : goal.stir-l-requires
-stir-l-requires c = c.loop-i.invariant.below
-
-pub loop-i-preserved : goal.loop-i-preserved
-loop-i-preserved c = hashed_more _ _ _ _ c.loop-i.invariant (omega arith) c.stir-l.ensures
+pub loop-w-preserved : goal.loop-w-preserved
+loop-w-preserved c = hashed_more _ _ _ _ c.loop-w.invariant (omega arith) c.stir-l.ensures
 
 pub returns : goal.returns
-returns c = hashed_all _ _ _ c.loop-i.invariant (omega arith)
+returns c = hashed_all _ _ _ c.loop-w.invariant (omega arith)

@@ -1,8 +1,0 @@
--- The length of a repeated byte is the count, whatever the count is.
-use Prim.Native.Nat.{ℕ}
-use mathlib.Core.Path.{sym}
-use lib.ListN.{length-replicate}
-use Rattle.compare_tidy.proofs.copy_room.Goals as goal
-
-pub returns : goal.returns
-returns c = sym (length-replicate {0} {A = ℕ} 1000000 0)
