@@ -82,19 +82,9 @@ fn apart(a: &[u8], b: &[u8], table: &mut [u32]) {
 }
 
 // Tidies both lists again for the lengths of their copies. A copy is never longer than its output, so the tests only say so to the proof.
-fn different(
-    a: &[u8],
-    a_book: &[u8],
-    b: &[u8],
-    b_book: &[u8],
-    table: &mut [u32],
-    first: &mut [u8],
-    second: &mut [u8],
-    a_setting: Setting,
-    b_setting: Setting,
-) {
-    let m = difference::length_of(tidy::tidy(a, a_book, table, first, a_setting));
-    let n = difference::length_of(tidy::tidy(b, b_book, table, second, b_setting));
+fn different(a: List<'_>, b: List<'_>, table: &mut [u32], first: &mut [u8], second: &mut [u8]) {
+    let m = difference::length_of(tidy::tidy(a.bytes, a.book, table, first, a.setting));
+    let n = difference::length_of(tidy::tidy(b.bytes, b.book, table, second, b.setting));
     if m <= first.len() {
         if n <= second.len() {
             apart(&first[..m], &second[..n], table);
@@ -105,24 +95,18 @@ fn different(
 // The answer on two lists, each with its own book and under its own setting.
 fn compared(
     rt: &impl Env,
-    a: &[u8],
-    a_book: &[u8],
-    b: &[u8],
-    b_book: &[u8],
+    a: List<'_>,
+    b: List<'_>,
     table: &mut [u32],
     first: &mut [u8],
     second: &mut [u8],
-    a_setting: Setting,
-    b_setting: Setting,
 ) {
     let q = sameness::say_the_same(
-        a, a_book, b, b_book, table, first, second, a_setting, b_setting,
+        a.bytes, a.book, b.bytes, b.book, table, first, second, a.setting, b.setting,
     );
     match q {
         Sameness::Same => say(b"same\n"),
-        Sameness::Different => different(
-            a, a_book, b, b_book, table, first, second, a_setting, b_setting,
-        ),
+        Sameness::Different => different(a, b, table, first, second),
         Sameness::FirstRefused(r, place) => refused(rt, 1, r, place),
         Sameness::SecondRefused(r, place) => refused(rt, 2, r, place),
         Sameness::FirstFull(_) => refused(rt, 1, Refusal::OutFull, 0),
@@ -136,18 +120,7 @@ fn both(rt: &impl Env, a: List<'_>, b: List<'_>) {
     let mut table: [u32; 524288] = rooms::room(0);
     let mut first: [u8; 131072] = rooms::room(0);
     let mut second: [u8; 131072] = rooms::room(0);
-    compared(
-        rt,
-        a.bytes,
-        a.book,
-        b.bytes,
-        b.book,
-        &mut table,
-        &mut first,
-        &mut second,
-        a.setting,
-        b.setting,
-    );
+    compared(rt, a, b, &mut table, &mut first, &mut second);
 }
 
 // Does a job with the list in the file that word i names. Where it cannot be used that is said, and the job is not done.
