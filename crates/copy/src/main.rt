@@ -11,17 +11,14 @@ const STDERR: i32 = 2;
 
 // `refused` number `at` place.
 fn refused(number: u32, place: usize) {
-    io::write_all(STDERR, b"refused ");
-    io::print_decimal(STDERR, number as u64);
-    io::write_all(STDERR, b" at ");
-    io::print_decimal(STDERR, place as u64);
+    lines::refusal(STDERR, number, place);
     io::write_all(STDERR, b"\n");
 }
 
-// The first bytes of the output. A copy is never longer than its output, so the test only says so to the proof.
+// The first bytes of the output. A copy is never longer than its output.
 fn written(out: &[u8], n: usize) {
-    if n <= out.len() {
-        io::write_all(STDOUT, &out[..n]);
+    if let Some(copy) = out.get(..n) {
+        io::write_all(STDOUT, copy);
     }
 }
 

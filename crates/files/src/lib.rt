@@ -2,7 +2,7 @@
 // empty one. What fills the space that is lent for it may go on, and is too large.
 #![tactic(auto)]
 
-ghost use Rattle.std.specs.Prelude.{◌≡◌, ◌≤◌, ◌<◌, ◌&&◌, length, ltb, is_some, IfSome, IfOk};
+ghost use Rattle.std.specs.Prelude.{◌≡◌, ◌≤◌, ◌<◌, length, ltb, is_some, IfSome, IfOk};
 
 use format::Setting;
 use options::Choice;
@@ -38,7 +38,7 @@ pub fn read_full(file: &mut impl Read, space: &mut [u8]) -> usize
     done
 }
 
-// The n bytes that were put into a space, where they do not fill it.
+// The n bytes that were put into a space. None where they fill it, since what they are of may go on.
 fn whole(space: &[u8], n: usize) -> Option<&[u8]>
     ensures short { IfSome result (λ s. length s.now ≡ n) }
     ensures variant { is_some result ≡ ltb n (length space.now) }
@@ -50,7 +50,7 @@ fn whole(space: &[u8], n: usize) -> Option<&[u8]>
     }
 }
 
-// What stands on standard input, put into `space`.
+// What stands on standard input, put into `space`. None where it fills it.
 pub fn input(space: &mut [u8]) -> Option<&[u8]>
     ensures { IfSome result (λ s. length s.now < length space.old) }
 {
@@ -78,17 +78,17 @@ pub fn load<'a>(
 fn unusable_book(rt: &impl Env, fd: i32, i: usize, why: Unusable) {
     let mut path = io::buffer();
     let n = rt.arg(i, &mut path).unwrap_or(0);
+    let why = match why {
+        Unusable::Unopened => b": cannot be opened\n".as_slice(),
+        Unusable::TooLarge => b": a class book has at most 1,048,575 bytes here\n".as_slice(),
+    };
     io::write_all(fd, b"unusable: ");
     io::write_all(fd, &path[..n]);
-    match why {
-        Unusable::Unopened => io::write_all(fd, b": cannot be opened\n"),
-        Unusable::TooLarge => {
-            io::write_all(fd, b": a class book has at most 1,048,575 bytes here\n")
-        }
-    };
+    io::write_all(fd, why);
 }
 
-// Does a job with the class book that a word names, of at most 1,048,575 bytes. Where it cannot be used that is said to a descriptor, and the job is not done.
+// Does a job with the class book that a word names, of at most 1,048,575 bytes. Where it cannot be used that is said to a descriptor, and the job is not
+// done.
 pub fn with_book<F: FnOnce(&[u8])>(rt: &(impl Env + Files), fd: i32, word: Option<usize>, job: F)
     requires { F.IsAlwaysCallable job }
 {
@@ -103,7 +103,7 @@ pub fn with_book<F: FnOnce(&[u8])>(rt: &(impl Env + Files), fd: i32, word: Optio
     }
 }
 
-// The program of one list: does a job with the class book and under the setting that the words of the call choose. Where they choose nothing it says how it is
+// Does a job with the class book and under the setting that the words of the call choose for one list. Where the call is wrong it says how the program is
 // called.
 pub fn for_one_list<F: FnOnce(&[u8], Setting)>(rt: &(impl Env + Files), call: &[u8], job: F)
     requires { F.IsAlwaysCallable job }

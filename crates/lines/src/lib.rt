@@ -18,22 +18,22 @@ fn word(w: u32, i: usize) {
 
 // The words from 0 up to `end`, eight to a line.
 fn words(table: &[u32], end: usize) {
-    let mut i: usize = 0;
-    while i < end {
-        if table.len() <= i {
-            return;
-        }
-        word(table[i], i);
-        i += 1;
+    for (i, w) in table.iter().take(end).enumerate() {
+        word(*w, i);
     }
 }
 
-// `refused` number `at` place.
+// `refused` number `at` place, to a descriptor.
+pub fn refusal(fd: i32, number: u32, place: usize) {
+    io::write_all(fd, b"refused ");
+    io::print_decimal(fd, number as u64);
+    io::write_all(fd, b" at ");
+    io::print_decimal(fd, place as u64);
+}
+
+// The same as a line.
 pub fn refused(number: u32, place: usize) {
-    io::write_all(STDOUT, b"refused ");
-    io::print_decimal(STDOUT, number as u64);
-    io::write_all(STDOUT, b" at ");
-    io::print_decimal(STDOUT, place as u64);
+    refusal(STDOUT, number, place);
     io::write_all(STDOUT, b"\n");
 }
 

@@ -4,7 +4,6 @@
 #![tactic(auto)]
 
 ghost use Rattle.std.specs.Prelude.{◌≡◌, ◌<◌};
-ghost use Rattle.format.specs.Bytes.{same_bytes};
 ghost use Rattle.options.specs.Options.{lists_of, option_of, names_book, for_one, with_option, plainly, chosen_by, taken, Onward};
 
 use format::Setting;
@@ -119,7 +118,7 @@ fn unchosen() -> Choices
 }
 
 impl Choice {
-    // What an option chooses for a list in which that was not chosen before, with the word that names a book.
+    // What an option chooses for a list, with the number of the word that names a book. Wrong where it was chosen before.
     fn with_option(self, what: What, book: Option<usize>) -> Result<Choice, WrongCall>
         ensures { result ≡ with_option what book self }
     {
@@ -134,7 +133,7 @@ impl Choice {
     }
 }
 
-// What an option chooses, with the word that comes after it.
+// What an option chooses, with the number of the word after it.
 pub fn chosen_by(c: Choices, word: Word, book: Option<usize>) -> Result<Choices, WrongCall>
     ensures { result ≡ chosen_by word book c }
 {

@@ -82,10 +82,7 @@ pub fn print_lanes(l: Lanes) {
 
 // `refused` number `at` place.
 pub fn refused(number_of: u32, place: usize) {
-    io::write_all(STDOUT, b"refused ");
-    number(number_of as u64);
-    io::write_all(STDOUT, b" at ");
-    number(place as u64);
+    lines::refusal(STDOUT, number_of, place);
 }
 
 // The number of four bytes at a place of what stands before a stream, or 0.
@@ -119,7 +116,7 @@ pub fn each_stream<F: FnMut() -> Option<()>>(mut job: F)
     }
 }
 
-// Does a job under the setting that the words of the call choose; a book comes with each stream, and none from a file. Where they choose nothing it says
+// Does a job under the setting that the words of the call choose; a book comes with each stream, and none from a file. Where the call is wrong it says
 // how the program is called.
 pub fn under_setting<F: FnOnce(Setting)>(rt: &impl Env, call: &[u8], job: F)
     requires { F.IsAlwaysCallable job }

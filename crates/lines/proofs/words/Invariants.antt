@@ -1,9 +1,0 @@
--- The index stays within the end; the measure is what is left.
-use Prim.Native.Nat.{◌≤◌, ◌-◌}
-use Rattle.lines.proofs.words.Given as goal
-
-abbrev pub invariant-loop-i : goal.invariant-loop-i
-invariant-loop-i l = l.i ≤ l.end
-
-abbrev pub decreases-loop-i : goal.decreases-loop-i
-decreases-loop-i l = l.end - l.i
