@@ -195,7 +195,8 @@ pub fn word_count(rt: &impl Env) -> usize {
     usize::MAX
 }
 
-// What the words from number `from` on choose; the program's name is number 0.
+// What the words from number `from` on choose; the program's name is number 0. An option takes one word or two and says at which the next stands, so no
+// range gives their numbers.
 fn words_from<F: Fn(Word) -> Option<Word>>(
     rt: &impl Env,
     from: usize,
