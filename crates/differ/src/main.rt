@@ -81,14 +81,12 @@ fn apart(a: &[u8], b: &[u8], table: &mut [u32]) {
     told(b, table, place);
 }
 
-// Tidies both lists again for the lengths of their copies. A copy is never longer than its output, so the tests only say so to the proof.
+// Tidies both lists again for the lengths of their copies. A copy is never longer than its output.
 fn different(a: List<'_>, b: List<'_>, table: &mut [u32], first: &mut [u8], second: &mut [u8]) {
     let m = difference::length_of(tidy::tidy(a.bytes, a.book, table, first, a.setting));
     let n = difference::length_of(tidy::tidy(b.bytes, b.book, table, second, b.setting));
-    if m <= first.len() {
-        if n <= second.len() {
-            apart(&first[..m], &second[..n], table);
-        }
+    if let (Some(a), Some(b)) = (first.get(..m), second.get(..n)) {
+        apart(a, b, table);
     }
 }
 
