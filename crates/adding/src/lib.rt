@@ -7,14 +7,13 @@ ghost use Rattle.format.specs.Machine.{row_in, row_apart, add};
 ghost use Rattle.frames.specs.Frames.{open_of};
 ghost use Rattle.adding.specs.Held.{state_of, after};
 
-use format::{Head, Reader, Refusal, Row};
+use format::{Head, Reader, Refusal, Refused, Row};
 
-// After a step: on, at the end record with the number of rows and the place after it, or refused.
+// After a step that is not refused: on, or at the end record with the number of rows and the place after it.
 #[derive(Clone, Copy)]
-pub enum Step {
+pub enum Progress {
     Go(Reader),
     Ended(usize, usize),
-    Refuse(Refusal, usize),
 }
 
 // ---- rows
@@ -58,19 +57,22 @@ pub fn row_apart(m: Reader, kind: u32, h: Head) -> Row
 }
 
 // One row more, if the table has room for it; `next` has the open objects after it.
-pub fn add_row(table: &mut [u32], m: Reader, r: Row, next: Reader) -> Step
+pub fn add_row(table: &mut [u32], m: Reader, r: Row, next: Reader) -> Result<Progress, Refused>
     ensures { (f g : List ℕ) → after table.new g result ≡ add (room_of table.old) (state_of table.old f m) r (open_of g next) }
 {
     let rows = m.rows;
     if rows < table::room(table) {
         table::put_row(table, rows, r);
         let top = next.top;
-        return Step::Go(Reader {
+        return Ok(Progress::Go(Reader {
             at: r.end as usize,
             rows: rows + 1,
             depth: next.depth,
             top,
-        });
+        }));
     }
-    Step::Refuse(Refusal::NoRoom, m.at)
+    Err(Refused {
+        refusal: Refusal::NoRoom,
+        place: m.at,
+    })
 }

@@ -8,9 +8,7 @@ ghost use Rattle.format.specs.Rows.{room_of, rows_of};
 ghost use Rattle.format.specs.Records.{good_id, plain, slotted, slot_array_at, with_items, primitive_array_at};
 ghost use Rattle.arrays.specs.Stages.{slot_length_at, primitive_length_at, coded_items_at};
 
-use format::{
-    Field, Head, Heading, Number32, ObjectNo, PrimitiveCode, Refusal, Setting, SlotType, Typed,
-};
+use format::{Head, ObjectNo, PrimitiveCode, Refusal, Setting, SlotType, Typed};
 
 // ---- ids and what is made of them
 
@@ -26,10 +24,10 @@ pub fn is_free_id(table: &[u32], n: usize, id: ObjectNo) -> bool
 }
 
 // A record of these fields alone.
-pub fn plain_head(id: u32, end: usize, count: u32) -> Heading
+pub fn plain_head(id: u32, end: usize, count: u32) -> Result<Head, Refusal>
     ensures { result ≡ plain id end count }
 {
-    Heading::Fields(Head {
+    Ok(Head {
         id,
         end,
         count,
@@ -44,10 +42,16 @@ pub fn plain_head(id: u32, end: usize, count: u32) -> Heading
 }
 
 // An array whose slots are alike, and are filled by records.
-pub fn slotted_head(id: u32, end: usize, count: u32, slot: SlotType, infos: u32) -> Heading
+pub fn slotted_head(
+    id: u32,
+    end: usize,
+    count: u32,
+    slot: SlotType,
+    infos: u32,
+) -> Result<Head, Refusal>
     ensures { result ≡ slotted id end count (alike slot infos) }
 {
-    Heading::Fields(Head {
+    Ok(Head {
         id,
         end,
         count,
@@ -64,30 +68,32 @@ pub fn slotted_head(id: u32, end: usize, count: u32, slot: SlotType, infos: u32)
 // ---- kinds 16 and 17
 
 // The length, which counts the slots.
-fn slot_length_at(s: &[u8], slot: SlotType, id: u32, at: usize) -> Heading
+fn slot_length_at(s: &[u8], slot: SlotType, id: u32, at: usize) -> Result<Head, Refusal>
     ensures { result ≡ slot_length_at s.now slot id at }
 {
-    let Number32::Value(count, end) = num::u32_at(s, at) else {
-        return Heading::Bad(Refusal::CutShort);
-    };
+    let (count, end) = num::u32_at(s, at).ok_or(Refusal::CutShort)?;
     if num::is_negative(count) {
-        return Heading::Bad(Refusal::BadCount);
+        return Err(Refusal::BadCount);
     }
     slotted_head(id, end, count, slot, 0)
 }
 
 // 16, ArraySingleObject (2.4.3.2), or 17, ArraySingleString (2.4.3.4), by the type of the slots: ObjectId, length.
-pub fn slot_array_at(s: &[u8], table: &[u32], n: usize, slot: SlotType, at: usize) -> Heading
+pub fn slot_array_at(
+    s: &[u8],
+    table: &[u32],
+    n: usize,
+    slot: SlotType,
+    at: usize,
+) -> Result<Head, Refusal>
     requires { (n ≤ room_of table.now) × (at < length s.now) }
     ensures { result ≡ slot_array_at s.now (rows_of n table.now) slot at }
 {
-    let Number32::Value(id, p) = num::u32_at(s, at + 1) else {
-        return Heading::Bad(Refusal::CutShort);
-    };
+    let (id, p) = num::u32_at(s, at + 1).ok_or(Refusal::CutShort)?;
     if is_free_id(table, n, ObjectNo(id)) {
         return slot_length_at(s, slot, id, p);
     }
-    Heading::Bad(Refusal::BadId)
+    Err(Refusal::BadId)
 }
 
 // ---- kind 15
@@ -100,49 +106,51 @@ pub fn with_items(
     count: u32,
     at: usize,
     setting: Setting,
-) -> Heading
+) -> Result<Head, Refusal>
     ensures { result ≡ with_items setting s.now code id count at }
 {
-    match items::items_at(s, code, count, at, setting) {
-        Field::End(end) => plain_head(id, end, count),
-        Field::Fault(f) => Heading::Bad(f),
-    }
+    let end = items::items_at(s, code, count, at, setting)?;
+    plain_head(id, end, count)
 }
 
-fn coded_items_at(s: &[u8], id: u32, count: u32, at: usize, setting: Setting) -> Heading
+fn coded_items_at(
+    s: &[u8],
+    id: u32,
+    count: u32,
+    at: usize,
+    setting: Setting,
+) -> Result<Head, Refusal>
     ensures { result ≡ coded_items_at setting s.now id count at }
 {
-    match codes::code_at(s, at) {
-        Field::End(p) => {
-            let code = codes::coded_of(codes::primitive_of(codes::byte_at(s, at)));
-            with_items(s, code, id, count, p, setting)
-        }
-        Field::Fault(f) => Heading::Bad(f),
-    }
+    let p = codes::code_at(s, at)?;
+    let code = codes::coded_of(codes::primitive_of(codes::byte_at(s, at)));
+    with_items(s, code, id, count, p, setting)
 }
 
-fn primitive_length_at(s: &[u8], id: u32, at: usize, setting: Setting) -> Heading
+fn primitive_length_at(s: &[u8], id: u32, at: usize, setting: Setting) -> Result<Head, Refusal>
     ensures { result ≡ primitive_length_at setting s.now id at }
 {
-    let Number32::Value(count, p) = num::u32_at(s, at) else {
-        return Heading::Bad(Refusal::CutShort);
-    };
+    let (count, p) = num::u32_at(s, at).ok_or(Refusal::CutShort)?;
     if num::is_negative(count) {
-        return Heading::Bad(Refusal::BadCount);
+        return Err(Refusal::BadCount);
     }
     coded_items_at(s, id, count, p, setting)
 }
 
 // 15, ArraySinglePrimitive (2.4.3.3): ObjectId, length, primitive code, items.
-pub fn primitive_array_at(s: &[u8], table: &[u32], n: usize, at: usize, setting: Setting) -> Heading
+pub fn primitive_array_at(
+    s: &[u8],
+    table: &[u32],
+    n: usize,
+    at: usize,
+    setting: Setting,
+) -> Result<Head, Refusal>
     requires { (n ≤ room_of table.now) × (at < length s.now) }
     ensures { result ≡ primitive_array_at setting s.now (rows_of n table.now) at }
 {
-    let Number32::Value(id, p) = num::u32_at(s, at + 1) else {
-        return Heading::Bad(Refusal::CutShort);
-    };
+    let (id, p) = num::u32_at(s, at + 1).ok_or(Refusal::CutShort)?;
     if is_free_id(table, n, ObjectNo(id)) {
         return primitive_length_at(s, id, p, setting);
     }
-    Heading::Bad(Refusal::BadId)
+    Err(Refusal::BadId)
 }

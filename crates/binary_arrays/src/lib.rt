@@ -7,7 +7,7 @@ ghost use Rattle.format.specs.Rows.{room_of, rows_of};
 ghost use Rattle.format.specs.Records.{items_of, item_type_at, rank_at, array_type_at, binary_array_at};
 ghost use Rattle.arrays.specs.Stages.{item_info_at, shape_at};
 
-use format::{Field, Heading, Number32, ObjectNo, Refusal, Setting, SlotType, Slots};
+use format::{Head, ObjectNo, Refusal, Setting, SlotType};
 
 // Primitive items follow at once, the others fill slots.
 fn items_of(
@@ -18,7 +18,7 @@ fn items_of(
     at: usize,
     slot: SlotType,
     setting: Setting,
-) -> Heading
+) -> Result<Head, Refusal>
     ensures { result ≡ items_of setting s.now id count infos at slot }
 {
     match slot {
@@ -51,18 +51,14 @@ fn item_info_at(
     types: usize,
     infos: usize,
     setting: Setting,
-) -> Heading
+) -> Result<Head, Refusal>
     requires { (n ≤ room_of table.now) × (length s.now ≤ 16777216) × (infos ≤ length s.now) }
     ensures { result ≡ item_info_at setting s.now (rows_of n table.now) id count types infos }
 {
     let kind = codes::byte_at(s, types);
-    match class_info::info_known(s, table, n, kind, infos, setting) {
-        Field::End(end) => {
-            let slot = slots::slot_of(kind, codes::byte_at(s, infos));
-            items_of(s, id, count, infos as u32, end, slot, setting)
-        }
-        Field::Fault(f) => Heading::Bad(f),
-    }
+    let end = class_info::info_known(s, table, n, kind, infos, setting)?;
+    let slot = slots::slot_of(kind, codes::byte_at(s, infos));
+    items_of(s, id, count, infos as u32, end, slot, setting)
 }
 
 fn item_type_at(
@@ -73,14 +69,12 @@ fn item_type_at(
     count: u32,
     types: usize,
     setting: Setting,
-) -> Heading
+) -> Result<Head, Refusal>
     requires { (n ≤ room_of table.now) × (length s.now ≤ 16777216) }
     ensures { result ≡ item_type_at setting s.now (rows_of n table.now) id count types }
 {
-    match codes::type_byte_at(s, types) {
-        Field::End(infos) => item_info_at(s, table, n, id, count, types, infos, setting),
-        Field::Fault(f) => Heading::Bad(f),
-    }
+    let infos = codes::type_byte_at(s, types)?;
+    item_info_at(s, table, n, id, count, types, infos, setting)
 }
 
 // The lengths of an array whose rank is good, and its items.
@@ -92,14 +86,12 @@ fn shape_at(
     rank: u32,
     at: usize,
     setting: Setting,
-) -> Heading
+) -> Result<Head, Refusal>
     requires { (n ≤ room_of table.now) × (length s.now ≤ 16777216) }
     ensures { result ≡ shape_at setting s.now (rows_of n table.now) id rank at }
 {
-    match shapes::lengths_at(s, rank, at) {
-        Slots::Product(count, types) => item_type_at(s, table, n, id, count, types, setting),
-        Slots::Fault(f) => Heading::Bad(f),
-    }
+    let (count, types) = shapes::lengths_at(s, rank, at)?;
+    item_type_at(s, table, n, id, count, types, setting)
 }
 
 fn rank_at(
@@ -110,47 +102,56 @@ fn rank_at(
     kind: u8,
     at: usize,
     setting: Setting,
-) -> Heading
+) -> Result<Head, Refusal>
     requires { (n ≤ room_of table.now) × (length s.now ≤ 16777216) }
     ensures { result ≡ rank_at setting s.now (rows_of n table.now) id kind at }
 {
-    let Number32::Value(rank, p) = num::u32_at(s, at) else {
-        return Heading::Bad(Refusal::CutShort);
-    };
+    let (rank, p) = num::u32_at(s, at).ok_or(Refusal::CutShort)?;
     if shapes::is_rank(kind, rank) {
         return shape_at(s, table, n, id, rank, p, setting);
     }
-    Heading::Bad(Refusal::BadCount)
+    Err(Refusal::BadCount)
 }
 
 // Array types 0 to 2 are taken, Single, Jagged and Rectangular (2.4.1.1). 3 to 5 have lower bounds; they are refused by name, and no bound is read.
-fn array_type_at(s: &[u8], table: &[u32], n: usize, id: u32, at: usize, setting: Setting) -> Heading
+fn array_type_at(
+    s: &[u8],
+    table: &[u32],
+    n: usize,
+    id: u32,
+    at: usize,
+    setting: Setting,
+) -> Result<Head, Refusal>
     requires { (n ≤ room_of table.now) × (length s.now ≤ 16777216) }
     ensures { result ≡ array_type_at setting s.now (rows_of n table.now) id at }
 {
     if s.len() <= at {
-        return Heading::Bad(Refusal::CutShort);
+        return Err(Refusal::CutShort);
     }
     let kind = s[at];
     if kind <= 2 {
         return rank_at(s, table, n, id, kind, at + 1, setting);
     }
     if kind <= 5 {
-        return Heading::Bad(Refusal::NotTaken);
+        return Err(Refusal::NotTaken);
     }
-    Heading::Bad(Refusal::BadType)
+    Err(Refusal::BadType)
 }
 
 // 7, BinaryArray (2.4.3.1): ObjectId, array type, rank, lengths, type byte, type info; then primitive items.
-pub fn binary_array_at(s: &[u8], table: &[u32], n: usize, at: usize, setting: Setting) -> Heading
+pub fn binary_array_at(
+    s: &[u8],
+    table: &[u32],
+    n: usize,
+    at: usize,
+    setting: Setting,
+) -> Result<Head, Refusal>
     requires { (n ≤ room_of table.now) × (length s.now ≤ 16777216) × (at < length s.now) }
     ensures { result ≡ binary_array_at setting s.now (rows_of n table.now) at }
 {
-    let Number32::Value(id, p) = num::u32_at(s, at + 1) else {
-        return Heading::Bad(Refusal::CutShort);
-    };
+    let (id, p) = num::u32_at(s, at + 1).ok_or(Refusal::CutShort)?;
     if arrays::is_free_id(table, n, ObjectNo(id)) {
         return array_type_at(s, table, n, id, p, setting);
     }
-    Heading::Bad(Refusal::BadId)
+    Err(Refusal::BadId)
 }

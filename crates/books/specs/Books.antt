@@ -1,14 +1,13 @@
 -- The bytes that are judged to be a class book are those of some list of good entries, and of one list only (02, (ii)).
 use Prim.Native.Nat.{ℕ, zero, suc, ◌+◌, ◌≤◌, ◌<◌}
-use Rattle.std.specs.Prelude.{◌≡◌, drop}
+use Rattle.std.specs.Prelude.{◌≡◌, drop, Result, Ok, Err}
+use Rattle.format.specs.declared.Refusal.{Refusal}
 use Rattle.std.proofs.Math.Path.{refl, sym, ap₂}
 use Rattle.std.proofs.Common.{ap, ◌∙◌, drop_of_length-le}
 use mathlib.Core.List.{List, [], ◌∷◌, append-nil}
 use native.Mathlib.Omega.{arith}
 use Rattle.std.proofs.Math.Decide.{dec_lt}
 use Rattle.std.proofs.Math.ListN.{length}
-use Rattle.format.specs.declared.Field.{Field}
-use Rattle.format.specs.declared.Field.TheVariants as F
 use Rattle.format.specs.Contents.{Class}
 use Rattle.format.specs.Book.{entry_bytes, book_bytes}
 use Rattle.format.specs.Entries.{entry_at, on_entry, bad_from, bad_entry}
@@ -63,12 +62,12 @@ module _ (β : List ℕ) where
       Again : Type 0
       Again = (e : ℕ) → length β ≤ e + k → e ≤ length β → e < 4294967296 → bad_from k β e ≡ 0 → EntriesRead e
 
-      each : Again → (r : Field) → entry_at β p ≡ r → on_entry (bad_from k β) p r ≡ 0 → EntriesRead p
-      each again (F.End e) d q =
+      each : Again → (r : Result ℕ Refusal) → entry_at β p ≡ r → on_entry (bad_from k β) p r ≡ 0 → EntriesRead p
+      each again (Ok e) d q =
           let m = entry_moves β p e d in
           let v = entry_back β p e b d in
           entries_more p e v (again e (omega arith) m.1 v.small q)
-      each again (F.Fault f) d q = absurd (omega arith)
+      each again (Err f) d q = absurd (omega arith)
 
       go : Again → Dec (p < length β) → EntriesRead p
       go again (yes l) = each again (entry_at β p) refl (sym (bad_step β k p l) ∙ q)

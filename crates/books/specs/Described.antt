@@ -1,9 +1,8 @@
 -- The members of an entry of a class book at a place (02, (ii)): what is written is read, what is read is written so, and in no other way.
 use Prim.Native.Nat.{ℕ, zero, suc, ◌+◌, ◌≤◌}
-use Rattle.std.specs.Prelude.{◌≡◌, refl, List, [], ◌∷◌, ◌++◌, length, get_or}
+use Rattle.std.specs.Prelude.{◌≡◌, refl, List, [], ◌∷◌, ◌++◌, length, get_or, Ok}
 use Rattle.std.proofs.Common.{sym, ap₂, ◌∙◌, arith}
 use Rattle.std.proofs.Math.Path.{ap}
-use Rattle.format.specs.declared.Field.TheVariants as F
 use Rattle.format.specs.Values.{times}
 use Rattle.format.specs.Types.{type_byte_at}
 use Rattle.format.specs.Contents.{Detail, Member, type_byte}
@@ -29,15 +28,15 @@ module _ (β : List ℕ) where
     named : Characters m.name
     coded : Coded m.type
 
-  member_there : (m : Member (List ℕ) (List ℕ)) (p e : ℕ) → MemberAt m p e → described_at β p ≡ F.End e
+  member_there : (m : Member (List ℕ) (List ℕ)) (p e : ℕ) → MemberAt m p e → described_at β p ≡ Ok e
   member_there m p e w =
       let q = w.type in
       let f : get_or β q 0 ≡ type_byte m.type = stand_here w.type_stands in
       let n = text_there β p q m.name w.named w.name_stands in
-      let t : type_byte_at β q ≡ F.End (q + 1) = type_end β q (stand_inside w.type_stands) (rw f (coded_small w.coded)) in
-      described_more β p (F.End q) (sym n) q refl ∙ rw (t, f) (detail_there β (q + 1) e m.type w.coded w.info_stands)
+      let t : type_byte_at β q ≡ Ok (q + 1) = type_end β q (stand_inside w.type_stands) (rw f (coded_small w.coded)) in
+      described_more β p (Ok q) (sym n) q refl ∙ rw (t, f) (detail_there β (q + 1) e m.type w.coded w.info_stands)
 
-  member_back : (p e : ℕ) → Bytes β → described_at β p ≡ F.End e → (m : Member (List ℕ) (List ℕ)) × MemberAt m p e
+  member_back : (p e : ℕ) → Bytes β → described_at β p ≡ Ok e → (m : Member (List ℕ) (List ℕ)) × MemberAt m p e
   member_back p e b q =
       let w = described_told β p e q in
       let t = w.type in
@@ -91,9 +90,9 @@ module _ (β : List ℕ) where
   more_of_lem m ms p k e v w = stand_then v.name_stands (stand_then v.type_stands (stand_then v.info_stands w))
 
   pub members_there : (ms : List (Member (List ℕ) (List ℕ))) (p e : ℕ) → Described ms → Stand β (described_bytes ms) p e
-      → times (described_at β) (length ms) p ≡ F.End e
+      → times (described_at β) (length ms) p ≡ Ok e
   unfolding times
-  members_there ms p e all_described w = let k = stand_size w in ap F.End (omega arith)
+  members_there ms p e all_described w = let k = stand_size w in ap Ok (omega arith)
   members_there ms p e (described {m = m} {ms = rest} g d more) w =
       let x = first_of m rest p e g d w in
       rw (member_there m p x.0 x.1) (members_there rest x.0 e more x.2)
@@ -105,7 +104,7 @@ module _ (β : List ℕ) where
     pub counted : length members ≡ n
     pub stands : Stand β (described_bytes members) p e
 
-  pub members_back : (n p e : ℕ) → Bytes β → p ≤ length β → times (described_at β) n p ≡ F.End e → MembersRead n p e
+  pub members_back : (n p e : ℕ) → Bytes β → p ≤ length β → times (described_at β) n p ≡ Ok e → MembersRead n p e
   unfolding times
   members_back zero p e b h q =
       let z : p ≡ e = cc in

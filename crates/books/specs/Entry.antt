@@ -1,8 +1,7 @@
 -- An entry of a class book at a place (02, (ii)): what is written is read, what is read is written so, and in no other way.
-use Rattle.std.specs.Prelude.{ℕ, zero, suc, ◌+◌, ◌≤◌, ◌<◌, ◌≡◌, refl, List, [], ◌∷◌, ◌++◌, length, get_or}
+use Rattle.std.specs.Prelude.{ℕ, zero, suc, ◌+◌, ◌≤◌, ◌<◌, ◌≡◌, refl, List, [], ◌∷◌, ◌++◌, length, get_or, Ok}
 use Rattle.std.proofs.Common.{sym, ap, ◌∙◌, arith, le-leb}
 use Rattle.format.specs.declared.Setting.TheVariants as Q
-use Rattle.format.specs.declared.Field.TheVariants as F
 use Rattle.format.specs.Contents.{From, the_system, the_library, Class}
 use Rattle.format.specs.Book.{text_bytes, origin_byte, origin_bytes, described_bytes, entry_bytes}
 use Rattle.format.specs.Entries.{counted_at, origin_at, entry_at}
@@ -23,10 +22,10 @@ origin_small (the_library n) = omega arith
 
 module _ (β : List ℕ) where
   module _ (p e : ℕ) where
-    origin_there : (o : From) → Origin o → Stand β (origin_bytes o) p e → origin_at β (origin_byte o) p ≡ F.End e
+    origin_there : (o : From) → Origin o → Stand β (origin_bytes o) p e → origin_at β (origin_byte o) p ≡ Ok e
     origin_there the_system g w =
         let k = stand_size w in
-        origin_none β 0 p (λ z. omega arith) ∙ ap F.End (omega arith)
+        origin_none β 0 p (λ z. omega arith) ∙ ap Ok (omega arith)
     origin_there (the_library n) g w = origin_library β 1 p refl ∙ text_there β p e n g w
 
     -- what stands at p, of an entry that begins with this byte
@@ -36,7 +35,7 @@ module _ (β : List ℕ) where
       good : Origin from
       stands : Stand β (origin_bytes from) p e
 
-    origin_back : (first : ℕ) → first ≤ 1 → Bytes β → p ≤ length β → origin_at β first p ≡ F.End e → OriginRead first
+    origin_back : (first : ℕ) → first ≤ 1 → Bytes β → p ≤ length β → origin_at β first p ≡ Ok e → OriginRead first
     origin_back zero h b i q =
         let r = sym (origin_none β 0 p (λ z. omega arith)) ∙ q in
         let z : p ≡ e = cc in
@@ -83,15 +82,15 @@ module _ (β : List ℕ) where
   whole_of c p e w =
       stand_then w.first_stands (stand_then w.name_stands (stand_then w.origin_stands (stand_then w.count_stands w.members_stand)))
 
-  pub entry_there : (c : Class) (p e : ℕ) → BookEntry c → e < 4294967296 → Stand β (entry_bytes c) p e → entry_at β p ≡ F.End e
+  pub entry_there : (c : Class) (p e : ℕ) → BookEntry c → e < 4294967296 → Stand β (entry_bytes c) p e → entry_at β p ≡ Ok e
   entry_there c p e g small w =
       let x = parts_of c p e w in
       let n = text_there β (p + 1) x.origin_at_holds c.name g.named x.name_stands in
       let o = origin_there x.origin_at_holds x.count_at c.from g.origin x.origin_stands in
       let m = members_there β c.members (x.count_at + 1) e g.members x.members_stand in
-      let k : counted_at β x.count_at ≡ F.End e = counted_members β x.count_at (stand_inside x.count_stands) ∙ rw (stand_here x.count_stands) m in
+      let k : counted_at β x.count_at ≡ Ok e = counted_members β x.count_at (stand_inside x.count_stands) ∙ rw (stand_here x.count_stands) m in
       let f : get_or β p 0 ≡ origin_byte c.from = stand_here w in
-      entry_more β p (F.End e) (stand_inside w) (rw f (origin_small c.from)) (sym (rw (f, n, o) k)) e refl ∙ rw (le-leb e 4294967295 (omega arith))
+      entry_more β p (Ok e) (stand_inside w) (rw f (origin_small c.from)) (sym (rw (f, n, o) k)) e refl ∙ rw (le-leb e 4294967295 (omega arith))
 
   -- a good entry from p to e
   pub record EntryRead (p e : ℕ) : Type 0 where
@@ -100,7 +99,7 @@ module _ (β : List ℕ) where
     pub stands : Stand β (entry_bytes class) p e
     pub small : e < 4294967296
 
-  pub entry_back : (p e : ℕ) → Bytes β → entry_at β p ≡ F.End e → EntryRead p e
+  pub entry_back : (p e : ℕ) → Bytes β → entry_at β p ≡ Ok e → EntryRead p e
   entry_back p e b q =
       let w = entry_told β p e q in
       let v = name_moves Q.Strict β (p + 1) w.origin_at_holds w.name_ends in

@@ -1,10 +1,10 @@
 -- Texts and the details of types at a place of a class book (02, (ii)): what is written is read, what is read is written so, and in no other way.
-use Rattle.std.specs.Prelude.{ℕ, ◌≤◌, ◌≡◌, length, eqb}
+use Rattle.std.specs.Prelude.{ℕ, ◌≤◌, ◌≡◌, length, eqb, Ok, Result}
+use Rattle.format.specs.declared.Refusal.{Refusal}
 use Rattle.std.proofs.Math.Path.{refl, ap}
 use Rattle.std.proofs.Common.{subst, arith}
 use mathlib.Core.List.{List, []}
 use Rattle.format.specs.declared.Setting.TheVariants as Q
-use Rattle.format.specs.declared.Field.TheVariants as F
 use Rattle.format.specs.Terms.{strict}
 use Rattle.format.specs.Bytes.{pick}
 use Rattle.format.specs.Types.{name_at, info_at}
@@ -28,13 +28,13 @@ shortly : (t : List ℕ) → Characters t → Name strict (shortest t)
 shortly t g = record { characters = g; prefix = shortest_width (length t) g.short Q.Strict }
 
 module _ (β : List ℕ) (p e : ℕ) where
-  pub text_there : (t : List ℕ) → Characters t → Stand β (text_bytes t) p e → name_at Q.Strict β p ≡ F.End e
+  pub text_there : (t : List ℕ) → Characters t → Stand β (text_bytes t) p e → name_at Q.Strict β p ≡ Ok e
   text_there t g w = name_there strict β (shortest t) p e (shortly t g) w
 
   pub text_in : (t : List ℕ) → Characters t → Stand β (text_bytes t) p e → text_from β p ≡ t
   text_in t g w = name_text strict β (shortest t) p e (shortly t g) w
 
-  pub text_back : Bytes β → name_at Q.Strict β p ≡ F.End e → (t : List ℕ) × Characters t × Stand β (text_bytes t) p e
+  pub text_back : Bytes β → name_at Q.Strict β p ≡ Ok e → (t : List ℕ) × Characters t × Stand β (text_bytes t) p e
   text_back b q =
       let w = name_back strict β p e b q in
       let t = text_from β p in
@@ -62,13 +62,13 @@ coded_small a_text_array = omega arith
 coded_small a_primitive_array_rule = omega arith
 
 module _ (β : List ℕ) (p e : ℕ) where
-  pub detail_there : (d : Detail (List ℕ) (List ℕ)) → Coded d → Stand β (code_bytes d) p e → coded_info_at β (type_byte d) p ≡ F.End e
+  pub detail_there : (d : Detail (List ℕ) (List ℕ)) → Coded d → Stand β (code_bytes d) p e → coded_info_at β (type_byte d) p ≡ Ok e
   unfolding coded_info_at info_at
   detail_there d (a_primitive_rule {c}) w = code_there β c p e w
-  detail_there d a_text w = let k = stand_size w in ap F.End (omega arith)
-  detail_there d any_object w = let k = stand_size w in ap F.End (omega arith)
-  detail_there d an_object_array_rule w = let k = stand_size w in ap F.End (omega arith)
-  detail_there d a_text_array w = let k = stand_size w in ap F.End (omega arith)
+  detail_there d a_text w = let k = stand_size w in ap Ok (omega arith)
+  detail_there d any_object w = let k = stand_size w in ap Ok (omega arith)
+  detail_there d an_object_array_rule w = let k = stand_size w in ap Ok (omega arith)
+  detail_there d a_text_array w = let k = stand_size w in ap Ok (omega arith)
   detail_there d (a_primitive_array_rule {c}) w = code_there β c p e w
 
   -- and it is the detail that is read there
@@ -87,10 +87,10 @@ module _ (β : List ℕ) (p e : ℕ) where
     pub byte : type_byte (detail_at β b p) ≡ b
     pub stands : Stand β (code_bytes (detail_at β b p)) p e
 
-  pub detail_back : (b : ℕ) → b ≤ 7 → p ≤ length β → coded_info_at β b p ≡ F.End e → Detailed b
+  pub detail_back : (b : ℕ) → b ≤ 7 → p ≤ length β → coded_info_at β b p ≡ Ok e → Detailed b
   unfolding info_at detail_at
   detail_back b h i q =
-      by_type (λ (b : ℕ). coded_info_at β b p ≡ F.End e → Detailed b)
+      by_type (λ (b : ℕ). coded_info_at β b p ≡ Ok e → Detailed b)
       (λ q. record { good = a_primitive_rule; byte = refl; stands = code_back β p e (coded_told β 0 p e q).1 })
       (λ q. record { good = a_text; byte = refl; stands = none (coded_told β 1 p e q).1 })
       (λ q. record { good = any_object; byte = refl; stands = none (coded_told β 2 p e q).1 })
@@ -103,5 +103,5 @@ module _ (β : List ℕ) (p e : ℕ) where
       h
       q
     where
-      none : F.End p ≡ F.End e → Stand β [] p e
+      none : ◌≡◌ {A = Result ℕ Refusal} (Ok p) (Ok e) → Stand β [] p e
       none q = let z : p ≡ e = cc in rw (← z) (stand_none i)

@@ -6,7 +6,7 @@ ghost use Rattle.format.specs.Rows.{blank, room_of, rows_of, class_row};
 ghost use Rattle.format.specs.Records.{within, first_type, of_class, class_by_id_at};
 ghost use Rattle.class_info.specs.Stages.{by_metadata_at};
 
-use format::{Head, Heading, Number32, ObjectNo, Refusal, Row, Typed};
+use format::{Head, ObjectNo, Refusal, Row, Typed};
 
 // ---- kind 1
 
@@ -43,14 +43,14 @@ fn of_class(
     id: u32,
     end: usize,
     row: usize,
-) -> Heading
+) -> Result<Head, Refusal>
     requires { (n ≤ room_of table.now) × (length s.now ≤ 16777216) × (n ≤ 16777216) × (0 < row) × (row ≤ n) }
     ensures { result ≡ of_class book.now s.now id end row (get_or (rows_of n table.now) (row - 1) blank) }
 {
     let class = table::row_at(table, n, row - 1);
     let count = class.count;
     let first = first_type(s, book, class);
-    Heading::Fields(Head {
+    Ok(Head {
         id,
         end,
         count,
@@ -69,30 +69,39 @@ fn class_row(table: &[u32], n: usize, class: ObjectNo) -> usize
 }
 
 // A class by id whose ObjectId is read: the MetadataId, and the row of its class.
-fn by_metadata_at(s: &[u8], book: &[u8], table: &[u32], n: usize, id: u32, at: usize) -> Heading
+fn by_metadata_at(
+    s: &[u8],
+    book: &[u8],
+    table: &[u32],
+    n: usize,
+    id: u32,
+    at: usize,
+) -> Result<Head, Refusal>
     requires { (n ≤ room_of table.now) × (length s.now ≤ 16777216) × (n ≤ 16777216) }
     ensures { result ≡ by_metadata_at book.now s.now (rows_of n table.now) id at }
 {
-    let Number32::Value(class, end) = num::u32_at(s, at) else {
-        return Heading::Bad(Refusal::CutShort);
-    };
+    let (class, end) = num::u32_at(s, at).ok_or(Refusal::CutShort)?;
     let row = class_row(table, n, ObjectNo(class));
     if row == 0 {
-        return Heading::Bad(Refusal::NoClass);
+        return Err(Refusal::NoClass);
     }
     of_class(s, book, table, n, id, end, row)
 }
 
 // 1, ClassWithId (2.3.2.5): ObjectId, MetadataId.
-pub fn class_by_id_at(s: &[u8], book: &[u8], table: &[u32], n: usize, at: usize) -> Heading
+pub fn class_by_id_at(
+    s: &[u8],
+    book: &[u8],
+    table: &[u32],
+    n: usize,
+    at: usize,
+) -> Result<Head, Refusal>
     requires { (n ≤ room_of table.now) × (length s.now ≤ 16777216) × (n ≤ 16777216) × (at < length s.now) }
     ensures { result ≡ class_by_id_at book.now s.now (rows_of n table.now) at }
 {
-    let Number32::Value(id, p) = num::u32_at(s, at + 1) else {
-        return Heading::Bad(Refusal::CutShort);
-    };
+    let (id, p) = num::u32_at(s, at + 1).ok_or(Refusal::CutShort)?;
     if classes::is_free_class_id(table, n, ObjectNo(id)) {
         return by_metadata_at(s, book, table, n, id, p);
     }
-    Heading::Bad(Refusal::BadId)
+    Err(Refusal::BadId)
 }

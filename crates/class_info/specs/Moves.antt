@@ -1,13 +1,12 @@
 -- Where libraries, details, members and class records end: after their place, and within the stream.
 use Prim.Native.Nat.{ℕ, zero, suc, ◌+◌, ◌-◌, ◌≤◌, ◌<◌}
-use Rattle.std.specs.Prelude.{◌≡◌, Bool, List, length, get_or, eqb}
+use Rattle.std.specs.Prelude.{◌≡◌, Bool, List, length, get_or, eqb, Ok, Err}
 use Rattle.std.proofs.Common.{sym, ◌∙◌}
 use Rattle.std.proofs.Math.Path.{ap}
 use Rattle.std.proofs.Math.Bool.{true, false}
 use native.Mathlib.Omega.{arith}
 use Rattle.format.specs.declared.Setting.{Setting}
 use Rattle.format.specs.declared.Refusal.TheVariants as R
-use Rattle.format.specs.declared.Field.TheVariants as F
 use Rattle.format.specs.declared.Row.{Row}
 use Rattle.format.specs.Bytes.{pick, part}
 use Rattle.format.specs.Numbers.{le, u32_at, negative}
@@ -22,24 +21,24 @@ use Rattle.class_info.specs.Ends.{EndsIn, number_moves, ends_pick, ends_number, 
 
 -- ---- names and type bytes
 
-pub names_there : (σ : Setting) (s : List ℕ) (n at e : ℕ) → at ≤ length s → times (name_at σ s) n at ≡ F.End e → (at ≤ e) × (e ≤ length s)
+pub names_there : (σ : Setting) (s : List ℕ) (n at e : ℕ) → at ≤ length s → times (name_at σ s) n at ≡ Ok e → (at ≤ e) × (e ≤ length s)
 names_there σ s n at e h q = (names_kept σ n).moves s at e h q
 
-pub types_there : (s : List ℕ) (n at e : ℕ) → at ≤ length s → times (type_byte_at s) n at ≡ F.End e → (e ≡ at + n) × (e ≤ length s)
+pub types_there : (s : List ℕ) (n at e : ℕ) → at ≤ length s → times (type_byte_at s) n at ≡ Ok e → (e ≡ at + n) × (e ≤ length s)
 types_there s n at e h q = (types_end s n at e q, ((types_kept n).moves s at e h q).1)
 
 module _ (s : List ℕ) (rows : List Row) where
   -- ---- libraries
 
   -- a library that is known moves nothing
-  pub known_moves : (end e : ℕ) → known_library s rows end ≡ F.End e → e ≡ end
+  pub known_moves : (end e : ℕ) → known_library s rows end ≡ Ok e → e ≡ end
   known_moves end e q = go (eqb (library_row (le (part s (end - 4) 4)) rows) 0) q
     where
-      go : (t : Bool) → pick t (F.Fault R.NoLibrary) (F.End end) ≡ F.End e → e ≡ end
+      go : (t : Bool) → pick t (Err R.NoLibrary) (Ok end) ≡ Ok e → e ≡ end
       go true q = absurd (no_end R.NoLibrary e q)
       go false q = cc
 
-  pub own_library_moves : (at e : ℕ) → own_library_at s rows at ≡ F.End e → (at < e) × (e ≤ length s)
+  pub own_library_moves : (at e : ℕ) → own_library_at s rows at ≡ Ok e → (at < e) × (e ≤ length s)
   unfolding own_library_at
   own_library_moves at e q =
       let x = through (known_library s rows) (library_id_at s at) e q in
@@ -51,20 +50,20 @@ module _ (σ : Setting) (s : List ℕ) (rows : List Row) where
   -- ---- details
 
   -- that the library of a detail is known changes no place
-  pub info_plain : (b at e : ℕ) → info_known σ s rows b at ≡ F.End e → info_at σ s b at ≡ F.End e
+  pub info_plain : (b at e : ℕ) → info_known σ s rows b at ≡ Ok e → info_at σ s b at ≡ Ok e
   unfolding info_known
   info_plain b at e q =
-      let x = through (λ end. pick (eqb b 4) (known_library s rows end) (F.End end)) (info_at σ s b at) e q in
-      x.1 ∙ ap F.End (sym (go x.0 (eqb b 4) x.2))
+      let x = through (λ end. pick (eqb b 4) (known_library s rows end) (Ok end)) (info_at σ s b at) e q in
+      x.1 ∙ ap Ok (sym (go x.0 (eqb b 4) x.2))
     where
-      go : (m : ℕ) (t : Bool) → pick t (known_library s rows m) (F.End m) ≡ F.End e → e ≡ m
+      go : (m : ℕ) (t : Bool) → pick t (known_library s rows m) (Ok m) ≡ Ok e → e ≡ m
       go m true q = known_moves s rows m e q
       go m false q = cc
 
-  pub info_known_moves : (b at e : ℕ) → at ≤ length s → info_known σ s rows b at ≡ F.End e → (at ≤ e) × (e ≤ length s)
+  pub info_known_moves : (b at e : ℕ) → at ≤ length s → info_known σ s rows b at ≡ Ok e → (at ≤ e) × (e ≤ length s)
   info_known_moves b at e h q = (info_kept σ b).moves s at e h (info_plain b at e q)
 
-  pub infos_moves : (n types at e : ℕ) → at ≤ length s → infos_at σ s rows n types at ≡ F.End e → (at ≤ e) × (e ≤ length s)
+  pub infos_moves : (n types at e : ℕ) → at ≤ length s → infos_at σ s rows n types at ≡ Ok e → (at ≤ e) × (e ≤ length s)
   unfolding infos_at
   infos_moves zero types at e h q = let z : at ≡ e = cc in (omega arith, omega arith)
   infos_moves (suc n) types at e h q =
@@ -74,7 +73,7 @@ module _ (σ : Setting) (s : List ℕ) (rows : List Row) where
       (omega arith, omega arith)
 
 module _ (s : List ℕ) (rows : List Row) where
-  after_moves : (own : Bool) (at e : ℕ) → at ≤ length s → after_infos own s rows at ≡ F.End e → (at ≤ e) × (e ≤ length s)
+  after_moves : (own : Bool) (at e : ℕ) → at ≤ length s → after_infos own s rows at ≡ Ok e → (at ≤ e) × (e ≤ length s)
   after_moves true at e h q = let w = own_library_moves s rows at e q in (omega arith, omega arith)
   after_moves false at e h q = let z : at ≡ e = cc in (omega arith, omega arith)
 

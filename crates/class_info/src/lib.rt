@@ -6,51 +6,50 @@ ghost use Rattle.format.specs.Rows.{room_of, rows_of};
 ghost use Rattle.format.specs.Records.{known_library, own_library_at, info_known, infos_at, members_at};
 ghost use Rattle.class_info.specs.Stages.{details_at, typed_members_at};
 
-use format::{Field, Head, Heading, LibraryNo, Number32, Refusal, Setting};
+use format::{Head, LibraryNo, Refusal, Setting};
 
 // The LibraryId in the four bytes before a place: its library is known.
-fn known_library(s: &[u8], table: &[u32], n: usize, end: usize) -> Field
+fn known_library(s: &[u8], table: &[u32], n: usize, end: usize) -> Result<usize, Refusal>
     requires { (n ≤ room_of table.now) × (4 ≤ end) × (end ≤ length s.now) }
     ensures { result ≡ known_library s.now (rows_of n table.now) end }
 {
     // The four bytes are there: the number is never short.
-    let Number32::Value(id, _) = num::u32_at(s, end - 4) else {
-        return Field::Fault(Refusal::CutShort);
-    };
+    let (id, _) = num::u32_at(s, end - 4).ok_or(Refusal::CutShort)?;
     let row = lookups::find_library(table, n, LibraryNo(id));
     if row == 0 {
-        return Field::Fault(Refusal::NoLibrary);
+        return Err(Refusal::NoLibrary);
     }
-    Field::End(end)
+    Ok(end)
 }
 
 // A class's own LibraryId: by its sign, then known.
-pub fn own_library_at(s: &[u8], table: &[u32], n: usize, at: usize) -> Field
+pub fn own_library_at(s: &[u8], table: &[u32], n: usize, at: usize) -> Result<usize, Refusal>
     requires { n ≤ room_of table.now }
     ensures { result ≡ own_library_at s.now (rows_of n table.now) at }
 {
-    match types::library_id_at(s, at) {
-        Field::End(end) => known_library(s, table, n, end),
-        Field::Fault(f) => Field::Fault(f),
-    }
+    let end = types::library_id_at(s, at)?;
+    known_library(s, table, n, end)
 }
 
 // ---- details
 
 // The detail of a type, and for type 4 its library known.
-pub fn info_known(s: &[u8], table: &[u32], n: usize, kind: u8, at: usize, setting: Setting) -> Field
+pub fn info_known(
+    s: &[u8],
+    table: &[u32],
+    n: usize,
+    kind: u8,
+    at: usize,
+    setting: Setting,
+) -> Result<usize, Refusal>
     requires { n ≤ room_of table.now }
     ensures { result ≡ info_known setting s.now (rows_of n table.now) kind at }
 {
-    match types::info_at(s, kind, at, setting) {
-        Field::End(end) => {
-            if kind == 4 {
-                return known_library(s, table, n, end);
-            }
-            Field::End(end)
-        }
-        Field::Fault(f) => Field::Fault(f),
+    let end = types::info_at(s, kind, at, setting)?;
+    if kind == 4 {
+        return known_library(s, table, n, end);
     }
+    Ok(end)
 }
 
 // The details of as many members as count, their type bytes from a place on: the first that is bad or missing decides.
@@ -62,26 +61,15 @@ fn infos_at(
     types: usize,
     at: usize,
     setting: Setting,
-) -> Field
+) -> Result<usize, Refusal>
     requires { (n ≤ room_of table.now) × (types + count ≤ length s.now) }
     ensures { result ≡ infos_at setting s.now (rows_of n table.now) count types at }
 {
-    let mut left = count;
-    let mut t = types;
     let mut p = at;
-    while left > 0 {
-        match info_known(s, table, n, s[t], p, setting) {
-            Field::End(next) => {
-                p = next;
-            }
-            Field::Fault(f) => {
-                return Field::Fault(f);
-            }
-        }
-        t += 1;
-        left -= 1;
+    for t in types..types + count as usize {
+        p = info_known(s, table, n, s[t], p, setting)?;
     }
-    Field::End(p)
+    Ok(p)
 }
 
 // ---- members
@@ -96,19 +84,15 @@ fn details_at(
     types: usize,
     infos: usize,
     setting: Setting,
-) -> Field
+) -> Result<usize, Refusal>
     requires { (n ≤ room_of table.now) × (types + count ≤ length s.now) }
     ensures { result ≡ details_at setting s.now (rows_of n table.now) own count types infos }
 {
-    match infos_at(s, table, n, count, types, infos, setting) {
-        Field::End(p) => {
-            if own {
-                return own_library_at(s, table, n, p);
-            }
-            Field::End(p)
-        }
-        Field::Fault(f) => Field::Fault(f),
+    let p = infos_at(s, table, n, count, types, infos, setting)?;
+    if own {
+        return own_library_at(s, table, n, p);
     }
+    Ok(p)
 }
 
 // Members whose names are read: all type bytes, then the details.
@@ -121,28 +105,22 @@ fn typed_members_at(
     count: u32,
     types: usize,
     setting: Setting,
-) -> Heading
+) -> Result<Head, Refusal>
     requires { (n ≤ room_of table.now) × (length s.now ≤ 16777216) × (types ≤ length s.now) }
     ensures { result ≡ typed_members_at setting s.now (rows_of n table.now) own id count types }
 {
-    match types::type_bytes_at(s, count, types) {
-        Field::End(infos) => match details_at(s, table, n, own, count, types, infos, setting) {
-            Field::End(end) => {
-                let link = types as u32;
-                let first = slots::typed_at(s, link, infos as u32);
-                Heading::Fields(Head {
-                    id,
-                    end,
-                    count,
-                    slots: count,
-                    first,
-                    link,
-                })
-            }
-            Field::Fault(f) => Heading::Bad(f),
-        },
-        Field::Fault(f) => Heading::Bad(f),
-    }
+    let infos = types::type_bytes_at(s, count, types)?;
+    let end = details_at(s, table, n, own, count, types, infos, setting)?;
+    let link = types as u32;
+    let first = slots::typed_at(s, link, infos as u32);
+    Ok(Head {
+        id,
+        end,
+        count,
+        slots: count,
+        first,
+        link,
+    })
 }
 
 // Members: all names, then all type bytes, then the details.
@@ -155,12 +133,10 @@ pub fn members_at(
     count: u32,
     at: usize,
     setting: Setting,
-) -> Heading
+) -> Result<Head, Refusal>
     requires { (n ≤ room_of table.now) × (length s.now ≤ 16777216) × (at ≤ length s.now) }
     ensures { result ≡ members_at setting s.now (rows_of n table.now) own id count at }
 {
-    match types::names_at(s, count, at, setting) {
-        Field::End(types) => typed_members_at(s, table, n, own, id, count, types, setting),
-        Field::Fault(f) => Heading::Bad(f),
-    }
+    let types = types::names_at(s, count, at, setting)?;
+    typed_members_at(s, table, n, own, id, count, types, setting)
 }

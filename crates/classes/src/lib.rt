@@ -6,7 +6,7 @@ ghost use Rattle.format.specs.Rows.{room_of, rows_of};
 ghost use Rattle.format.specs.Records.{good_class_id, class_at};
 ghost use Rattle.class_info.specs.Stages.{named_class_at};
 
-use format::{Field, Heading, Number32, ObjectNo, Refusal, Setting};
+use format::{Head, ObjectNo, Refusal, Setting};
 
 // ---- ids
 
@@ -33,21 +33,14 @@ fn named_class_at(
     id: u32,
     at: usize,
     setting: Setting,
-) -> Heading
+) -> Result<Head, Refusal>
     requires { (n ≤ room_of table.now) × (length s.now ≤ 16777216) }
     ensures { result ≡ named_class_at setting s.now (rows_of n table.now) own id at }
 {
-    let q = match types::name_at(s, at, setting) {
-        Field::End(next) => next,
-        Field::Fault(f) => {
-            return Heading::Bad(f);
-        }
-    };
-    let Number32::Value(count, r) = num::u32_at(s, q) else {
-        return Heading::Bad(Refusal::CutShort);
-    };
+    let q = types::name_at(s, at, setting)?;
+    let (count, r) = num::u32_at(s, q).ok_or(Refusal::CutShort)?;
     if num::is_negative(count) {
-        return Heading::Bad(Refusal::BadCount);
+        return Err(Refusal::BadCount);
     }
     class_info::members_at(s, table, n, own, id, count, r, setting)
 }
@@ -60,15 +53,13 @@ pub fn class_at(
     own: bool,
     at: usize,
     setting: Setting,
-) -> Heading
+) -> Result<Head, Refusal>
     requires { (n ≤ room_of table.now) × (length s.now ≤ 16777216) × (at < length s.now) }
     ensures { result ≡ class_at setting s.now (rows_of n table.now) own at }
 {
-    let Number32::Value(id, p) = num::u32_at(s, at + 1) else {
-        return Heading::Bad(Refusal::CutShort);
-    };
+    let (id, p) = num::u32_at(s, at + 1).ok_or(Refusal::CutShort)?;
     if is_free_class_id(table, n, ObjectNo(id)) {
         return named_class_at(s, table, n, own, id, p, setting);
     }
-    Heading::Bad(Refusal::BadId)
+    Err(Refusal::BadId)
 }

@@ -4,7 +4,7 @@
 ghost use Rattle.std.specs.Prelude.{◌≡◌, get_or};
 ghost use Rattle.format.specs.Types.{primitive_of, coded, code_at, type_byte_at};
 
-use format::{Coded, Field, PrimitiveCode, Refusal};
+use format::{PrimitiveCode, Refusal};
 
 // The byte at a place; 0 past the end.
 pub fn byte_at(s: &[u8], p: usize) -> u8
@@ -19,61 +19,58 @@ pub fn byte_at(s: &[u8], p: usize) -> u8
 // ---- primitive codes
 
 // The code of a byte; 4, 17, 18 and all others are none.
-pub fn primitive_of(b: u8) -> Coded
+pub fn primitive_of(b: u8) -> Option<PrimitiveCode>
     ensures { result ≡ primitive_of b }
 {
     match b {
-        1 => Coded::Code(PrimitiveCode::Boolean),
-        2 => Coded::Code(PrimitiveCode::Byte),
-        3 => Coded::Code(PrimitiveCode::Char),
-        5 => Coded::Code(PrimitiveCode::Decimal),
-        6 => Coded::Code(PrimitiveCode::Double),
-        7 => Coded::Code(PrimitiveCode::Int16),
-        8 => Coded::Code(PrimitiveCode::Int32),
-        9 => Coded::Code(PrimitiveCode::Int64),
-        10 => Coded::Code(PrimitiveCode::SByte),
-        11 => Coded::Code(PrimitiveCode::Single),
-        12 => Coded::Code(PrimitiveCode::TimeSpan),
-        13 => Coded::Code(PrimitiveCode::DateTime),
-        14 => Coded::Code(PrimitiveCode::UInt16),
-        15 => Coded::Code(PrimitiveCode::UInt32),
-        16 => Coded::Code(PrimitiveCode::UInt64),
-        _ => Coded::NoCode,
+        1 => Some(PrimitiveCode::Boolean),
+        2 => Some(PrimitiveCode::Byte),
+        3 => Some(PrimitiveCode::Char),
+        5 => Some(PrimitiveCode::Decimal),
+        6 => Some(PrimitiveCode::Double),
+        7 => Some(PrimitiveCode::Int16),
+        8 => Some(PrimitiveCode::Int32),
+        9 => Some(PrimitiveCode::Int64),
+        10 => Some(PrimitiveCode::SByte),
+        11 => Some(PrimitiveCode::Single),
+        12 => Some(PrimitiveCode::TimeSpan),
+        13 => Some(PrimitiveCode::DateTime),
+        14 => Some(PrimitiveCode::UInt16),
+        15 => Some(PrimitiveCode::UInt32),
+        16 => Some(PrimitiveCode::UInt64),
+        _ => None,
     }
 }
 
 // The code of a byte that was found to be one; Byte for any other.
-pub fn coded_of(c: Coded) -> PrimitiveCode
+pub fn coded_of(c: Option<PrimitiveCode>) -> PrimitiveCode
     ensures { result ≡ coded c }
 {
-    match c {
-        Coded::Code(code) => code,
-        Coded::NoCode => PrimitiveCode::Byte,
-    }
+    c.unwrap_or(PrimitiveCode::Byte)
 }
 
-pub fn code_at(s: &[u8], at: usize) -> Field
+pub fn code_at(s: &[u8], at: usize) -> Result<usize, Refusal>
     ensures { result ≡ code_at s.now at }
 {
     if s.len() <= at {
-        return Field::Fault(Refusal::CutShort);
+        return Err(Refusal::CutShort);
     }
     match primitive_of(s[at]) {
-        Coded::Code(_) => Field::End(at + 1),
-        Coded::NoCode => Field::Fault(Refusal::BadType),
+        Some(_) => Ok(at + 1),
+        None => Err(Refusal::BadType),
     }
 }
 
 // ---- types and their details
 
-pub fn type_byte_at(s: &[u8], at: usize) -> Field
+pub fn type_byte_at(s: &[u8], at: usize) -> Result<usize, Refusal>
     ensures { result ≡ type_byte_at s.now at }
 {
     if s.len() <= at {
-        return Field::Fault(Refusal::CutShort);
+        return Err(Refusal::CutShort);
     }
     if s[at] > 7 {
-        return Field::Fault(Refusal::BadType);
+        return Err(Refusal::BadType);
     }
-    Field::End(at + 1)
+    Ok(at + 1)
 }

@@ -1,5 +1,6 @@
 -- What is gathered and written before and after a row, the copy row by row, and the answers of the copying: one law for each way that a function ends.
-use Rattle.std.specs.Prelude.{ℕ, ◌+◌, ◌-◌, ◌*◌, ◌≤◌, ◌<◌, ◌≡◌, Bool, false, length, eqb}
+use Rattle.std.specs.Prelude.{ℕ, ◌+◌, ◌-◌, ◌*◌, ◌≤◌, ◌<◌, ◌≡◌, Bool, false, length, eqb, Ok, Err}
+use Rattle.format.specs.declared.Untidied.TheVariants as A
 use Rattle.std.proofs.Math.Path.{refl, sym, ap, subst}
 use Rattle.std.proofs.Common.{◌∙◌, add-one, drop_of_length-le, drop-cons}
 use Rattle.std.proofs.Math.Bool.{true}
@@ -9,7 +10,6 @@ use Rattle.std.proofs.Math.ListN.{get_or, drop}
 use borrow.Author.Tests.{eq-eqb, ne_eqb, eqb-true, le-leb, lt-leb}
 use borrow.Rule.Slice.PartMut.{put_mid, mid_of}
 use Rattle.format.specs.declared.Row.{Row}
-use Rattle.format.specs.declared.TidyAnswer.TheVariants as A
 use Rattle.format.specs.Bytes.{pick}
 use Rattle.format.specs.Rows.{blank}
 use Rattle.format.specs.Says.{is_nulls}
@@ -189,13 +189,13 @@ module _ (b d x : List ℕ) (t : ℕ) (l : length b ≤ most) (q : t ≡ capped 
   total : t ≡ length b
   total = q ∙ capped_below (length b) l
 
-  pub full_room : length d < t → (A.OutFull t ≡ answer_by b d) × (x ≡ out_by b d)
+  pub full_room : length d < t → (Err (A.OutFull t) ≡ answer_by b d) × (x ≡ out_by b d)
   full_room h = (rw (← total, lt-leb _ _ h), rw (← total, lt-leb _ _ h) z)
 
-  pub full_limit : t ≤ length d → 16777216 < t → (A.OutFull t ≡ answer_by b d) × (x ≡ out_by b d)
+  pub full_limit : t ≤ length d → 16777216 < t → (Err (A.OutFull t) ≡ answer_by b d) × (x ≡ out_by b d)
   full_limit k h = (rw (← total, le-leb _ _ k, lt-leb _ _ h), rw (← total, le-leb _ _ k, lt-leb _ _ h) z)
 
-  pub copied_all : (e : List ℕ) (r : ℕ) → t ≤ length d → t ≤ 16777216 → Filled b x e r → (A.Written t ≡ answer_by b d) × (e ≡ out_by b d)
+  pub copied_all : (e : List ℕ) (r : ℕ) → t ≤ length d → t ≤ 16777216 → Filled b x e r → (Ok t ≡ answer_by b d) × (e ≡ out_by b d)
   copied_all e r k h f =
       let n = total in
       let w : length b ≤ length x = rw z (omega arith) in

@@ -11,7 +11,7 @@ ghost use Rattle.put.specs.Put.{Filled};
 ghost use Rattle.copying.specs.Laws.{is_more};
 ghost use Rattle.pieces.specs.Copy.{is_passed, before_out, run_after, row_out, copy_of};
 
-use format::{Reader, Row, TidyAnswer};
+use format::{Reader, Row, Untidied};
 use pieces::Gathered;
 
 // ---- null runs
@@ -143,17 +143,23 @@ fn copy_all(out: &mut [u8], s: &[u8], table: &[u32], n: usize, anew: u32) -> usi
 }
 
 // The copy, or nothing where it does not fit; its length either way.
-pub fn copied(out: &mut [u8], s: &[u8], table: &[u32], n: usize, anew: u32) -> TidyAnswer
+pub fn copied(
+    out: &mut [u8],
+    s: &[u8],
+    table: &[u32],
+    n: usize,
+    anew: u32,
+) -> Result<usize, Untidied>
     requires { (n ≤ room_of table.now) × (n ≤ 16777216) × (length (copy_of anew s.now (rows_of n table.now)) ≤ 18446744073709551615) }
     ensures { (result ≡ answer_by (copy_of anew s.now (rows_of n table.now)) out.old) × (out.new ≡ out_by (copy_of anew s.now (rows_of n table.now)) out.old) }
 {
     let total = copy_all(&mut out[0..0], s, table, n, anew);
     if out.len() < total {
-        return TidyAnswer::OutFull(total);
+        return Err(Untidied::OutFull(total));
     }
     if Reader::LIMIT < total {
-        return TidyAnswer::OutFull(total);
+        return Err(Untidied::OutFull(total));
     }
     copy_all(out, s, table, n, anew);
-    TidyAnswer::Written(total)
+    Ok(total)
 }

@@ -1,12 +1,12 @@
 -- What a caller learns of a list from the promises of the public jobs alone: what an answer of reading says about the list's readings, that tidy
 -- copies tell whether two lists say the same, and that a copy is read and tidied again.
-use Rattle.std.specs.Prelude.{ℕ, ◌/◌, ◌≤◌, ◌≡◌, refl, ◌↔◌, true, List, length, take, drop, leb}
+use Rattle.std.specs.Prelude.{ℕ, ◌/◌, ◌≤◌, ◌≡◌, refl, ◌↔◌, true, List, length, take, drop, leb, Result, Ok, Err}
+use Rattle.format.specs.declared.Refused.{Refused}
+use Rattle.format.specs.declared.Untidied.{Untidied}
+use Rattle.format.specs.declared.Untidied.TheVariants as Q
 use Rattle.std.proofs.Common.{sym, ap, subst, ◌∙◌, arith, length-append, length-drop, drop_at, leb-true}
 use Rattle.std.proofs.Math.Seq.{take-append_seam}
 use Rattle.format.specs.Terms.{Terms}
-use Rattle.format.specs.declared.ReadAnswer.{ReadAnswer}
-use Rattle.format.specs.declared.TidyAnswer.{TidyAnswer}
-use Rattle.format.specs.declared.TidyAnswer.TheVariants as Q
 use Rattle.format.specs.declared.Row.{Row}
 use Rattle.format.specs.Bytes.{laid}
 use Rattle.format.specs.Rows.{room_of}
@@ -42,15 +42,15 @@ record CopyFits (β s d : List ℕ) (o : Outcome) (n : ℕ) : Type 0 where
   size : length (tidy_of (says β s rows)) ≡ n
   room : fits (tidy_of (says β s rows)) d ≡ true
 
-wrote : (β s d : List ℕ) (o : Outcome) (n : ℕ) → Q.Written n ≡ tidy_answer β s d o → CopyFits β s d o n
+wrote : (β s d : List ℕ) (o : Outcome) (n : ℕ) → Ok n ≡ tidy_answer β s d o → CopyFits β s d o n
 unfolding tidy_answer
 wrote β s d (accepted rows) n e =
     let c : List ℕ = tidy_of (says β s rows) in
-    let x = told (fits c d) (Q.Written (length c)) (Q.OutFull (length c)) (Q.Written n) (sym e) (λ h. let z : ◌≡◌ {A = ℕ} 0 1 = cc in omega arith) in
+    let x = told (fits c d) (Ok (length c)) (Err (Q.OutFull (length c))) (Ok n) (sym e) (λ h. let z : ◌≡◌ {A = ℕ} 0 1 = cc in omega arith) in
     record { rows = rows; taken = refl; size = (let y = x.1 in cc); room = x.0 }
 wrote β s d (refused r p) n e = absurd (let z : ◌≡◌ {A = ℕ} 0 1 = cc in omega arith)
 
-pub tidy_writes : (τ : Terms) (s t d : List ℕ) → Bytes τ.book → Bytes s → (n : ℕ) (u e : List ℕ) → TidyPromise τ s t d (Q.Written n) u e → Tidied τ s t d n u e
+pub tidy_writes : (τ : Terms) (s t d : List ℕ) → Bytes τ.book → Bytes s → (n : ℕ) (u e : List ℕ) → TidyPromise τ s t d (Ok n) u e → Tidied τ s t d n u e
 unfolding tidy_table tidy_output table_words
 tidy_writes τ s t d booked byte n u e p =
     let o = read_of τ s (room_of t) in
@@ -84,8 +84,8 @@ copy_of τ s t d n u e x rows w =
     (reading_unique τ s x.rows rows x.reads w) (x.copy_is, x.small)
 
 -- two calls that both answer Written, each under its own terms, leave equal copies exactly when the lists say the same
-pub two_tidied : (τ : Terms) (s t d : List ℕ) → Bytes τ.book → Bytes s → (n : ℕ) (u e : List ℕ) → TidyPromise τ s t d (Q.Written n) u e
-    → (τ' : Terms) (s' t' d' : List ℕ) → Bytes τ'.book → Bytes s' → (m : ℕ) (u' e' : List ℕ) → TidyPromise τ' s' t' d' (Q.Written m) u' e'
+pub two_tidied : (τ : Terms) (s t d : List ℕ) → Bytes τ.book → Bytes s → (n : ℕ) (u e : List ℕ) → TidyPromise τ s t d (Ok n) u e
+    → (τ' : Terms) (s' t' d' : List ℕ) → Bytes τ'.book → Bytes s' → (m : ℕ) (u' e' : List ℕ) → TidyPromise τ' s' t' d' (Ok m) u' e'
     → (rows others : List Row) → Reading τ s rows → Reading τ' s' others → SayTheSame τ.book s rows τ'.book s' others ↔ (take n e ≡ take m e')
 two_tidied τ s t d booked byte n u e p τ' s' t' d' booked' byte' m u' e' p' rows others w w' =
     let a = copy_of τ s t d n u e (tidy_writes τ s t d booked byte n u e p) rows w in
@@ -94,7 +94,7 @@ two_tidied τ s t d booked byte n u e p τ' s' t' d' booked' byte' m u' e' p' ro
     (λ h. a.0 ∙ (x.0 h ∙ sym b.0), λ h. x.1 (sym a.0 ∙ (h ∙ b.0)))
 
 -- after a call that answers Written n, under any terms with a good book and with a table as long as the one that was lent
-module _ (τ : Terms) (s t d : List ℕ) (booked : Bytes τ.book) (byte : Bytes s) (n : ℕ) (u e : List ℕ) (p : TidyPromise τ s t d (Q.Written n) u e) (l : List ℕ) (as_long : length l ≡ length t) where
+module _ (τ : Terms) (s t d : List ℕ) (booked : Bytes τ.book) (byte : Bytes s) (n : ℕ) (u e : List ℕ) (p : TidyPromise τ s t d (Ok n) u e) (l : List ℕ) (as_long : length l ≡ length t) where
   abbrev rows : List Row
   rows = (tidy_writes τ s t d booked byte n u e p).rows
 
@@ -122,7 +122,7 @@ module _ (τ : Terms) (s t d : List ℕ) (booked : Bytes τ.book) (byte : Bytes 
       }
 
   -- reading the copy answers Accepted, with no more rows than the list has, and by any book the copy says what the list said
-  pub tidied_read : (υ : Terms) (cs : List Class) → Book υ.book cs → (a : ReadAnswer) (v : List ℕ) → ReadPromise υ (take n e) l a v → CopyShown τ υ s (take n e) l a v
+  pub tidied_read : (υ : Terms) (cs : List Class) → Book υ.book cs → (a : Result ℕ Refused) (v : List ℕ) → ReadPromise υ (take n e) l a v → CopyShown τ υ s (take n e) l a v
   tidied_read υ cs book a v q =
       let x = again in
       let r = (tidy_writes τ s t d booked byte n u e p).reads in
@@ -137,8 +137,8 @@ module _ (τ : Terms) (s t d : List ℕ) (booked : Bytes τ.book) (byte : Bytes 
       }
 
   -- tidying the copy writes the copy, into any output that holds it
-  pub tidied_again : (υ : Terms) (cs : List Class) → Book υ.book cs → (f : List ℕ) → n ≤ length f → (q : TidyAnswer) (v g : List ℕ) → TidyPromise υ (take n e) l f q v g
-      → (q ≡ Q.Written n) × ((g ≡ laid (take n e) f) × (take n g ≡ take n e))
+  pub tidied_again : (υ : Terms) (cs : List Class) → Book υ.book cs → (f : List ℕ) → n ≤ length f → (q : Result ℕ Untidied) (v g : List ℕ) → TidyPromise υ (take n e) l f q v g
+      → (q ≡ Ok n) × ((g ≡ laid (take n e) f) × (take n g ≡ take n e))
   tidied_again υ cs book f room q v g z =
       let x = tidy_writes τ s t d booked byte n u e p in
       let y = again in
@@ -151,6 +151,6 @@ module _ (τ : Terms) (s t d : List ℕ) (booked : Bytes τ.book) (byte : Bytes 
       let few : n ≤ 16777216 = subst (λ (j : ℕ). j ≤ 16777216) x.size x.small in
       let o = tidy_written υ (take n e) l f y.copies (y.reads υ cs book) y.fit (omega arith) (omega arith) q v g z in
       let wrote : g ≡ laid (take n e) f = o.1.1 ∙ ap (λ (c : List ℕ). laid c f) same in (
-        o.0 ∙ ap Q.Written k,
+        o.0 ∙ ap Ok k,
         (wrote, ap (take n) wrote ∙ (ap (λ (j : ℕ). take j (laid (take n e) f)) (sym size) ∙ take_laid (take n e) f)),
       )

@@ -1,16 +1,15 @@
 -- What strict accepts, lenient accepts, with the same book and the same rows: a reading goes over to terms that take every prefix that its own take,
 -- constructor by constructor. And what a caller of reading or tidying learns of it, from the promises alone.
-use Rattle.std.specs.Prelude.{ℕ, ◌≤◌, ◌≡◌, Bool, true, false, List, length}
+use Rattle.std.specs.Prelude.{ℕ, ◌≤◌, ◌≡◌, Bool, true, false, List, length, Result, Ok, Err}
+use Rattle.format.specs.declared.Refused.{Refused}
+use Rattle.format.specs.declared.Untidied.{Untidied}
+use Rattle.format.specs.declared.Untidied.TheVariants as Q
 use Rattle.std.proofs.Math.Path.{refl, ap}
 use Rattle.std.proofs.Common.{sym, subst, ◌∙◌}
 use Rattle.format.specs.declared.Setting.TheVariants as S
 use Rattle.format.specs.declared.PrimitiveCode.{PrimitiveCode}
 use Rattle.format.specs.declared.SlotType.{SlotType}
 use Rattle.format.specs.declared.Refusal.{Refusal}
-use Rattle.format.specs.declared.ReadAnswer.{ReadAnswer}
-use Rattle.format.specs.declared.ReadAnswer.TheVariants as A
-use Rattle.format.specs.declared.TidyAnswer.{TidyAnswer}
-use Rattle.format.specs.declared.TidyAnswer.TheVariants as Q
 use Rattle.format.specs.declared.Row.{Row}
 use Rattle.format.specs.Terms.{Terms, terms}
 use Rattle.format.specs.Rows.{room_of}
@@ -141,20 +140,20 @@ module _ (β : List ℕ) where
   -- ---- reading
 
   -- a list that strict accepts: lenient answers the same and leaves the same table
-  pub read_more : (s t : List ℕ) → Bytes β → Bytes s → (n : ℕ) (u : List ℕ) → ReadPromise strict s t (A.Accepted n) u → (a : ReadAnswer) (v : List ℕ) → ReadPromise lenient s t a v
-      → (a ≡ A.Accepted n) × (v ≡ u)
+  pub read_more : (s t : List ℕ) → Bytes β → Bytes s → (n : ℕ) (u : List ℕ) → ReadPromise strict s t (Ok n) u → (a : Result ℕ Refused) (v : List ℕ) → ReadPromise lenient s t a v
+      → (a ≡ Ok n) × (v ≡ u)
   read_more s t booked byte n u p a v q =
       let x = accepted_of (read_of strict s (room_of t)) n p.answer in
       let e = lenient_accepts s booked byte (room_of t) x.0 x.1 ∙ sym x.1 in
       (q.answer ∙ (ap read_answer e ∙ sym p.answer), q.table ∙ (ap (table_words (length t)) e ∙ sym p.table))
 
   -- what lenient refuses, strict refuses, be it with another number or at another place
-  pub strict_refuses : (s t : List ℕ) → Bytes β → Bytes s → (r : Refusal) (place : ℕ) (u : List ℕ) → ReadPromise lenient s t (A.Refused r place) u
-      → (a : ReadAnswer) (v : List ℕ) → ReadPromise strict s t a v → (x : Refusal) × (y : ℕ) × (a ≡ A.Refused x y)
+  pub strict_refuses : (s t : List ℕ) → Bytes β → Bytes s → (r : Refusal) (place : ℕ) (u : List ℕ) → ReadPromise lenient s t (Err (record { refusal = r; place = place })) u
+      → (a : Result ℕ Refused) (v : List ℕ) → ReadPromise strict s t a v → (x : Refusal) × (y : ℕ) × (a ≡ Err (record { refusal = x; place = y }))
   unfolding read_answer
   strict_refuses s t booked byte r place u p a v q = go (read_of strict s (room_of t)) refl
     where
-      go : (o : Outcome) → read_of strict s (room_of t) ≡ o → (x : Refusal) × (y : ℕ) × (a ≡ A.Refused x y)
+      go : (o : Outcome) → read_of strict s (room_of t) ≡ o → (x : Refusal) × (y : ℕ) × (a ≡ Err (record { refusal = x; place = y }))
       go (accepted rows) e =
           absurd (not_both rows r place (sym (lenient_accepts s booked byte (room_of t) rows e) ∙ refused_of (read_of lenient s (room_of t)) r place p.answer))
       go (refused x y) e = (x, y, q.answer ∙ ap read_answer e)
@@ -162,8 +161,8 @@ module _ (β : List ℕ) where
   -- ---- tidying
 
   -- one reading for both settings: one answer, one table, one output
-  same_tidied : (s t d : List ℕ) (rows : List Row) → Reading strict s rows → length rows ≤ room_of t → (q : TidyAnswer) (u e : List ℕ) → TidyPromise strict s t d q u e
-      → (o : TidyAnswer) (v f : List ℕ) → TidyPromise lenient s t d o v f → (o ≡ q) × ((v ≡ u) × (f ≡ e))
+  same_tidied : (s t d : List ℕ) (rows : List Row) → Reading strict s rows → length rows ≤ room_of t → (q : Result ℕ Untidied) (u e : List ℕ) → TidyPromise strict s t d q u e
+      → (o : Result ℕ Untidied) (v f : List ℕ) → TidyPromise lenient s t d o v f → (o ≡ q) × ((v ≡ u) × (f ≡ e))
   same_tidied s t d rows w l q u e p o v f z =
       let x = same_outcome s (room_of t) rows w l in (
         z.answer ∙ (ap (tidy_answer β s d) x ∙ sym p.answer),
@@ -171,22 +170,22 @@ module _ (β : List ℕ) where
       )
 
   -- a copy that strict writes, lenient writes
-  pub tidy_more : (s t d : List ℕ) → Bytes β → Bytes s → (n : ℕ) (u e : List ℕ) → TidyPromise strict s t d (Q.Written n) u e
-      → (q : TidyAnswer) (v f : List ℕ) → TidyPromise lenient s t d q v f → (q ≡ Q.Written n) × ((v ≡ u) × (f ≡ e))
+  pub tidy_more : (s t d : List ℕ) → Bytes β → Bytes s → (n : ℕ) (u e : List ℕ) → TidyPromise strict s t d (Ok n) u e
+      → (q : Result ℕ Untidied) (v f : List ℕ) → TidyPromise lenient s t d q v f → (q ≡ Ok n) × ((v ≡ u) × (f ≡ e))
   tidy_more s t d booked byte n u e p =
       let x = tidy_writes strict s t d booked byte n u e p in
-      same_tidied s t d x.rows x.reads x.fit (Q.Written n) u e p
+      same_tidied s t d x.rows x.reads x.fit (Ok n) u e p
 
   -- a copy that strict has no room for, lenient has no room for
-  pub tidy_more_full : (s t d : List ℕ) → Bytes β → Bytes s → (n : ℕ) (u e : List ℕ) → TidyPromise strict s t d (Q.OutFull n) u e
-      → (q : TidyAnswer) (v f : List ℕ) → TidyPromise lenient s t d q v f → (q ≡ Q.OutFull n) × ((v ≡ u) × (f ≡ e))
+  pub tidy_more_full : (s t d : List ℕ) → Bytes β → Bytes s → (n : ℕ) (u e : List ℕ) → TidyPromise strict s t d (Err (Q.OutFull n)) u e
+      → (q : Result ℕ Untidied) (v f : List ℕ) → TidyPromise lenient s t d q v f → (q ≡ Err (Q.OutFull n)) × ((v ≡ u) × (f ≡ e))
   tidy_more_full s t d booked byte n u e p =
       let x = tidy_full strict s t d booked byte n u e p in
-      same_tidied s t d x.rows x.reads x.fit (Q.OutFull n) u e p
+      same_tidied s t d x.rows x.reads x.fit (Err (Q.OutFull n)) u e p
 
   -- what lenient refuses to tidy, strict refuses to tidy
-  pub tidy_strict_refuses : (s t d : List ℕ) → Bytes β → Bytes s → (r : Refusal) (place : ℕ) (u e : List ℕ) → TidyPromise lenient s t d (Q.Refused r place) u e
-      → (q : TidyAnswer) (v f : List ℕ) → TidyPromise strict s t d q v f → (x : Refusal) × (y : ℕ) × (q ≡ Q.Refused x y)
+  pub tidy_strict_refuses : (s t d : List ℕ) → Bytes β → Bytes s → (r : Refusal) (place : ℕ) (u e : List ℕ) → TidyPromise lenient s t d (Err (Q.Refused (record { refusal = r; place = place }))) u e
+      → (q : Result ℕ Untidied) (v f : List ℕ) → TidyPromise strict s t d q v f → (x : Refusal) × (y : ℕ) × (q ≡ Err (Q.Refused (record { refusal = x; place = y })))
   tidy_strict_refuses s t d booked byte r place u e p =
       let x = tidy_refuses lenient s t d r place u e p in
       tidy_none strict s t d booked byte (λ rows w. x.1.1 rows (lenient_more s rows w))

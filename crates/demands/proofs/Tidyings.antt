@@ -1,9 +1,9 @@
 -- What a caller of the tidy job learns where no copy was written: a refusal is that of the reading, with the table all zeros and the output as it was;
 -- a copy that has no room is announced with its length. And which lists come to that.
-use Rattle.std.specs.Prelude.{ℕ, ◌<◌, ◌≡◌, refl, ◌⊎◌, Bool, true, false, ◌&&◌, List, length, leb}
+use Rattle.std.specs.Prelude.{ℕ, ◌<◌, ◌≡◌, refl, ◌⊎◌, Bool, true, false, ◌&&◌, List, length, leb, Ok, Err}
+use Rattle.format.specs.declared.Untidied.TheVariants as Q
 use Rattle.std.proofs.Common.{sym, ap, subst, ◌∙◌, inl, inr, arith, leb-false}
 use Rattle.format.specs.Terms.{Terms}
-use Rattle.format.specs.declared.TidyAnswer.TheVariants as Q
 use Rattle.format.specs.declared.Row.{Row}
 use Rattle.format.specs.Rows.{room_of}
 use Rattle.format.specs.Machine.{Outcome, accepted, refused, read_of}
@@ -21,11 +21,11 @@ record CopyOver (β s d : List ℕ) (o : Outcome) (n : ℕ) : Type 0 where
   size : length (tidy_of (says β s rows)) ≡ n
   room : fits (tidy_of (says β s rows)) d ≡ false
 
-full_by : (β s d : List ℕ) (o : Outcome) (n : ℕ) → Q.OutFull n ≡ tidy_answer β s d o → CopyOver β s d o n
+full_by : (β s d : List ℕ) (o : Outcome) (n : ℕ) → Err (Q.OutFull n) ≡ tidy_answer β s d o → CopyOver β s d o n
 unfolding tidy_answer
 full_by β s d (accepted rows) n e =
     let c : List ℕ = tidy_of (says β s rows) in
-    let x = other (fits c d) (Q.Written (length c)) (Q.OutFull (length c)) (Q.OutFull n) (sym e) (λ h. let z : ◌≡◌ {A = ℕ} 0 1 = cc in omega arith) in
+    let x = other (fits c d) (Ok (length c)) (Err (Q.OutFull (length c))) (Err (Q.OutFull n)) (sym e) (λ h. let z : ◌≡◌ {A = ℕ} 0 1 = cc in omega arith) in
     record { rows = rows; taken = refl; size = (let y = x.1 in cc); room = x.0 }
 full_by β s d (refused r p) n e = absurd (let z : ◌≡◌ {A = ℕ} 0 1 = cc in omega arith)
 
@@ -37,7 +37,7 @@ over_of n m e = go (leb n m) refl e
     go true q e = inr (leb-false n 16777216 e)
     go false q e = inl (leb-false n m q)
 
-pub tidy_full : (τ : Terms) (s t d : List ℕ) → Bytes τ.book → Bytes s → (n : ℕ) (u e : List ℕ) → TidyPromise τ s t d (Q.OutFull n) u e → TooLong τ s t d n u e
+pub tidy_full : (τ : Terms) (s t d : List ℕ) → Bytes τ.book → Bytes s → (n : ℕ) (u e : List ℕ) → TidyPromise τ s t d (Err (Q.OutFull n)) u e → TooLong τ s t d n u e
 unfolding tidy_table tidy_output
 tidy_full τ s t d booked byte n u e p =
     let x = full_by τ.book s d (read_of τ s (room_of t)) n p.answer in

@@ -1,6 +1,9 @@
 -- Wrong programs against the demands (01, What the wording must hold): each kind of them, whatever else it computes, fails the demand that is to stop it;
 -- the counter examples are the witnesses.
-use Rattle.std.specs.Prelude.{ℕ, zero, suc, ◌+◌, ◌-◌, ◌*◌, ◌≤◌, ◌≡◌, refl, true, List, [], ◌∷◌, map, length, get_or, take, drop, replicate}
+use Rattle.std.specs.Prelude.{ℕ, zero, suc, ◌+◌, ◌-◌, ◌*◌, ◌≤◌, ◌≡◌, refl, true, List, [], ◌∷◌, map, length, get_or, take, drop, replicate, Result, Ok, Err}
+use Rattle.format.specs.declared.Refused.{Refused}
+use Rattle.format.specs.declared.Untidied.{Untidied}
+use Rattle.format.specs.declared.Untidied.TheVariants as Q
 use Rattle.std.proofs.Common.{sym, ap, subst, ◌∙◌, arith}
 use Rattle.std.proofs.lemmas.List.{length-replicate}
 use Rattle.std.proofs.Math.Seq.{take-append_seam}
@@ -8,10 +11,6 @@ use Rattle.format.specs.Terms.{Terms, terms, strict, lenient}
 use Rattle.format.specs.declared.Setting.{Setting}
 use Rattle.format.specs.declared.Refusal.{Refusal}
 use Rattle.format.specs.declared.Refusal.TheVariants as R
-use Rattle.format.specs.declared.ReadAnswer.{ReadAnswer}
-use Rattle.format.specs.declared.ReadAnswer.TheVariants as A
-use Rattle.format.specs.declared.TidyAnswer.{TidyAnswer}
-use Rattle.format.specs.declared.TidyAnswer.TheVariants as Q
 use Rattle.format.specs.declared.Row.{Row}
 use Rattle.format.specs.Bytes.{laid}
 use Rattle.format.specs.Numbers.{le, u32_at, le_bytes}
@@ -139,13 +138,13 @@ pub fixed_rows : (τ : Terms) → GoodBook τ.book → (fixed : List Row) → De
 fixed_rows τ good fixed = one_row_set τ good _ fixed (λ s room rows e. same_rows e)
 
 -- the same of jobs with a table: nothing accepted
-pub table_refuses_all : (τ : Terms) → GoodBook τ.book → (job : Filler) → ((s t : List ℕ) (n : ℕ) → (job s t).0 ≡ A.Accepted n → ⊥) → Demand2Table τ job → ⊥
+pub table_refuses_all : (τ : Terms) → GoodBook τ.book → (job : Filler) → ((s t : List ℕ) (n : ℕ) → (job s t).0 ≡ Ok n → ⊥) → Demand2Table τ job → ⊥
 table_refuses_all τ good job none demand =
     let t : List ℕ = replicate 32 0 in
     none case2 t (length rows2) (demand.taken case2 t bytes_2 rows2 (reads_2 τ good) (omega (arith, counts.0))).0
 
 -- and one row set in the table of every list that is accepted
-pub table_one_row_set : (τ : Terms) → GoodBook τ.book → (job : Filler) (fixed : List Row) → ((s t : List ℕ) (n : ℕ) → (job s t).0 ≡ A.Accepted n → (job s t).1 ≡ tabled (length t) fixed)
+pub table_one_row_set : (τ : Terms) → GoodBook τ.book → (job : Filler) (fixed : List Row) → ((s t : List ℕ) (n : ℕ) → (job s t).0 ≡ Ok n → (job s t).1 ≡ tabled (length t) fixed)
     → Demand2Table τ job → ⊥
 table_one_row_set τ good job fixed one demand =
     let t : List ℕ = replicate 32 0 in
@@ -160,7 +159,7 @@ table_one_row_set τ good job fixed one demand =
     let e : length rows2 ≡ length rows7 = sym c ∙ (ap shown_in (sym x.1 ∙ (a ∙ (sym b ∙ y.1))) ∙ d) in
     omega arith
 
-pub table_fixed_rows : (τ : Terms) → GoodBook τ.book → (fixed : List Row) → Demand2Table τ (λ s t. (A.Accepted (length fixed), tabled (length t) fixed)) → ⊥
+pub table_fixed_rows : (τ : Terms) → GoodBook τ.book → (fixed : List Row) → Demand2Table τ (λ s t. (Ok (length fixed), tabled (length t) fixed)) → ⊥
 table_fixed_rows τ good fixed = table_one_row_set τ good _ fixed (λ s t n e. refl)
 
 -- one reader for both settings: whatever it says of counter example 6 is wrong under one of them
@@ -193,10 +192,10 @@ book_when_needed job late keeps =
     let w = reads_2 strict no_bytes in
     let a = (read_accepted strict case2 t rows2 w (omega (arith, counts.0)) _ _ (keeps strict case2 t)).0 in
     let b = (book_first_lem (terms σ β) case2 (omega (arith, length_2)) t 0 bad_2 _ _ (keeps (terms σ β) case2 t)).0 in
-    let e : (job (terms σ β) case2 t).0 ≡ (job strict case2 t).0 = ap (λ (x : ReadAnswer × List ℕ). x.0) (late σ β case2 t rows2 w plain_2) in
+    let e : (job (terms σ β) case2 t).0 ≡ (job strict case2 t).0 = ap (λ (x : Result ℕ Refused × List ℕ). x.0) (late σ β case2 t rows2 w plain_2) in
     accepted_refused (length rows2) R.BadBook 0 (sym a ∙ (sym e ∙ b))
   where
-    accepted_refused : (n : ℕ) (r : Refusal) (place : ℕ) → A.Accepted n ≡ A.Refused r place → ⊥
+    accepted_refused : (n : ℕ) (r : Refusal) (place : ℕ) → ◌≡◌ {A = Result ℕ Refused} (Ok n) (Err (record { refusal = r; place = place })) → ⊥
     accepted_refused n r place e = let z : ◌≡◌ {A = ℕ} 0 1 = cc in omega arith
 
 -- ---- tidy jobs
@@ -245,10 +244,10 @@ no_255 τ (suc k) zero rows w = none_empty τ rows w
 no_255 τ (suc k) (suc n) rows w = let z : ◌≡◌ {A = ℕ} 255 0 = ap (λ (l : List ℕ). get_or l 0 0) w.bytes_are in omega arith
 
 -- what is left of an output of these bytes has no reading, whatever was answered
-none_left : (τ : Terms) (q : TidyAnswer) (n : ℕ) (rows : List Row) → Reading τ (written_in q (replicate n 255)) rows → ⊥
-none_left τ (Q.Written k) n rows w = no_255 τ k n rows w
-none_left τ (Q.Refused r place) n rows w = none_empty τ rows w
-none_left τ (Q.OutFull k) n rows w = none_empty τ rows w
+none_left : (τ : Terms) (q : Result ℕ Untidied) (n : ℕ) (rows : List Row) → Reading τ (written_in q (replicate n 255)) rows → ⊥
+none_left τ (Ok k) n rows w = no_255 τ k n rows w
+none_left τ (Err (Q.Refused r)) n rows w = none_empty τ rows w
+none_left τ (Err (Q.OutFull k)) n rows w = none_empty τ rows w
 
 row_each_lem : (s : List ℕ) → length s ≤ room_of (row_each s)
 row_each_lem s = let z = length-replicate {A = ℕ} (8 * length s) 0 in omega arith
@@ -265,7 +264,7 @@ writes_nothing τ good job leaves demand = go 16777216 (omega arith)
         let q = (job τ case2 (row_each case2) d).0 in
         none_left τ q n x.copies (subst (λ (e : List ℕ). Reading τ (written_in q e) x.copies) (leaves case2 (row_each case2) d) (x.reads τ (reads_2 τ good).classes (reads_2 τ good).book_is))
 
-pub nothing_written_lem : (answer : List ℕ → List ℕ → List ℕ → TidyAnswer) (table : List ℕ → List ℕ → List ℕ → List ℕ)
+pub nothing_written_lem : (answer : List ℕ → List ℕ → List ℕ → Result ℕ Untidied) (table : List ℕ → List ℕ → List ℕ → List ℕ)
     → Demand3Job (nothing_written answer table) → ⊥
 nothing_written_lem answer table = writes_nothing strict no_bytes (nothing_written answer table) (λ s t d. refl)
 
@@ -344,7 +343,7 @@ tidy_first_only_lem =
 -- ---- an invented row count
 
 -- a job that shows the reading and keeps the table rule answers the number of rows
-pub count_settled : (τ : Terms) (job : Filler) → TableRule job → (s t : List ℕ) → Bytes s → (n : ℕ) → (job s t).0 ≡ A.Accepted n → (rows : List Row) → Reading τ s rows
+pub count_settled : (τ : Terms) (job : Filler) → TableRule job → (s t : List ℕ) → Bytes s → (n : ℕ) → (job s t).0 ≡ Ok n → (rows : List Row) → Reading τ s rows
     → length rows ≤ room_of t → (job s t).1 ≡ tabled (length t) rows → n ≡ length rows
 count_settled τ job rule s t byte n e rows w fit q = sym (rule s t byte n e) ∙ (ap shown_in q ∙ shown_rows τ w t fit)
 
@@ -353,8 +352,8 @@ pub invented_count : (τ : Terms) (count : List ℕ → List ℕ → ℕ) → Ta
     → length rows ≤ room_of t → count s t ≡ length rows
 unfolding invented table_words
 invented_count τ count rule s t byte rows w fit =
-    let e : invented τ count s t ≡ (A.Accepted (count s t), tabled (length t) rows) = ap (count_by (count s t) (length t)) (accepts τ w (room_of t) fit) in
-    count_settled τ (invented τ count) rule s t byte (count s t) (ap (λ (x : ReadAnswer × List ℕ). x.0) e) rows w fit (ap (λ (x : ReadAnswer × List ℕ). x.1) e)
+    let e : invented τ count s t ≡ (Ok (count s t), tabled (length t) rows) = ap (count_by (count s t) (length t)) (accepts τ w (room_of t) fit) in
+    count_settled τ (invented τ count) rule s t byte (count s t) (ap (λ (x : Result ℕ Refused × List ℕ). x.0) e) rows w fit (ap (λ (x : Result ℕ Refused × List ℕ). x.1) e)
 
 -- one count for all lists
 pub fixed_count : (τ : Terms) → GoodBook τ.book → (k : ℕ) → TableRule (invented τ (λ s t. k)) → ⊥

@@ -1,6 +1,9 @@
 -- The class book (02, (ii)) as a caller learns of it: where an entry is bad, reading and tidying answer so, at its place, whatever the list within the
 -- stream limit is; and while no record can need the book, all good ones are alike.
-use Rattle.std.specs.Prelude.{ℕ, ◌+◌, ◌≤◌, ◌≡◌, refl, List, [], length, replicate, ltb}
+use Rattle.std.specs.Prelude.{ℕ, ◌+◌, ◌≤◌, ◌≡◌, refl, List, [], length, replicate, ltb, Result, Err}
+use Rattle.format.specs.declared.Refused.{Refused}
+use Rattle.format.specs.declared.Untidied.{Untidied}
+use Rattle.format.specs.declared.Untidied.TheVariants as Q
 use Rattle.std.proofs.Math.Path.{ap}
 use Rattle.std.proofs.Common.{◌∙◌}
 use native.Mathlib.Omega.{arith}
@@ -8,10 +11,6 @@ use borrow.Author.Tests.{le-ltb, eq-eqb, ne_eqb}
 use Rattle.format.specs.Terms.{Terms, terms}
 use Rattle.format.specs.declared.Setting.{Setting}
 use Rattle.format.specs.declared.Refusal.TheVariants as R
-use Rattle.format.specs.declared.ReadAnswer.{ReadAnswer}
-use Rattle.format.specs.declared.ReadAnswer.TheVariants as A
-use Rattle.format.specs.declared.TidyAnswer.{TidyAnswer}
-use Rattle.format.specs.declared.TidyAnswer.TheVariants as Q
 use Rattle.format.specs.Bytes.{pick}
 use Rattle.format.specs.Book.{book_bytes}
 use Rattle.format.specs.Entries.{bad_entry, bad_from}
@@ -61,16 +60,16 @@ module _ (τ : Terms) (s : List ℕ) (small : length s ≤ 16777216) where
   -- ---- from the promises
 
   -- the table is then all zeros
-  pub book_first_lem : (t : List ℕ) (p : ℕ) → bad_entry τ.book ≡ p + 1 → (a : ReadAnswer) (u : List ℕ) → ReadPromise τ s t a u
-      → (a ≡ A.Refused R.BadBook p) × (u ≡ replicate (length t) 0)
+  pub book_first_lem : (t : List ℕ) (p : ℕ) → bad_entry τ.book ≡ p + 1 → (a : Result ℕ Refused) (u : List ℕ) → ReadPromise τ s t a u
+      → (a ≡ Err (record { refusal = R.BadBook; place = p })) × (u ≡ replicate (length t) 0)
   unfolding read_answer table_words
   book_first_lem t p e a u w =
       let x = bad_read p e (room_of t) in
       (w.answer ∙ ap read_answer x, w.table ∙ ap (table_words (length t)) x)
 
   -- and the output as it was
-  pub book_first_tidy : (t d : List ℕ) (p : ℕ) → bad_entry τ.book ≡ p + 1 → (q : TidyAnswer) (u e : List ℕ) → TidyPromise τ s t d q u e
-      → (q ≡ Q.Refused R.BadBook p) × ((u ≡ replicate (length t) 0) × (e ≡ d))
+  pub book_first_tidy : (t d : List ℕ) (p : ℕ) → bad_entry τ.book ≡ p + 1 → (q : Result ℕ Untidied) (u e : List ℕ) → TidyPromise τ s t d q u e
+      → (q ≡ Err (Q.Refused (record { refusal = R.BadBook; place = p }))) × ((u ≡ replicate (length t) 0) × (e ≡ d))
   unfolding tidy_answer tidy_table tidy_output
   book_first_tidy t d p e q u f w =
       let x = bad_read p e (room_of t) in

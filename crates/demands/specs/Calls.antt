@@ -1,13 +1,11 @@
 -- What a caller learns of a list from the promises of the public jobs alone: what an answer of reading says about the list's readings, that tidy
 -- copies tell whether two lists say the same, and that a copy is read and tidied again.
-use Rattle.std.specs.Prelude.{ℕ, ◌-◌, ◌*◌, ◌≤◌, ◌≡◌, List, ◌++◌, length, take, drop, replicate}
+use Rattle.std.specs.Prelude.{ℕ, ◌-◌, ◌*◌, ◌≤◌, ◌≡◌, List, ◌++◌, length, take, drop, replicate, Result, Ok, Err}
+use Rattle.format.specs.declared.Refused.{Refused}
+use Rattle.format.specs.declared.Untidied.{Untidied}
 use Rattle.std.proofs.Common.{sym, ap, subst, ◌∙◌, le-leb}
 use Rattle.format.specs.Terms.{Terms}
 use Rattle.format.specs.declared.Refusal.{Refusal}
-use Rattle.format.specs.declared.ReadAnswer.{ReadAnswer}
-use Rattle.format.specs.declared.ReadAnswer.TheVariants as A
-use Rattle.format.specs.declared.TidyAnswer.{TidyAnswer}
-use Rattle.format.specs.declared.TidyAnswer.TheVariants as Q
 use Rattle.format.specs.declared.Row.{Row}
 use Rattle.format.specs.Bytes.{laid}
 use Rattle.format.specs.Rows.{room_of, words}
@@ -35,7 +33,7 @@ pub record HasRows (τ : Terms) (s t : List ℕ) (n : ℕ) (u : List ℕ) : Type
   pub fit : n ≤ room_of t
   pub table_is : u ≡ tabled (length t) rows
 
-pub read_accepts : (τ : Terms) (s t : List ℕ) → Bytes τ.book → Bytes s → (n : ℕ) (u : List ℕ) → ReadPromise τ s t (A.Accepted n) u → HasRows τ s t n u
+pub read_accepts : (τ : Terms) (s t : List ℕ) → Bytes τ.book → Bytes s → (n : ℕ) (u : List ℕ) → ReadPromise τ s t (Ok n) u → HasRows τ s t n u
 unfolding table_words
 read_accepts τ s t booked byte n u p =
     let x = accepted_of (read_of τ s (room_of t)) n p.answer in
@@ -49,15 +47,15 @@ read_accepts τ s t booked byte n u p =
     }
 
 -- a reading whose rows fit the table is accepted
-pub read_accepted : (τ : Terms) (s t : List ℕ) (rows : List Row) → Reading τ s rows → length rows ≤ room_of t → (a : ReadAnswer) (u : List ℕ) → ReadPromise τ s t a u
-    → (a ≡ A.Accepted (length rows)) × (u ≡ tabled (length t) rows)
+pub read_accepted : (τ : Terms) (s t : List ℕ) (rows : List Row) → Reading τ s rows → length rows ≤ room_of t → (a : Result ℕ Refused) (u : List ℕ) → ReadPromise τ s t a u
+    → (a ≡ Ok (length rows)) × (u ≡ tabled (length t) rows)
 unfolding read_answer table_words
 read_accepted τ s t rows w l a u p =
     let e = accepts τ w (room_of t) l in
     (p.answer ∙ ap read_answer e, p.table ∙ ap (table_words (length t)) e)
 
 -- after a refusal the table is all zeros, and no reading fits it
-pub read_refuses : (τ : Terms) (s t : List ℕ) (r : Refusal) (place : ℕ) (u : List ℕ) → ReadPromise τ s t (A.Refused r place) u
+pub read_refuses : (τ : Terms) (s t : List ℕ) (r : Refusal) (place : ℕ) (u : List ℕ) → ReadPromise τ s t (Err (record { refusal = r; place = place })) u
     → (u ≡ replicate (length t) 0) × ((rows : List Row) → Reading τ s rows → length rows ≤ room_of t → ⊥)
 unfolding table_words
 read_refuses τ s t r place u p =
@@ -82,8 +80,8 @@ pub record Tidied (τ : Terms) (s t d : List ℕ) (n : ℕ) (u e : List ℕ) : T
 
 -- a reading whose rows fit the table, and whose copy fits the output and the stream limit, is written
 pub tidy_written : (τ : Terms) (s t d : List ℕ) (rows : List Row) → Reading τ s rows → length rows ≤ room_of t → length (tidy_of (says τ.book s rows)) ≤ length d
-    → length (tidy_of (says τ.book s rows)) ≤ 16777216 → (q : TidyAnswer) (u e : List ℕ) → TidyPromise τ s t d q u e
-    → (q ≡ Q.Written (length (tidy_of (says τ.book s rows)))) × ((u ≡ tabled (length t) rows) × (e ≡ laid (tidy_of (says τ.book s rows)) d))
+    → length (tidy_of (says τ.book s rows)) ≤ 16777216 → (q : Result ℕ Untidied) (u e : List ℕ) → TidyPromise τ s t d q u e
+    → (q ≡ Ok (length (tidy_of (says τ.book s rows)))) × ((u ≡ tabled (length t) rows) × (e ≡ laid (tidy_of (says τ.book s rows)) d))
 unfolding tidy_answer tidy_table tidy_output table_words
 tidy_written τ s t d rows w l within small q u e p =
     let c : List ℕ = tidy_of (says τ.book s rows) in
@@ -95,10 +93,10 @@ tidy_written τ s t d rows w l within small q u e p =
     )
 
 -- the copy c of the list s, which is read under τ; read under υ with a table that held l: a is the answer, and v is then in the table
-pub record CopyShown (τ υ : Terms) (s c l : List ℕ) (a : ReadAnswer) (v : List ℕ) : Type 0 where
+pub record CopyShown (τ υ : Terms) (s c l : List ℕ) (a : Result ℕ Refused) (v : List ℕ) : Type 0 where
   pub copies : List Row
   pub reads : Reading υ c copies
-  pub answer_is : a ≡ A.Accepted (length copies)
+  pub answer_is : a ≡ Ok (length copies)
   pub table_is : v ≡ tabled (length l) copies
   -- no more rows than the list has, and by any book the same said
   pub no_more : (list : List Row) → Reading τ s list → length copies ≤ length list

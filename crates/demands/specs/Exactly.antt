@@ -1,9 +1,9 @@
 -- Demand 3 over the records: two lists, each read under its own terms, mean the same exactly when their tidy copies are equal, byte for byte; the records
 -- of a copy mean what those of its list mean, under any terms; and what is written is the tidy form of what the records mean.
-use Rattle.std.specs.Prelude.{ℕ, ◌≤◌, ◌≡◌, ◌↔◌, List, length}
+use Rattle.std.specs.Prelude.{ℕ, ◌≤◌, ◌≡◌, ◌↔◌, List, length, Result}
+use Rattle.format.specs.declared.Refused.{Refused}
 use Rattle.std.proofs.Common.{sym, ap, subst, ◌∙◌}
 use Rattle.format.specs.Terms.{Terms}
-use Rattle.format.specs.declared.ReadAnswer.{ReadAnswer}
 use Rattle.format.specs.declared.Row.{Row}
 use Rattle.format.specs.Grammar.{Reading}
 use Rattle.format.specs.Says.{Model, says, SayTheSame}
@@ -56,5 +56,5 @@ copy_means τ υ {s} {rows} a small {copies} c =
 -- ---- from the promise of tidying alone
 
 -- and the records of a copy that is read again mean what those of its list mean
-pub shown_means : (τ υ : Terms) {s c l : List ℕ} {a : ReadAnswer} {v : List ℕ} (x : CopyShown τ υ s c l a v) {list : List Row} (w : Reading τ s list) → meant_by x.reads ≡ meant_by w
+pub shown_means : (τ υ : Terms) {s c l : List ℕ} {a : Result ℕ Refused} {v : List ℕ} (x : CopyShown τ υ s c l a v) {list : List Row} (w : Reading τ s list) → meant_by x.reads ≡ meant_by w
 shown_means τ υ x {list} w = (same_meant υ τ x.reads w).0 (x.says_same υ.book list w)

@@ -1,7 +1,8 @@
 -- A class book that no record needs changes nothing (02, (ii)): the types of all slots stand in the stream, so that every step is the same under any
 -- book, and so is what comes of the stream, be it accepted or refused.
 use Prim.Native.Nat.{ℕ, zero, suc, ◌+◌, ◌-◌, ◌≤◌, ◌<◌}
-use Rattle.std.specs.Prelude.{◌≡◌, ◌⊎◌, Bool, ◌||◌, List, [], ◌∷◌, get_or, take, ltb}
+use Rattle.std.specs.Prelude.{◌≡◌, ◌⊎◌, Bool, ◌||◌, List, [], ◌∷◌, get_or, take, ltb, Option, Some, None, Result, Ok, Err}
+use Rattle.format.specs.declared.Refusal.{Refusal}
 use Rattle.std.proofs.Math.Path.{refl, ap}
 use Rattle.std.proofs.Common.{sym, subst, ◌∙◌, inl, arith, eqb-true, ne_eqb}
 use Rattle.std.proofs.Math.Logic.{inr}
@@ -16,19 +17,9 @@ use Rattle.format.specs.declared.PrimitiveCode.{PrimitiveCode}
 use Rattle.format.specs.declared.SlotType.{SlotType}
 use Rattle.format.specs.declared.SlotType.TheVariants as S
 use Rattle.format.specs.declared.Typed.{Typed}
-use Rattle.format.specs.declared.Number32.{Number32}
-use Rattle.format.specs.declared.Number32.TheVariants as N32
-use Rattle.format.specs.declared.Field.{Field}
-use Rattle.format.specs.declared.Field.TheVariants as F
 use Rattle.format.specs.declared.Where.{Where}
 use Rattle.format.specs.declared.Where.TheVariants as W
-use Rattle.format.specs.declared.Kind.{Kind}
-use Rattle.format.specs.declared.Kind.TheVariants as K
 use Rattle.format.specs.declared.Head.{Head}
-use Rattle.format.specs.declared.Heading.{Heading}
-use Rattle.format.specs.declared.Heading.TheVariants as H
-use Rattle.format.specs.declared.Passed.{Passed}
-use Rattle.format.specs.declared.Passed.TheVariants as O
 use Rattle.format.specs.declared.Row.{Row}
 use Rattle.format.specs.declared.Frame.{Frame}
 use Rattle.format.specs.Bytes.{pick}
@@ -59,9 +50,9 @@ typed_streamed s zero infos l = inl refl
 typed_streamed s (suc n) infos l = inr (omega arith)
 
 -- where a null run ends
-abbrev Over : Passed → Type 0
-Over (O.Over t) = Streamed t
-Over O.Crossed = Unit {0}
+abbrev Over : Option Typed → Type 0
+Over (Some t) = Streamed t
+Over None = Unit {0}
 
 -- the slots after such a one are so, too
 module _ (β s : List ℕ) where
@@ -96,7 +87,7 @@ module _ (β γ s : List ℕ) where
   unfolding passed
   passed_same zero t w = refl
   passed_same (suc n) t w =
-      ap (pick (is_primitive t.slot) O.Crossed)
+      ap (pick (is_primitive t.slot) None)
       (passed_same n (moved β s t) (moved_streamed β s t w) ∙ ap (λ (u : Typed). passed γ s u n) (moved_same t w))
 
   over_same : (n : ℕ) (t : Typed) → Streamed t → passed_of β s t n ≡ passed_of γ s t n
@@ -110,9 +101,9 @@ module _ (β γ s : List ℕ) where
   -- ---- the fields of a record
 
   -- a class by id names a class of kind 4 or 5, whose types stand in its own record
-  number_same : (f g : ℕ → ℕ → Heading) → ((v e : ℕ) → f v e ≡ g v e) → (r : Number32) → on_number f r ≡ on_number g r
-  number_same f g w (N32.Value v e) = w v e
-  number_same f g w N32.Short = refl
+  number_same : (f g : ℕ → ℕ → Result Head Refusal) → ((v e : ℕ) → f v e ≡ g v e) → (r : Option (ℕ × ℕ)) → on_number f r ≡ on_number g r
+  number_same f g w (Some (v, e)) = w v e
+  number_same f g w None = refl
 
   class_typed : (k : ℕ) → is_class k ≡ true → is_untyped k ≡ false
   class_typed k t = go (eqb k 4) refl t
@@ -132,18 +123,18 @@ module _ (β γ s : List ℕ) where
       c = get_or rows (class_row class rows - 1) blank
 
       go : (b : Bool) → eqb (class_row class rows) 0 ≡ b
-          → pick b (H.Bad R.NoClass) (of_class β s id end (class_row class rows) c) ≡ pick b (H.Bad R.NoClass) (of_class γ s id end (class_row class rows) c)
+          → pick b (Err R.NoClass) (of_class β s id end (class_row class rows) c) ≡ pick b (Err R.NoClass) (of_class γ s id end (class_row class rows) c)
       go true q = refl
       go false q =
           let n = eqb-false (class_row class rows) 0 q in
           let f = class_at_holds class rows (omega arith) in
-          ap (λ (t : Typed). H.Fields (record { id = id; end = end; count = c.count; slots = c.count; first = t; link = class_row class rows }))
+          ap (λ (t : Typed). Ok (record { id = id; end = end; count = c.count; slots = c.count; first = t; link = class_row class rows }))
           (first_same c (class_typed c.kind f.kind))
 
   by_id_same : (rows : List Row) (at : ℕ) → class_by_id_at β s rows at ≡ class_by_id_at γ s rows at
   unfolding class_by_id_at
   by_id_same rows at =
-      number_same _ _ (λ id p. ap (λ (x : Heading). pick (good_class_id rows id) x (H.Bad R.BadId))
+      number_same _ _ (λ id p. ap (λ (x : Result Head Refusal). pick (good_class_id rows id) x (Err R.BadId))
       (number_same _ _ (λ class end. row_same rows id end class) (u32_at s p)))
       (u32_at s (at + 1))
 
@@ -204,9 +195,9 @@ module _ (β γ s : List ℕ) (room : ℕ) (st : State) (v : Opens st.stack) whe
   run_streamed kind h =
       picked NextStreamed (ltb st.stack.cur.left h.count) (λ q. tt) (λ q. over (passed_of β s typed h.count) (over_streamed β s h.count typed here))
     where
-      over : (p : Passed) → Over p → NextStreamed (run_over room st kind h p)
-      over (O.Over t) w = fill_streamed (row_in st kind h) h.count t w
-      over O.Crossed w = tt
+      over : (p : Option Typed) → Over p → NextStreamed (run_over room st kind h p)
+      over (Some t) w = fill_streamed (row_in st kind h) h.count t w
+      over None w = tt
 
   object_streamed : (kind : ℕ) (h : Head) → Streamed h.first → NextStreamed (object room st kind h (moved β s typed))
   unfolding object opened
@@ -222,7 +213,7 @@ module _ (β γ s : List ℕ) (room : ℕ) (st : State) (v : Opens st.stack) whe
   unfolding ending
   end_streamed h = picked NextStreamed (ltb (length st.rows) room) (λ q. tt) (λ q. tt)
 
-  act_streamed : (kind : ℕ) (h : Head) → (is_object kind ≡ true → Streamed h.first) → NextStreamed (act β s room st kind (H.Fields h))
+  act_streamed : (kind : ℕ) (h : Head) → (is_object kind ≡ true → Streamed h.first) → NextStreamed (act β s room st kind (Ok h))
   unfolding act
   act_streamed kind h x =
       picked NextStreamed (is_object kind) (λ t. object_streamed kind h (x t))
@@ -230,15 +221,15 @@ module _ (β γ s : List ℕ) (room : ℕ) (st : State) (v : Opens st.stack) whe
       (λ u. picked NextStreamed (eqb kind 12) (λ a. add_streamed (row_apart st kind h) st.stack v)
       (λ a. picked NextStreamed (eqb kind 11) (λ b. end_streamed h) (λ b. one_streamed (row_in st kind h)))))
 
-  act_same : (kind : ℕ) (x : Heading) → act β s room st kind x ≡ act γ s room st kind x
+  act_same : (kind : ℕ) (x : Result Head Refusal) → act β s room st kind x ≡ act γ s room st kind x
   unfolding act null_run
-  act_same kind (H.Bad f) = refl
-  act_same kind (H.Fields h) = rw (moved_same β γ s typed here, over_same β γ s h.count typed here)
+  act_same kind (Err f) = refl
+  act_same kind (Ok h) = rw (moved_same β γ s typed here, over_same β γ s h.count typed here)
 
-  value_same : (c : PrimitiveCode) (x : Field) → (on_value β s room st c x ≡ on_value γ s room st c x) × NextStreamed (on_value β s room st c x)
-  value_same c (F.End end) =
+  value_same : (c : PrimitiveCode) (x : Result ℕ Refusal) → (on_value β s room st c x ≡ on_value γ s room st c x) × NextStreamed (on_value β s room st c x)
+  value_same c (Ok end) =
       (rw (moved_same β γ s typed here), one_streamed (row_in st 32 (value_head c end)))
-  value_same c (F.Fault f) = (refl, tt)
+  value_same c (Err f) = (refl, tt)
 
 -- the first slot of an object has its type in the stream
 module _ (τ : Terms) (s : List ℕ) (rows : List Row) (each : (i : ℕ) → i < length rows → Stood τ s (take i rows) (get_or rows i blank)) (k : ℕ) (h : Head) where
@@ -261,21 +252,21 @@ module _ (σ : Setting) (β γ s : List ℕ) (room : ℕ) where
     abbrev Same : Next → Next → Type 0
     Same x y = (x ≡ y) × NextStreamed x
 
-    kind_same : (place : Where) (k : Kind) → kind_at s place st.at ≡ k → Same (on_kind τ s room st k) (on_kind υ s room st k)
+    kind_same : (place : Where) (k : Result ℕ Refusal) → kind_at s place st.at ≡ k → Same (on_kind τ s room st k) (on_kind υ s room st k)
     unfolding act
-    kind_same place (K.Taken k) q = (
+    kind_same place (Ok k) q = (
       act_same β γ s room st v k (heading_at τ s st.rows k st.at) ∙ ap (act γ s room st k) (heading_same β γ s σ st.rows k st.at),
       streamed (heading_at τ s st.rows k st.at) refl,
     )
       where
-        streamed : (x : Heading) → heading_at τ s st.rows k st.at ≡ x → NextStreamed (act β s room st k x)
-        streamed (H.Fields h) e =
+        streamed : (x : Result Head Refusal) → heading_at τ s st.rows k st.at ≡ x → NextStreamed (act β s room st k x)
+        streamed (Ok h) e =
             let b = kind_byte s place st.at k q in
             let each : (i : ℕ) → i < length st.rows → Stood τ s (take i st.rows) (get_or st.rows i blank) = λ i l. (w.each i l).0.said in
             act_streamed β γ s room st v k h
             (λ o. start_streamed τ s st.rows each k h (starts τ s st.rows each k st.at h e (allowed_known k place b.fits) o))
-        streamed (H.Bad f) e = tt
-    kind_same place (K.Wrong f) q = (refl, tt)
+        streamed (Err f) e = tt
+    kind_same place (Err f) q = (refl, tt)
 
     record_same : (place : Where) → Same (record_step τ s room st place) (record_step υ s room st place)
     unfolding record_step

@@ -1,19 +1,16 @@
 -- The view's own setting decides, whatever the table was read with (02, (iii)): a string record has text exactly when that setting takes its prefix, and
 -- the text is the record's; a strict view of a padded one has none. And what was read in strict is shown alike under either setting.
-use Rattle.std.specs.Prelude.{ℕ, zero, suc, ◌+◌, ◌-◌, ◌*◌, ◌%◌, ◌^◌, ◌≤◌, ◌<◌, ◌≡◌, refl, ◌↔◌, List, [], ◌++◌, length, get_or, eqb}
+use Rattle.std.specs.Prelude.{ℕ, zero, suc, ◌+◌, ◌-◌, ◌*◌, ◌%◌, ◌^◌, ◌≤◌, ◌<◌, ◌≡◌, refl, ◌↔◌, List, [], ◌++◌, length, get_or, eqb, Result, Ok, Err}
+use Rattle.format.specs.declared.Span.{Span}
 use Rattle.std.proofs.Common.{sym, ap, subst, ◌∙◌, append_assoc, arith, pow-suc, eqb-true}
 use Rattle.std.proofs.Math.Nat.{pow-le-pow_right}
 use Rattle.std.proofs.Math.Decide.{dec_lt}
 use Rattle.std.proofs.lemmas.Bool.{eqb-false}
 use Rattle.format.specs.declared.Setting.{Setting}
 use Rattle.format.specs.declared.Setting.TheVariants as S
-use Rattle.format.specs.declared.Prefix.TheVariants as P
 use Rattle.format.specs.declared.Refusal.{Refusal}
-use Rattle.format.specs.declared.ReadAnswer.TheVariants as A
 use Rattle.format.specs.declared.RowAnswer.{RowAnswer}
 use Rattle.format.specs.declared.RowAnswer.TheVariants as Q
-use Rattle.format.specs.declared.Text.{Text}
-use Rattle.format.specs.declared.Text.TheVariants as T
 use Rattle.format.specs.declared.Row.{Row}
 use Rattle.format.specs.Terms.{Terms, terms}
 use Rattle.format.specs.Prefix.{prefix_at, prefix_bytes, prefix_of}
@@ -49,7 +46,7 @@ needed_on least p g m e t = record { after = omega (arith, t.after); first = λ 
     go zero z = omega (arith, t.first (omega arith))
     go (suc j) z = rw (pow-suc 128 (suc j)) (omega (arith, t.others j (omega arith)))
 
-needed : (s : List ℕ) (p n e : ℕ) → prefix_at S.Strict s p ≡ P.Length n e → Needed 0 p n e
+needed : (s : List ℕ) (p n e : ℕ) → prefix_at S.Strict s p ≡ Ok (n, e) → Needed 0 p n e
 needed s p n e q = rw q at (every 1 s N one on 4 0 p)
   where
     N : ℕ → ℕ → ℕ → ℕ → ℕ → Type 0
@@ -82,7 +79,7 @@ as_lenient S.Strict w n a = lenient_width S.Lenient w n a
 as_lenient S.Lenient w n a = a
 
 -- a setting that reads a number from its bytes takes their width
-read_width : (σ : Setting) (s : List ℕ) (p w n : ℕ) → prefix_at σ s p ≡ P.Length n (p + w) → Width S.Lenient w n → Width σ w n
+read_width : (σ : Setting) (s : List ℕ) (p w n : ℕ) → prefix_at σ s p ≡ Ok (n, p + w) → Width S.Lenient w n → Width σ w n
 read_width S.Strict s p w n q a = needed_width p w n (needed s p n (p + w) q) a
 read_width S.Lenient s p w n q a = a
 
@@ -106,7 +103,7 @@ stood_under τ σ s id x it y a =
 
 -- a setting that finds the text takes the prefix
 part_taken : (τ : Terms) (σ : Setting) (s : List ℕ) (id : ℕ) (x : Prefixed) (it : Row) → Stood τ s (string id x) it → (from to : ℕ)
-    → record_text σ s it.offset ≡ T.Part from to → Taken σ x
+    → record_text σ s it.offset ≡ Ok (record { from = from; to = to }) → Taken σ x
 part_taken τ σ s id x it y from to q =
     let p = string_place τ s id x it y in
     let a : ℕ = p.place in
@@ -117,7 +114,7 @@ part_taken τ σ s id x it y from to q =
     let d = p.bytes_are ∙ append_assoc (prefix_of w n) x.text p.rest in
     let u = width_written S.Lenient w n s (x.text ++ p.rest) a l y.good.characters.short d in
     let v = lenient_alike σ s a t.0 from t.1.says in
-    let z : P.Length t.0 from ≡ P.Length n (a + w) = sym v ∙ u in
+    let z : ◌≡◌ {A = Result (ℕ × ℕ) Refusal} (Ok (t.0, from)) (Ok (n, a + w)) = sym v ∙ u in
     read_width σ s a w n (t.1.says ∙ z) l
 
 -- ---- the view's own setting
@@ -139,21 +136,21 @@ module _ (τ : Terms) (σ : Setting) {s : List ℕ} {rows : List Row} (w : Readi
   its = get_or rows i blank
 
   module _ (id : ℕ) (x : Prefixed) (y : Stood τ s (string id x) its) where
-    fault_none : (f : Refusal) → record_text σ s its.offset ≡ T.Fault f → (row_question σ s lent i ≡ Q.NoSuchRow) × (text_view σ s lent i ≡ [])
+    fault_none : (f : Refusal) → record_text σ s its.offset ≡ Err f → (row_question σ s lent i ≡ Q.NoSuchRow) × (text_view σ s lent i ≡ [])
     fault_none f q =
         let e : its.kind ≡ 6 = y.row_is.kind_is in
-        let z = row_fault σ s lent i (room_of lent) refl (kind_room τ w t fit i e) its (row_there τ w t fit i) e (T.Fault f) (sym q) f refl in
+        let z = row_fault σ s lent i (room_of lent) refl (kind_room τ w t fit i e) its (row_there τ w t fit i) e (Err f) (sym q) f refl in
         (sym (question_fault σ s lent i no_text z _ refl), sym (view_fault σ s lent i no_text z _ refl))
 
     taken_shown : Taken σ x → (row_question σ s lent i ≡ Q.HasText) × (text_view σ s lent i ≡ x.text)
     taken_shown a = shown_there τ w t fit i (terms σ τ.book) id x (stood_under τ σ s id x its y a)
 
-    judged : (r : Text) → record_text σ s its.offset ≡ r → Own σ x (row_question σ s lent i) (text_view σ s lent i)
-    judged (T.Part from to) q =
-        let a = part_taken τ σ s id x its y from to q in
+    judged : (r : Result Span Refusal) → record_text σ s its.offset ≡ r → Own σ x (row_question σ s lent i) (text_view σ s lent i)
+    judged (Ok t) q =
+        let a = part_taken τ σ s id x its y t.from t.to q in
         let b = taken_shown a in
         record { exactly = (λ h. a, λ h. b.0); shown = λ h. b.1; hidden = λ h. absurd (h a) }
-    judged (T.Fault f) q =
+    judged (Err f) q =
         let b = fault_none f q in
         record {
           exactly = (λ h. absurd (apart (sym b.0 ∙ h)), λ h. (taken_shown h).0);
@@ -244,7 +241,7 @@ own_string τ σ {rows = rows} w t fit i h = either (eqb (get_or rows i blank).k
     (z.id, z.text, z.record_is, (view_own τ σ w t fit i z.id z.text z.record_is).exactly.0 h))
     (λ k. absurd (apart (sym (none_there τ w t fit i σ (eqb-false (get_or rows i blank).kind 6 k)).0 ∙ h)))
 
-module _ (τ : Terms) (s t : List ℕ) (booked : Bytes τ.book) (byte : Bytes s) (n : ℕ) (u : List ℕ) (p : ReadPromise τ s t (A.Accepted n) u) (rows : List Row) (w : Reading τ s rows) where
+module _ (τ : Terms) (s t : List ℕ) (booked : Bytes τ.book) (byte : Bytes s) (n : ℕ) (u : List ℕ) (p : ReadPromise τ s t (Ok n) u) (rows : List Row) (w : Reading τ s rows) where
   abbrev fits : length rows ≤ room_of t
   fits = (table_promised τ s t booked byte n u p rows w).0
 
@@ -279,7 +276,7 @@ module _ (τ : Terms) (s t : List ℕ) (booked : Bytes τ.book) (byte : Bytes s)
       (asked S.Lenient i a q ∙ r.0, viewed S.Lenient i v z ∙ r.1)
 
 -- of a list that was accepted in strict, with any book, a question and a view under either setting give what strict ones give
-pub alike_of_row : (β s t : List ℕ) → Bytes β → Bytes s → (n : ℕ) (u : List ℕ) → ReadPromise (terms S.Strict β) s t (A.Accepted n) u → (σ : Setting) (i : ℕ) (a b : RowAnswer) (v z : List ℕ)
+pub alike_of_row : (β s t : List ℕ) → Bytes β → Bytes s → (n : ℕ) (u : List ℕ) → ReadPromise (terms S.Strict β) s t (Ok n) u → (σ : Setting) (i : ℕ) (a b : RowAnswer) (v z : List ℕ)
     → QuestionPromise S.Strict s u i a → ViewPromise S.Strict s u i v → QuestionPromise σ s u i b → ViewPromise σ s u i z → (b ≡ a) × (z ≡ v)
 alike_of_row β s t booked byte n u p σ i a b v z q x r y =
     let τ : Terms = terms S.Strict β in

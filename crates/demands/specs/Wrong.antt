@@ -1,10 +1,8 @@
 -- Wrong programs by their names, and the lists on which they fail. That each fails the demand that is to stop it stands in proofs/ (Wrong).
-use Rattle.std.specs.Prelude.{ℕ, ◌+◌, ◌-◌, ◌*◌, ◌≡◌, Bool, true, false, ◌||◌, List, [], ◌∷◌, ◌++◌, map, length, get_or, drop, replicate, leb, eqb}
+use Rattle.std.specs.Prelude.{ℕ, ◌+◌, ◌-◌, ◌*◌, ◌≡◌, Bool, true, false, ◌||◌, List, [], ◌∷◌, ◌++◌, map, length, get_or, drop, replicate, leb, eqb, Result, Ok, Err}
+use Rattle.format.specs.declared.Refused.{Refused}
+use Rattle.format.specs.declared.Untidied.{Untidied}
 use Rattle.format.specs.Terms.{Terms}
-use Rattle.format.specs.declared.ReadAnswer.{ReadAnswer}
-use Rattle.format.specs.declared.ReadAnswer.TheVariants as A
-use Rattle.format.specs.declared.TidyAnswer.{TidyAnswer}
-use Rattle.format.specs.declared.TidyAnswer.TheVariants as Q
 use Rattle.format.specs.declared.Row.{Row}
 use Rattle.format.specs.Bytes.{pick, laid}
 use Rattle.format.specs.Text.{after}
@@ -52,12 +50,12 @@ abbrev pub row_each : List ℕ → List ℕ
 row_each s = replicate (8 * length s) 0
 
 -- in full, with any answer and any table
-abbrev pub nothing_written : (List ℕ → List ℕ → List ℕ → TidyAnswer) → (List ℕ → List ℕ → List ℕ → List ℕ) → Tidier
+abbrev pub nothing_written : (List ℕ → List ℕ → List ℕ → Result ℕ Untidied) → (List ℕ → List ℕ → List ℕ → List ℕ) → Tidier
 nothing_written answer table τ s t d = (answer s t d, (table s t d, d))
 
 -- one copy at the front of every output
 abbrev pub one_written : List ℕ → (List ℕ → List ℕ → List ℕ → List ℕ) → Tidier
-one_written copy table τ s t d = (Q.Written (length copy), (table s t d, laid copy d))
+one_written copy table τ s t d = (Ok (length copy), (table s t d, laid copy d))
 
 -- the objects of the copy after the first have the numbers that they have in the list
 abbrev pub KeepsLater : Terms → Copier → Type 0
@@ -107,9 +105,9 @@ unfoldable pub tidy_first_only : Copier
 tidy_first_only τ s = tidy_from τ.book s (read_of τ s (length s))
 
 -- the table that reading promises, with a count of its own
-abbrev pub count_by : ℕ → ℕ → Outcome → ReadAnswer × List ℕ
-count_by k n (accepted rows) = (A.Accepted k, table_words n (accepted rows))
-count_by k n (refused r place) = (A.Refused r place, table_words n (refused r place))
+abbrev pub count_by : ℕ → ℕ → Outcome → Result ℕ Refused × List ℕ
+count_by k n (accepted rows) = (Ok k, table_words n (accepted rows))
+count_by k n (refused r place) = (Err (record { refusal = r; place = place }), table_words n (refused r place))
 
 unfoldable pub invented : Terms → (List ℕ → List ℕ → ℕ) → Filler
 invented τ count s t = count_by (count s t) (length t) (read_of τ s (room_of t))

@@ -19,7 +19,7 @@ struct Cursor {
 
 // ---- a library's first row with its name
 
-// The first row, plus 1, with the name of library r.
+// The first row, plus 1, with the name of library r; 0 if there is none, as a word of the table has it (`first_library`), no Option.
 pub fn first_library(s: &[u8], table: &[u32], n: usize, r: Row) -> u32
     requires { (n ≤ room_of table.now) × (n < 4294967296) }
     ensures { result ≡ first_library s.now (rows_of n table.now) r }
@@ -148,7 +148,7 @@ fn same_class_row(s: &[u8], table: &[u32], n: usize, a: Row, b: Row) -> bool
         && same_details(s, table, n, a, b)
 }
 
-// The first row, plus 1, of a class equal to that of r.
+// The first row, plus 1, of a class equal to that of r; 0 if there is none, likewise (`first_class`).
 pub fn first_class(s: &[u8], table: &[u32], n: usize, r: Row) -> u32
     requires { (n ≤ room_of table.now) × (n < 4294967296) }
     ensures { result ≡ first_class s.now (rows_of n table.now) r }

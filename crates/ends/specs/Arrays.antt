@@ -1,6 +1,6 @@
 -- Where array records end: after their place, and within the stream.
 use Prim.Native.Nat.{ℕ, zero, suc, ◌+◌, ◌*◌, ◌≤◌, ◌<◌}
-use Rattle.std.specs.Prelude.{◌≡◌, refl, Bool, List, get_or, ltb, leb}
+use Rattle.std.specs.Prelude.{◌≡◌, refl, Bool, List, get_or, ltb, leb, Option, Some, None, Result, Ok, Err}
 use Rattle.std.proofs.Math.Bool.{true, false}
 use native.Mathlib.Omega.{arith}
 use Rattle.std.proofs.Math.ListN.{length}
@@ -10,10 +10,6 @@ use Rattle.format.specs.declared.Refusal.TheVariants as R
 use Rattle.format.specs.declared.PrimitiveCode.{PrimitiveCode}
 use Rattle.format.specs.declared.SlotType.{SlotType}
 use Rattle.format.specs.declared.SlotType.TheVariants as S
-use Rattle.format.specs.declared.Number32.{Number32}
-use Rattle.format.specs.declared.Number32.TheVariants as N32
-use Rattle.format.specs.declared.Slots.{Slots}
-use Rattle.format.specs.declared.Slots.TheVariants as L
 use Rattle.format.specs.declared.Row.{Row}
 use Rattle.format.specs.Bytes.{pick}
 use Rattle.format.specs.Numbers.{u32_at, negative}
@@ -23,31 +19,32 @@ use Rattle.format.specs.Records.{good_id, info_known, slot_array_at, with_items,
 use Rattle.types.specs.Keeps.{code_moves, type_moves}
 use Rattle.items.specs.Keeps.{items_kept}
 use Rattle.class_info.specs.Ends.{EndsIn, number_moves, ends_pick, ends_number, ends_field, ends_slots}
+use Rattle.fields.specs.Pairs.{ok_pair}
 use Rattle.class_info.specs.Moves.{info_known_moves}
 
 -- ---- lengths
 
-no_product : (f : Refusal) (n e : ℕ) → L.Fault f ≡ L.Product n e → ⊥
+no_product : (f : Refusal) (n e : ℕ) → ◌≡◌ {A = Result (ℕ × ℕ) Refusal} (Err f) (Ok (n, e)) → ⊥
 no_product f n e q = let z : ◌≡◌ {A = ℕ} 0 1 = cc in omega arith
 
 -- what a length that is taken says
-length_told : (k : ℕ → ℕ → Slots) (r : Number32) (n e : ℕ) → on_length k r ≡ L.Product n e
-    → (v : ℕ) × (next : ℕ) × (r ≡ N32.Value v next) × (k v next ≡ L.Product n e)
-length_told k (N32.Value v next) n e q = go (negative v) q
+length_told : (k : ℕ → ℕ → Result (ℕ × ℕ) Refusal) (r : Option (ℕ × ℕ)) (n e : ℕ) → on_length k r ≡ Ok (n, e)
+    → (v : ℕ) × (next : ℕ) × (r ≡ Some (v, next)) × (k v next ≡ Ok (n, e))
+length_told k (Some (v, next)) n e q = go (negative v) q
   where
-    go : (t : Bool) → pick t (L.Fault R.BadCount) (k v next) ≡ L.Product n e
-        → (x : ℕ) × (y : ℕ) × (N32.Value v next ≡ N32.Value x y) × (k x y ≡ L.Product n e)
+    go : (t : Bool) → pick t (Err R.BadCount) (k v next) ≡ Ok (n, e)
+        → (x : ℕ) × (y : ℕ) × (◌≡◌ {A = Option (ℕ × ℕ)} (Some (v, next)) (Some (x, y))) × (k x y ≡ Ok (n, e))
     go true q = absurd (no_product R.BadCount n e q)
     go false q = (v, next, refl, q)
-length_told k N32.Short n e q = absurd (no_product R.CutShort n e q)
+length_told k None n e q = absurd (no_product R.CutShort n e q)
 
 module _ (s : List ℕ) where
-  pub lengths_moves : (k product at n e : ℕ) → at ≤ length s → lengths_at s k product at ≡ L.Product n e → (at ≤ e) × (e ≤ length s)
+  pub lengths_moves : (k product at n e : ℕ) → at ≤ length s → lengths_at s k product at ≡ Ok (n, e) → (at ≤ e) × (e ≤ length s)
   unfolding lengths_at
   lengths_moves zero product at n e h q = go (leb product 2147483647) q
     where
-      go : (t : Bool) → pick t (L.Product product at) (L.Fault R.BadCount) ≡ L.Product n e → (at ≤ e) × (e ≤ length s)
-      go true q = let z : at ≡ e = cc in (omega arith, omega arith)
+      go : (t : Bool) → pick {A = Result (ℕ × ℕ) Refusal} t (Ok (product, at)) (Err R.BadCount) ≡ Ok (n, e) → (at ≤ e) × (e ≤ length s)
+      go true q = let z : at ≡ e = (ok_pair q).1 in (omega arith, omega arith)
       go false q = absurd (no_product R.BadCount n e q)
   lengths_moves (suc k) product at n e h q =
       let x = length_told (λ v next. lengths_at s k (product * v) next) (u32_at s at) n e q in

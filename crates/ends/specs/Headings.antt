@@ -1,5 +1,5 @@
 -- Where a record's fields end, where they are good: after its place and within the stream.
-use Rattle.std.specs.Prelude.{ℕ, ◌+◌, ◌≤◌, ◌<◌, ◌≡◌, Bool, true, false, List, length, get_or, ltb, eqb}
+use Rattle.std.specs.Prelude.{ℕ, ◌+◌, ◌≤◌, ◌<◌, ◌≡◌, Bool, true, false, List, length, get_or, ltb, eqb, Result, Ok, Err}
 use native.Mathlib.Omega.{arith}
 use borrow.Author.Tests.{ltb-true}
 use Rattle.format.specs.Terms.{Terms}
@@ -7,8 +7,6 @@ use Rattle.format.specs.declared.Refusal.{Refusal}
 use Rattle.format.specs.declared.Refusal.TheVariants as R
 use Rattle.format.specs.declared.SlotType.TheVariants as S
 use Rattle.format.specs.declared.Head.{Head}
-use Rattle.format.specs.declared.Heading.{Heading}
-use Rattle.format.specs.declared.Heading.TheVariants as H
 use Rattle.format.specs.declared.Row.{Row}
 use Rattle.format.specs.Bytes.{pick}
 use Rattle.format.specs.Numbers.{u32_at}
@@ -24,14 +22,14 @@ use Rattle.records.specs.Stages.{named_at, free_library, on_judged, reference_pa
 
 module _ (τ : Terms) (s : List ℕ) where
   -- a number after the kind byte, and then fields that end after it
-  judged_ends : (test : ℕ → Bool) (refusal : Refusal) (good : ℕ → ℕ → Heading) (at : ℕ)
+  judged_ends : (test : ℕ → Bool) (refusal : Refusal) (good : ℕ → ℕ → Result Head Refusal) (at : ℕ)
       → ((v p : ℕ) → at < p → p ≤ length s → EndsIn at (length s) (good v p))
       → EndsIn at (length s) (on_judged test refusal good (u32_at s (at + 1)))
   unfolding on_judged
   judged_ends test refusal good at f =
-      ends_number at (length s) (λ v p. pick (test v) (good v p) (H.Bad refusal)) (u32_at s (at + 1)) (λ v p q.
+      ends_number at (length s) (λ v p. pick (test v) (good v p) (Err refusal)) (u32_at s (at + 1)) (λ v p q.
       let m = number_moves s (at + 1) v p q in
-      ends_pick at (length s) (test v) (good v p) (H.Bad refusal) (λ t. f v p (omega arith) m.1) (λ t. tt))
+      ends_pick at (length s) (test v) (good v p) (Err refusal) (λ t. f v p (omega arith) m.1) (λ t. tt))
 
   named_ends : (at id p : ℕ) → at < p → EndsIn at (length s) (named_at τ.setting s id p)
   unfolding named_at
@@ -65,7 +63,7 @@ module _ (τ : Terms) (s : List ℕ) where
     pub nulls_ends : EndsIn at (length s) (nulls_at s at)
     unfolding nulls_at
     nulls_ends =
-        ends_pick at (length s) (ltb (at + 1) (length s)) (plain 0 (at + 2) (get_or s (at + 1) 0)) (H.Bad R.CutShort)
+        ends_pick at (length s) (ltb (at + 1) (length s)) (plain 0 (at + 2) (get_or s (at + 1) 0)) (Err R.CutShort)
         (λ t. let h = ltb-true (at + 1) (length s) t in (omega arith, omega arith))
         (λ t. tt)
 
@@ -111,9 +109,9 @@ heading_ends τ s rows k at h =
     none : (at < at + 1) × (at + 1 ≤ length s)
     none = (omega arith, omega arith)
 
-    or : (n : ℕ) (a b : Heading) → EndsIn at (length s) a → EndsIn at (length s) b → EndsIn at (length s) (pick (eqb k n) a b)
+    or : (n : ℕ) (a b : Result Head Refusal) → EndsIn at (length s) a → EndsIn at (length s) b → EndsIn at (length s) (pick (eqb k n) a b)
     or n a b u v = ends_pick at (length s) (eqb k n) a b (λ t. u) (λ t. v)
 
-pub heading_moves : (τ : Terms) (s : List ℕ) (rows : List Row) (k at : ℕ) (h : Head) → at < length s → heading_at τ s rows k at ≡ H.Fields h
+pub heading_moves : (τ : Terms) (s : List ℕ) (rows : List Row) (k at : ℕ) (h : Head) → at < length s → heading_at τ s rows k at ≡ Ok h
     → (at < h.end) × (h.end ≤ length s)
 heading_moves τ s rows k at h i q = rw q at (heading_ends τ s rows k at i)

@@ -1,24 +1,10 @@
 -- The table of fields holds (format: Fields).
 use Rattle.std.specs.Prelude.{ℕ, suc, List, [], ◌∷◌, ◌++◌, map, replicate}
-use Rattle.format.specs.declared.Coded.{Coded}
-use Rattle.format.specs.declared.Coded.TheVariants as D
 use Rattle.format.specs.declared.SlotType.{SlotType}
 use Rattle.format.specs.declared.SlotType.TheVariants as S
-use Rattle.format.specs.declared.Number16.{Number16}
-use Rattle.format.specs.declared.Number16.TheVariants as N16
-use Rattle.format.specs.declared.Number32.{Number32}
-use Rattle.format.specs.declared.Number32.TheVariants as N32
-use Rattle.format.specs.declared.Number64.{Number64}
-use Rattle.format.specs.declared.Number64.TheVariants as N64
 use Rattle.format.specs.declared.Setting.{Setting}
 use Rattle.format.specs.declared.Setting.TheVariants as Q
-use Rattle.format.specs.declared.Prefix.{Prefix}
-use Rattle.format.specs.declared.Prefix.TheVariants as P
-use Rattle.format.specs.declared.Text.{Text}
-use Rattle.format.specs.declared.Text.TheVariants as T
 use Rattle.format.specs.declared.Span.{Span}
-use Rattle.format.specs.declared.Field.{Field}
-use Rattle.format.specs.declared.Field.TheVariants as F
 use Rattle.format.specs.Bytes.{pick, same_bytes}
 use Rattle.format.specs.Replies.{number_of, row_reply}
 use Rattle.format.specs.Numbers.{le, u16_at, u32_at, u64_at, le_bytes}

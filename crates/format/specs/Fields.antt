@@ -1,24 +1,13 @@
 -- Worked fields: bytes, and what is read of them, mostly on either side of a bound of the field rules; then the text view. One table, proved by one fact.
-use Rattle.std.specs.Prelude.{ℕ, suc, List, [], ◌∷◌, ◌++◌, map, replicate}
-use Rattle.format.specs.declared.Coded.{Coded}
-use Rattle.format.specs.declared.Coded.TheVariants as D
+use Rattle.std.specs.Prelude.{ℕ, suc, List, [], ◌∷◌, ◌++◌, map, replicate, Option, Result, Ok, Err}
+use Rattle.format.specs.declared.Refusal.{Refusal}
+use Rattle.format.specs.declared.PrimitiveCode.{PrimitiveCode}
+use Rattle.std.specs.declared.option.Option.TheVariants as Maybe
 use Rattle.format.specs.declared.SlotType.{SlotType}
 use Rattle.format.specs.declared.SlotType.TheVariants as S
-use Rattle.format.specs.declared.Number16.{Number16}
-use Rattle.format.specs.declared.Number16.TheVariants as N16
-use Rattle.format.specs.declared.Number32.{Number32}
-use Rattle.format.specs.declared.Number32.TheVariants as N32
-use Rattle.format.specs.declared.Number64.{Number64}
-use Rattle.format.specs.declared.Number64.TheVariants as N64
 use Rattle.format.specs.declared.Setting.{Setting}
 use Rattle.format.specs.declared.Setting.TheVariants as Q
-use Rattle.format.specs.declared.Prefix.{Prefix}
-use Rattle.format.specs.declared.Prefix.TheVariants as P
-use Rattle.format.specs.declared.Text.{Text}
-use Rattle.format.specs.declared.Text.TheVariants as T
 use Rattle.format.specs.declared.Span.{Span}
-use Rattle.format.specs.declared.Field.{Field}
-use Rattle.format.specs.declared.Field.TheVariants as F
 use Rattle.format.specs.Bytes.{pick, same_bytes}
 use Rattle.format.specs.Replies.{number_of, row_reply}
 use Rattle.format.specs.Numbers.{le, u16_at, u32_at, u64_at, le_bytes}
@@ -31,38 +20,38 @@ use Rattle.format.specs.Examples.{hex, hex_onto, None}
 
 -- ---- what is shown: the number and the place after it, or 0 where bytes are missing
 
-abbrev shown16 : Number16 → List ℕ
-shown16 (N16.Value v next) = v ∷ next ∷ []
-shown16 N16.Short = 0 ∷ []
+abbrev shown16 : Option (ℕ × ℕ) → List ℕ
+shown16 (Maybe.Some (v, next)) = v ∷ next ∷ []
+shown16 Maybe.None = 0 ∷ []
 
-abbrev shown32 : Number32 → List ℕ
-shown32 (N32.Value v next) = v ∷ next ∷ []
-shown32 N32.Short = 0 ∷ []
+abbrev shown32 : Option (ℕ × ℕ) → List ℕ
+shown32 (Maybe.Some (v, next)) = v ∷ next ∷ []
+shown32 Maybe.None = 0 ∷ []
 
-abbrev shown64 : Number64 → List ℕ
-shown64 (N64.Value v next) = v ∷ next ∷ []
-shown64 N64.Short = 0 ∷ []
+abbrev shown64 : Option (ℕ × ℕ) → List ℕ
+shown64 (Maybe.Some (v, next)) = v ∷ next ∷ []
+shown64 Maybe.None = 0 ∷ []
 
 -- the number of a prefix, or where a text begins; and the place after the field; or the number of the refusal alone
-abbrev shown_prefix : Prefix → List ℕ
-shown_prefix (P.Length n next) = n ∷ next ∷ []
-shown_prefix (P.Fault f) = number_of f ∷ []
+abbrev shown_prefix : Result (ℕ × ℕ) Refusal → List ℕ
+shown_prefix (Ok (n, next)) = n ∷ next ∷ []
+shown_prefix (Err f) = number_of f ∷ []
 
-abbrev shown_text : Text → List ℕ
-shown_text (T.Part from end) = from ∷ end ∷ []
-shown_text (T.Fault f) = number_of f ∷ []
+abbrev shown_text : Result Span Refusal → List ℕ
+shown_text (Ok t) = t.from ∷ t.to ∷ []
+shown_text (Err f) = number_of f ∷ []
 
 abbrev shown_span : Span → List ℕ
 shown_span x = x.from ∷ x.to ∷ []
 
-abbrev shown_field : Field → List ℕ
-shown_field (F.End next) = 0 ∷ next ∷ []
-shown_field (F.Fault f) = number_of f ∷ []
+abbrev shown_field : Result ℕ Refusal → List ℕ
+shown_field (Ok next) = 0 ∷ next ∷ []
+shown_field (Err f) = number_of f ∷ []
 
 -- the number of a code, 0 for none
-abbrev shown_code : Coded → ℕ
-shown_code (D.Code c) = code_number c
-shown_code D.NoCode = 0
+abbrev shown_code : Option PrimitiveCode → ℕ
+shown_code (Maybe.Some c) = code_number c
+shown_code Maybe.None = 0
 
 -- the type byte of a slot, with its code
 abbrev shown_slot : SlotType → List ℕ

@@ -1,27 +1,18 @@
 -- Reading (01, What may stand where; The table; Replies): a machine that takes one record or member value a step, left to right.
-use Rattle.std.specs.Prelude.{ℕ, zero, suc, ◌+◌, ◌-◌, ◌*◌, ◌||◌, List, [], ◌∷◌, ◌++◌, length, get_or, replicate, ltb, eqb}
+use Rattle.std.specs.Prelude.{ℕ, zero, suc, ◌+◌, ◌-◌, ◌*◌, ◌||◌, List, [], ◌∷◌, ◌++◌, length, get_or, replicate, ltb, eqb, Option, Some, None, Result, Ok, Err}
+use Rattle.format.specs.declared.Refused.{Refused}
 use Rattle.format.specs.Terms.{Terms}
 use Rattle.format.specs.declared.Refusal.{Refusal}
 use Rattle.format.specs.declared.Refusal.TheVariants as R
-use Rattle.format.specs.declared.ReadAnswer.{ReadAnswer}
-use Rattle.format.specs.declared.ReadAnswer.TheVariants as A
 use Rattle.format.specs.declared.PrimitiveCode.{PrimitiveCode}
 use Rattle.format.specs.declared.SlotType.{SlotType}
 use Rattle.format.specs.declared.SlotType.TheVariants as S
 use Rattle.format.specs.declared.Typed.{Typed}
-use Rattle.format.specs.declared.Field.{Field}
-use Rattle.format.specs.declared.Field.TheVariants as F
 use Rattle.format.specs.declared.Where.{Where}
 use Rattle.format.specs.declared.Where.TheVariants as W
-use Rattle.format.specs.declared.Kind.{Kind}
-use Rattle.format.specs.declared.Kind.TheVariants as K
 use Rattle.format.specs.declared.Head.{Head}
-use Rattle.format.specs.declared.Heading.{Heading}
-use Rattle.format.specs.declared.Heading.TheVariants as H
 use Rattle.format.specs.declared.Row.{Row}
 use Rattle.format.specs.declared.Frame.{Frame}
-use Rattle.format.specs.declared.Passed.{Passed}
-use Rattle.format.specs.declared.Passed.TheVariants as O
 use Rattle.format.specs.Bytes.{pick}
 use Rattle.format.specs.Values.{value_at}
 use Rattle.format.specs.Types.{alike, code_number, moved, passed_of}
@@ -113,9 +104,9 @@ object room st kind h t =
     (refuse R.TooDeep st.at))
 
 -- a null run: within the object's slots, and over no primitive member
-abbrev pub run_over : ℕ → State → ℕ → Head → Passed → Next
-run_over room st kind h (O.Over t) = add room st (row_in st kind h) (filled st.stack h.count t)
-run_over room st kind h O.Crossed = refuse R.BadCount st.at
+abbrev pub run_over : ℕ → State → ℕ → Head → Option Typed → Next
+run_over room st kind h (Some t) = add room st (row_in st kind h) (filled st.stack h.count t)
+run_over room st kind h None = refuse R.BadCount st.at
 
 unfoldable pub null_run : (β s : List ℕ) → ℕ → State → ℕ → Head → Next
 null_run β s room st kind h =
@@ -126,9 +117,9 @@ null_run β s room st kind h =
 unfoldable pub ending : ℕ → State → Head → Next
 ending room st h = pick (ltb (length st.rows) room) (ended (st.rows ++ (row_in st 11 h ∷ [])) h.end) (refuse R.NoRoom st.at)
 
-unfoldable pub act : (β s : List ℕ) → ℕ → State → ℕ → Heading → Next
-act β s room st kind (H.Bad f) = refuse f st.at
-act β s room st kind (H.Fields h) =
+unfoldable pub act : (β s : List ℕ) → ℕ → State → ℕ → Result Head Refusal → Next
+act β s room st kind (Err f) = refuse f st.at
+act β s room st kind (Ok h) =
     pick (is_object kind) (object room st kind h (moved β s st.stack.cur.typed))
     (pick (eqb kind 13 || eqb kind 14) (null_run β s room st kind h)
     (pick (eqb kind 12) (add room st (row_apart st kind h) st.stack)
@@ -137,9 +128,9 @@ act β s room st kind (H.Fields h) =
 
 -- ---- a step: a member value at once, else a kind byte and its record
 
-abbrev pub on_kind : Terms → List ℕ → ℕ → State → Kind → Next
-on_kind τ s room st (K.Taken k) = act τ.book s room st k (heading_at τ s st.rows k st.at)
-on_kind τ s room st (K.Wrong f) = refuse f st.at
+abbrev pub on_kind : Terms → List ℕ → ℕ → State → Result ℕ Refusal → Next
+on_kind τ s room st (Ok k) = act τ.book s room st k (heading_at τ s st.rows k st.at)
+on_kind τ s room st (Err f) = refuse f st.at
 
 unfoldable pub record_step : Terms → List ℕ → ℕ → State → Where → Next
 record_step τ s room st w = on_kind τ s room st (kind_at s w st.at)
@@ -148,10 +139,10 @@ record_step τ s room st w = on_kind τ s room st (kind_at s w st.at)
 abbrev pub value_head : PrimitiveCode → ℕ → Head
 value_head c end = record { id = 0; end = end; count = 0; slots = 0; first = alike S.Object 0; link = code_number c }
 
-abbrev pub on_value : (β s : List ℕ) → ℕ → State → PrimitiveCode → Field → Next
-on_value β s room st c (F.End end) =
+abbrev pub on_value : (β s : List ℕ) → ℕ → State → PrimitiveCode → Result ℕ Refusal → Next
+on_value β s room st c (Ok end) =
     add room st (row_in st 32 (value_head c end)) (filled st.stack 1 (moved β s st.stack.cur.typed))
-on_value β s room st c (F.Fault f) = refuse f st.at
+on_value β s room st c (Err f) = refuse f st.at
 
 unfoldable pub value_step : Terms → List ℕ → ℕ → State → PrimitiveCode → Next
 value_step τ s room st c = on_value τ.book s room st c (value_at τ.setting s c st.at)
@@ -230,9 +221,9 @@ read_of τ s room = with_links (raw_of τ s room)
 
 -- ---- the answer, and every word of the table
 
-unfoldable pub read_answer : Outcome → ReadAnswer
-read_answer (accepted rows) = A.Accepted (length rows)
-read_answer (refused r place) = A.Refused r place
+unfoldable pub read_answer : Outcome → Result ℕ Refused
+read_answer (accepted rows) = Ok (length rows)
+read_answer (refused r place) = Err (record { refusal = r; place = place })
 
 -- rows, then zeros; all zeros after a refusal
 unfoldable pub table_words : ℕ → Outcome → List ℕ

@@ -1,11 +1,5 @@
 -- Numbers (01, Field rules): little-endian, kept as unsigned bits.
-use Rattle.std.specs.Prelude.{ℕ, zero, suc, ◌+◌, ◌*◌, ◌/◌, ◌%◌, Bool, List, [], ◌∷◌, length, leb}
-use Rattle.format.specs.declared.Number16.{Number16}
-use Rattle.format.specs.declared.Number16.TheVariants as N16
-use Rattle.format.specs.declared.Number32.{Number32}
-use Rattle.format.specs.declared.Number32.TheVariants as N32
-use Rattle.format.specs.declared.Number64.{Number64}
-use Rattle.format.specs.declared.Number64.TheVariants as N64
+use Rattle.std.specs.Prelude.{ℕ, zero, suc, ◌+◌, ◌*◌, ◌/◌, ◌%◌, Bool, List, [], ◌∷◌, length, leb, Option, Some, None}
 use Rattle.format.specs.Bytes.{pick, part}
 
 -- the number that bytes say, the low byte first
@@ -13,15 +7,19 @@ unfoldable pub le : List ℕ → ℕ
 le [] = 0
 le (b ∷ bs) = b + 256 * le bs
 
--- the number at a place and the place after it, of two, four and eight bytes
-unfoldable pub u16_at : List ℕ → ℕ → Number16
-u16_at s at = pick (leb (at + 2) (length s)) (N16.Value (le (part s at 2)) (at + 2)) N16.Short
+-- the number of k bytes at a place, and the place after it
+abbrev pub number_at : ℕ → List ℕ → ℕ → Option (ℕ × ℕ)
+number_at k s at = pick (leb (at + k) (length s)) (Some (le (part s at k), at + k)) None
 
-unfoldable pub u32_at : List ℕ → ℕ → Number32
-u32_at s at = pick (leb (at + 4) (length s)) (N32.Value (le (part s at 4)) (at + 4)) N32.Short
+-- of two, four and eight bytes
+unfoldable pub u16_at : List ℕ → ℕ → Option (ℕ × ℕ)
+u16_at s at = number_at 2 s at
 
-unfoldable pub u64_at : List ℕ → ℕ → Number64
-u64_at s at = pick (leb (at + 8) (length s)) (N64.Value (le (part s at 8)) (at + 8)) N64.Short
+unfoldable pub u32_at : List ℕ → ℕ → Option (ℕ × ℕ)
+u32_at s at = number_at 4 s at
+
+unfoldable pub u64_at : List ℕ → ℕ → Option (ℕ × ℕ)
+u64_at s at = number_at 8 s at
 
 -- the sign of an INT32, by its unsigned bits
 abbrev pub negative : ℕ → Bool

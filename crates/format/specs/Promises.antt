@@ -1,14 +1,11 @@
 -- The promises of the four public jobs, each a relation between what is lent and what comes of it. The jobs' contracts are these words.
-use Rattle.std.specs.Prelude.{ℕ, ◌≡◌, refl, Bool, true, false, List, length}
+use Rattle.std.specs.Prelude.{ℕ, ◌≡◌, refl, Bool, true, false, List, length, Result}
+use Rattle.format.specs.declared.Refused.{Refused}
+use Rattle.format.specs.declared.Untidied.{Untidied}
 use Rattle.std.proofs.Common.{ap, ◌∙◌}
 use Rattle.format.specs.declared.Setting.{Setting}
 use Rattle.format.specs.Terms.{Terms}
-use Rattle.format.specs.declared.ReadAnswer.{ReadAnswer}
 use Rattle.format.specs.declared.RowAnswer.{RowAnswer}
-use Rattle.format.specs.declared.TidyAnswer.{TidyAnswer}
-use Rattle.format.specs.declared.TidyAnswer.TheVariants as Q
-use Rattle.format.specs.declared.Text.{Text}
-use Rattle.format.specs.declared.Text.TheVariants as T
 use Rattle.format.specs.Bytes.{pick}
 use Rattle.format.specs.Rows.{room_of}
 use Rattle.format.specs.Machine.{Outcome, accepted, refused, read_of, read_answer, table_words}
@@ -18,7 +15,7 @@ use Rattle.format.specs.Tidy.{tidy_of, fits, tidy_answer, tidy_output, tidy_tabl
 use Rattle.format.specs.Replies.{reply, read_reply, row_reply, tidy_reply, of_reading, of_question, of_tidying}
 
 -- reading s into a table that held t answers a and leaves u in the table
-pub record ReadPromise (τ : Terms) (s t : List ℕ) (a : ReadAnswer) (u : List ℕ) : Type 0 where
+pub record ReadPromise (τ : Terms) (s t : List ℕ) (a : Result ℕ Refused) (u : List ℕ) : Type 0 where
   pub answer : a ≡ read_answer (read_of τ s (room_of t))
   pub numbers : read_reply a ≡ of_reading (read_of τ s (room_of t))
   pub table : u ≡ table_words (length t) (read_of τ s (room_of t))
@@ -33,7 +30,7 @@ abbrev pub ViewPromise : Setting → (s t : List ℕ) → ℕ → (v : List ℕ)
 ViewPromise σ s t row v = v ≡ text_view σ s t row
 
 -- tidying s with a table that held t and an output that held d answers q, leaves u in the table and e in the output
-pub record TidyPromise (τ : Terms) (s t d : List ℕ) (q : TidyAnswer) (u e : List ℕ) : Type 0 where
+pub record TidyPromise (τ : Terms) (s t d : List ℕ) (q : Result ℕ Untidied) (u e : List ℕ) : Type 0 where
   pub answer : q ≡ tidy_answer τ.book s d (read_of τ s (room_of t))
   pub numbers : tidy_reply q ≡ of_tidying τ.book s d (read_of τ s (room_of t))
   pub table : u ≡ tidy_table (length t) τ.book s d (read_of τ s (room_of t))

@@ -1,17 +1,15 @@
 -- Replies by number: the refusals, and the values of each answer of the public jobs and of the comparing one.
-use Rattle.std.specs.Prelude.{ℕ, List, length, eqb}
+use Rattle.std.specs.Prelude.{ℕ, List, length, eqb, Bool, true, false, Result, Ok, Err}
+use Rattle.format.specs.declared.Span.{Span}
+use Rattle.format.specs.declared.Refused.{Refused}
+use Rattle.format.specs.declared.Untidied.{Untidied}
+use Rattle.format.specs.declared.Uncompared.{Uncompared}
+use Rattle.format.specs.declared.Untidied.TheVariants as Tidy
+use Rattle.format.specs.declared.Uncompared.TheVariants as Same
 use Rattle.format.specs.declared.Refusal.{Refusal}
 use Rattle.format.specs.declared.Refusal.TheVariants as R
-use Rattle.format.specs.declared.ReadAnswer.{ReadAnswer}
-use Rattle.format.specs.declared.ReadAnswer.TheVariants as Read
 use Rattle.format.specs.declared.RowAnswer.{RowAnswer}
 use Rattle.format.specs.declared.RowAnswer.TheVariants as Row
-use Rattle.format.specs.declared.TidyAnswer.{TidyAnswer}
-use Rattle.format.specs.declared.TidyAnswer.TheVariants as Tidy
-use Rattle.format.specs.declared.Sameness.{Sameness}
-use Rattle.format.specs.declared.Sameness.TheVariants as Same
-use Rattle.format.specs.declared.Text.{Text}
-use Rattle.format.specs.declared.Text.TheVariants as Text
 use Rattle.format.specs.Bytes.{pick}
 use Rattle.format.specs.Machine.{Outcome, accepted, refused}
 use Rattle.format.specs.Says.{says}
@@ -51,47 +49,38 @@ pub record Reply : Type 0 where
 abbrev pub reply : ℕ → ℕ → ℕ → Reply
 reply n p v = record { number = n; place = p; value = v }
 
-abbrev pub read_reply : ReadAnswer → Reply
-read_reply (Read.Accepted rows) = reply 0 0 rows
-read_reply (Read.Refused r place) = reply (number_of r) place 0
+abbrev pub read_reply : Result ℕ Refused → Reply
+read_reply (Ok rows) = reply 0 0 rows
+read_reply (Err r) = reply (number_of r.refusal) r.place 0
 
 abbrev pub row_reply : RowAnswer → Reply
 row_reply Row.HasText = reply 0 0 0
 row_reply Row.NoSuchRow = reply (number_of R.NoSuchRow) 0 0
 
-abbrev pub tidy_reply : TidyAnswer → Reply
-tidy_reply (Tidy.Written size) = reply 0 0 size
-tidy_reply (Tidy.Refused r place) = reply (number_of r) place 0
-tidy_reply (Tidy.OutFull size) = reply (number_of R.OutFull) 0 size
+abbrev pub tidy_reply : Result ℕ Untidied → Reply
+tidy_reply (Ok size) = reply 0 0 size
+tidy_reply (Err (Tidy.Refused r)) = reply (number_of r.refusal) r.place 0
+tidy_reply (Err (Tidy.OutFull size)) = reply (number_of R.OutFull) 0 size
 
 -- the tidying that ends a comparing: 0 and no length where both copies are written
-abbrev pub ending_of : Sameness → TidyAnswer
-ending_of Same.Same = Tidy.Written 0
-ending_of Same.Different = Tidy.Written 0
-ending_of (Same.FirstRefused r place) = Tidy.Refused r place
-ending_of (Same.SecondRefused r place) = Tidy.Refused r place
-ending_of (Same.FirstFull needed) = Tidy.OutFull needed
-ending_of (Same.SecondFull needed) = Tidy.OutFull needed
+abbrev pub ending_of : Result Bool Uncompared → Result ℕ Untidied
+ending_of (Ok same) = Ok 0
+ending_of (Err (Same.First why)) = Err why
+ending_of (Err (Same.Second why)) = Err why
 
 -- the list that is refused or has no room for its copy; 0 where neither is
-abbrev pub list_of : Sameness → ℕ
-list_of Same.Same = 0
-list_of Same.Different = 0
-list_of (Same.FirstRefused r place) = 1
-list_of (Same.SecondRefused r place) = 2
-list_of (Same.FirstFull needed) = 1
-list_of (Same.SecondFull needed) = 2
+abbrev pub list_of : Result Bool Uncompared → ℕ
+list_of (Ok same) = 0
+list_of (Err (Same.First why)) = 1
+list_of (Err (Same.Second why)) = 2
 
 -- 1 where the lists say the same
-abbrev pub same_of : Sameness → ℕ
-same_of Same.Same = 1
-same_of Same.Different = 0
-same_of (Same.FirstRefused r place) = 0
-same_of (Same.SecondRefused r place) = 0
-same_of (Same.FirstFull needed) = 0
-same_of (Same.SecondFull needed) = 0
+abbrev pub same_of : Result Bool Uncompared → ℕ
+same_of (Ok true) = 1
+same_of (Ok false) = 0
+same_of (Err why) = 0
 
-abbrev pub same_reply : Sameness → Reply
+abbrev pub same_reply : Result Bool Uncompared → Reply
 same_reply q = tidy_reply (ending_of q)
 
 -- ---- what a job comes to, in these numbers
@@ -102,9 +91,9 @@ of_reading (accepted rows) = reply 0 0 (length rows)
 of_reading (refused r place) = reply (number_of r) place 0
 
 -- the row question, by the text that the row has
-abbrev pub of_question : Text → Reply
-of_question (Text.Part from to) = reply 0 0 0
-of_question (Text.Fault f) = reply 21 0 0
+abbrev pub of_question : Result Span Refusal → Reply
+of_question (Ok t) = reply 0 0 0
+of_question (Err f) = reply 21 0 0
 
 -- a tidying of s into an output that held d: how long the copy is or would be, or the refusal of the reading and its place
 abbrev pub of_tidying : (β s d : List ℕ) → Outcome → Reply

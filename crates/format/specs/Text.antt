@@ -1,16 +1,11 @@
 -- Text (Unicode 5.0, section 3.9, table 3-7) and the prefixed string.
-use Rattle.std.specs.Prelude.{ℕ, ◌+◌, ◌-◌, Bool, List, [], ◌∷◌, length, ltb, leb, eqb}
+use Rattle.std.specs.Prelude.{ℕ, ◌+◌, ◌-◌, Bool, List, [], ◌∷◌, length, ltb, leb, eqb, Result, Ok, Err}
+use Rattle.format.specs.declared.Refusal.{Refusal}
 use Rattle.format.specs.declared.Utf8.{Utf8}
 use Rattle.format.specs.declared.Refusal.TheVariants as R
 use Rattle.format.specs.declared.Setting.{Setting}
 use Rattle.format.specs.declared.Setting.TheVariants as Q
-use Rattle.format.specs.declared.Prefix.{Prefix}
-use Rattle.format.specs.declared.Prefix.TheVariants as P
-use Rattle.format.specs.declared.Text.{Text}
-use Rattle.format.specs.declared.Text.TheVariants as T
 use Rattle.format.specs.declared.Span.{Span}
-use Rattle.format.specs.declared.Field.{Field}
-use Rattle.format.specs.declared.Field.TheVariants as F
 use Rattle.format.specs.Bytes.{pick, part}
 use Rattle.format.specs.Prefix.{prefix_at}
 
@@ -52,27 +47,27 @@ unfoldable pub well_formed : List ℕ → Bool
 well_formed l = eqb (after between l).need 0
 
 -- n bytes of text at a place: missing bytes, then bad text
-unfoldable pub text_at : List ℕ → ℕ → ℕ → Field
-text_at s at n = pick (leb (at + n) (length s)) (pick (well_formed (part s at n)) (F.End (at + n)) (F.Fault R.BadText)) (F.Fault R.CutShort)
+unfoldable pub text_at : List ℕ → ℕ → ℕ → Result ℕ Refusal
+text_at s at n = pick (leb (at + n) (length s)) (pick (well_formed (part s at n)) (Ok (at + n)) (Err R.BadText)) (Err R.CutShort)
 
 -- ---- the prefixed string: prefix, then text
 
-abbrev pub text_from : ℕ → Field → Text
-text_from from (F.End end) = T.Part from end
-text_from from (F.Fault f) = T.Fault f
+abbrev pub text_from : ℕ → Result ℕ Refusal → Result Span Refusal
+text_from from (Ok end) = Ok (record { from = from; to = end })
+text_from from (Err f) = Err f
 
-abbrev pub after_prefix : List ℕ → Prefix → Text
-after_prefix s (P.Length n next) = text_from next (text_at s next n)
-after_prefix s (P.Fault f) = T.Fault f
+abbrev pub after_prefix : List ℕ → Result (ℕ × ℕ) Refusal → Result Span Refusal
+after_prefix s (Ok (n, next)) = text_from next (text_at s next n)
+after_prefix s (Err f) = Err f
 
-unfoldable pub string_at : Setting → List ℕ → ℕ → Text
+unfoldable pub string_at : Setting → List ℕ → ℕ → Result Span Refusal
 string_at σ s at = after_prefix s (prefix_at σ s at)
 
 -- ---- strings that were judged before
 
-abbrev pub span_from : List ℕ → ℕ → Prefix → Span
-span_from s at (P.Length n next) = pick (leb (next + n) (length s)) (record { from = next; to = next + n }) (record { from = at; to = at })
-span_from s at (P.Fault f) = record { from = at; to = at }
+abbrev pub span_from : List ℕ → ℕ → Result (ℕ × ℕ) Refusal → Span
+span_from s at (Ok (n, next)) = pick (leb (next + n) (length s)) (record { from = next; to = next + n }) (record { from = at; to = at })
+span_from s at (Err f) = record { from = at; to = at }
 
 -- where the text of a string that was judged before stands: neither the form of its prefix nor its text is judged again
 unfoldable pub span_at : List ℕ → ℕ → Span

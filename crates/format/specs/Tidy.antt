@@ -1,8 +1,8 @@
 -- The tidy copy (01, The tidy copy): the one way to write what a list says. Records with single nulls first; then each longest run is packed.
-use Rattle.std.specs.Prelude.{ℕ, zero, suc, Bool, true, false, ◌&&◌, List, [], ◌∷◌, ◌++◌, length, replicate, leb, eqb}
+use Rattle.std.specs.Prelude.{ℕ, zero, suc, Bool, true, false, ◌&&◌, List, [], ◌∷◌, ◌++◌, length, replicate, leb, eqb, Result, Ok, Err}
+use Rattle.format.specs.declared.Untidied.{Untidied}
+use Rattle.format.specs.declared.Untidied.TheVariants as A
 use Rattle.format.specs.declared.PrimitiveCode.{PrimitiveCode}
-use Rattle.format.specs.declared.TidyAnswer.{TidyAnswer}
-use Rattle.format.specs.declared.TidyAnswer.TheVariants as A
 use Rattle.format.specs.Bytes.{pick, same_bytes, laid}
 use Rattle.format.specs.Types.{code_number}
 use Rattle.format.specs.Machine.{Outcome, accepted, refused, table_words}
@@ -247,12 +247,12 @@ tidy_of m = encs (tidy_records m)
 abbrev pub fits : List ℕ → List ℕ → Bool
 fits copy out = leb (length copy) (length out) && leb (length copy) 16777216
 
-abbrev pub answer_by : List ℕ → List ℕ → TidyAnswer
-answer_by copy out = pick (fits copy out) (A.Written (length copy)) (A.OutFull (length copy))
+abbrev pub answer_by : List ℕ → List ℕ → Result ℕ Untidied
+answer_by copy out = pick (fits copy out) (Ok (length copy)) (Err (A.OutFull (length copy)))
 
-unfoldable pub tidy_answer : (β s out : List ℕ) → Outcome → TidyAnswer
+unfoldable pub tidy_answer : (β s out : List ℕ) → Outcome → Result ℕ Untidied
 tidy_answer β s out (accepted rows) = answer_by (tidy_of (says β s rows)) out
-tidy_answer β s out (refused r place) = A.Refused r place
+tidy_answer β s out (refused r place) = Err (A.Refused (record { refusal = r; place = place }))
 
 abbrev pub out_by : List ℕ → List ℕ → List ℕ
 out_by copy out = pick (fits copy out) (laid copy out) out

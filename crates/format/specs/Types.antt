@@ -1,22 +1,14 @@
 -- Primitive codes and types (01, Field rules and Records; 2.1.2.2 and 2.1.2.3): a member or item type with its detail, and the types of an object's slots.
-use Rattle.std.specs.Prelude.{ℕ, zero, suc, ◌+◌, Bool, true, false, ◌&&◌, ◌||◌, not, List, length, get_or, ltb, leb, eqb}
+use Rattle.std.specs.Prelude.{ℕ, zero, suc, ◌+◌, Bool, true, false, ◌&&◌, ◌||◌, not, List, length, get_or, ltb, leb, eqb, Option, Some, None, Result, Ok, Err}
+use Rattle.format.specs.declared.Refusal.{Refusal}
+use Rattle.format.specs.declared.Span.{Span}
 use Rattle.format.specs.declared.Setting.{Setting}
 use Rattle.format.specs.declared.Refusal.TheVariants as R
 use Rattle.format.specs.declared.PrimitiveCode.{PrimitiveCode}
 use Rattle.format.specs.declared.PrimitiveCode.TheVariants as C
-use Rattle.format.specs.declared.Coded.{Coded}
-use Rattle.format.specs.declared.Coded.TheVariants as D
 use Rattle.format.specs.declared.SlotType.{SlotType}
 use Rattle.format.specs.declared.SlotType.TheVariants as S
 use Rattle.format.specs.declared.Typed.{Typed}
-use Rattle.format.specs.declared.Number32.{Number32}
-use Rattle.format.specs.declared.Number32.TheVariants as N32
-use Rattle.format.specs.declared.Text.{Text}
-use Rattle.format.specs.declared.Text.TheVariants as T
-use Rattle.format.specs.declared.Field.{Field}
-use Rattle.format.specs.declared.Field.TheVariants as F
-use Rattle.format.specs.declared.Passed.{Passed}
-use Rattle.format.specs.declared.Passed.TheVariants as O
 use Rattle.format.specs.Bytes.{pick}
 use Rattle.format.specs.Numbers.{u32_at, negative}
 use Rattle.format.specs.Text.{string_at, span_at}
@@ -42,71 +34,71 @@ code_number C.UInt32 = 15
 code_number C.UInt64 = 16
 
 -- the code of a byte; 4, 17, 18 and all others are none
-unfoldable pub primitive_of : ℕ → Coded
+unfoldable pub primitive_of : ℕ → Option PrimitiveCode
 primitive_of b =
-    pick (eqb b 1) (D.Code C.Boolean)
-    (pick (eqb b 2) (D.Code C.Byte)
-    (pick (eqb b 3) (D.Code C.Char)
-    (pick (eqb b 5) (D.Code C.Decimal)
-    (pick (eqb b 6) (D.Code C.Double)
-    (pick (eqb b 7) (D.Code C.Int16)
-    (pick (eqb b 8) (D.Code C.Int32)
-    (pick (eqb b 9) (D.Code C.Int64)
-    (pick (eqb b 10) (D.Code C.SByte)
-    (pick (eqb b 11) (D.Code C.Single)
-    (pick (eqb b 12) (D.Code C.TimeSpan)
-    (pick (eqb b 13) (D.Code C.DateTime)
-    (pick (eqb b 14) (D.Code C.UInt16)
-    (pick (eqb b 15) (D.Code C.UInt32)
-    (pick (eqb b 16) (D.Code C.UInt64)
-    D.NoCode))))))))))))))
+    pick (eqb b 1) (Some C.Boolean)
+    (pick (eqb b 2) (Some C.Byte)
+    (pick (eqb b 3) (Some C.Char)
+    (pick (eqb b 5) (Some C.Decimal)
+    (pick (eqb b 6) (Some C.Double)
+    (pick (eqb b 7) (Some C.Int16)
+    (pick (eqb b 8) (Some C.Int32)
+    (pick (eqb b 9) (Some C.Int64)
+    (pick (eqb b 10) (Some C.SByte)
+    (pick (eqb b 11) (Some C.Single)
+    (pick (eqb b 12) (Some C.TimeSpan)
+    (pick (eqb b 13) (Some C.DateTime)
+    (pick (eqb b 14) (Some C.UInt16)
+    (pick (eqb b 15) (Some C.UInt32)
+    (pick (eqb b 16) (Some C.UInt64)
+    None))))))))))))))
 
 -- a primitive code at a place
-abbrev pub code_end : Coded → ℕ → Field
-code_end (D.Code c) at = F.End (at + 1)
-code_end D.NoCode at = F.Fault R.BadType
+abbrev pub code_end : Option PrimitiveCode → ℕ → Result ℕ Refusal
+code_end (Some c) at = Ok (at + 1)
+code_end None at = Err R.BadType
 
-unfoldable pub code_at : List ℕ → ℕ → Field
-code_at s at = pick (ltb at (length s)) (code_end (primitive_of (get_or s at 0)) at) (F.Fault R.CutShort)
+unfoldable pub code_at : List ℕ → ℕ → Result ℕ Refusal
+code_at s at = pick (ltb at (length s)) (code_end (primitive_of (get_or s at 0)) at) (Err R.CutShort)
 
 -- the code of a byte that was found to be one
-abbrev pub coded : Coded → PrimitiveCode
-coded (D.Code c) = c
-coded D.NoCode = C.Byte
+abbrev pub coded : Option PrimitiveCode → PrimitiveCode
+coded (Some c) = c
+coded None = C.Byte
 
 -- ---- types and their details
 
 -- a type byte at a place
-unfoldable pub type_byte_at : List ℕ → ℕ → Field
-type_byte_at s at = pick (ltb at (length s)) (pick (leb (get_or s at 0) 7) (F.End (at + 1)) (F.Fault R.BadType)) (F.Fault R.CutShort)
+unfoldable pub type_byte_at : List ℕ → ℕ → Result ℕ Refusal
+type_byte_at s at = pick (ltb at (length s)) (pick (leb (get_or s at 0) 7) (Ok (at + 1)) (Err R.BadType)) (Err R.CutShort)
 
-abbrev pub end_of : Text → Field
-end_of (T.Part from end) = F.End end
-end_of (T.Fault f) = F.Fault f
+abbrev pub end_of : Result Span Refusal → Result ℕ Refusal
+end_of (Ok t) = Ok t.to
+end_of (Err f) = Err f
 
 -- a name at a place
-unfoldable pub name_at : Setting → List ℕ → ℕ → Field
+unfoldable pub name_at : Setting → List ℕ → ℕ → Result ℕ Refusal
 name_at σ s at = end_of (string_at σ s at)
 
 -- positive, by its unsigned bits
 abbrev pub positive : ℕ → Bool
 positive n = not (eqb n 0) && not (negative n)
 
-abbrev pub positive_of : Number32 → Field
-positive_of (N32.Value v next) = pick (positive v) (F.End next) (F.Fault R.BadId)
-positive_of N32.Short = F.Fault R.CutShort
+abbrev pub positive_of : Option (ℕ × ℕ) → Result ℕ Refusal
+positive_of (Some (v, next)) = pick (positive v) (Ok next) (Err R.BadId)
+positive_of None = Err R.CutShort
 
 -- a LibraryId at a place, by its sign alone
-unfoldable pub library_id_at : List ℕ → ℕ → Field
+unfoldable pub library_id_at : List ℕ → ℕ → Result ℕ Refusal
 library_id_at s at = positive_of (u32_at s at)
 
 -- the detail of a type at a place: a primitive code, a class name, a class name and a LibraryId, or nothing
-unfoldable pub info_at : Setting → List ℕ → ℕ → ℕ → Field
+unfoldable pub info_at : Setting → List ℕ → ℕ → ℕ → Result ℕ Refusal
 info_at σ s type at =
     pick (eqb type 0 || eqb type 7) (code_at s at)
     (pick (eqb type 3) (name_at σ s at)
     (pick (eqb type 4) (on_end (library_id_at s) (name_at σ s at))
-    (F.End at)))
+    (Ok at)))
 
 -- ---- the types of slots
 
@@ -189,14 +181,14 @@ is_primitive S.StringArray = false
 is_primitive (S.PrimitiveArray c) = false
 
 -- n slots on, none of them primitive
-unfoldable pub passed : (β s : List ℕ) → Typed → ℕ → Passed
-passed β s t zero = O.Over t
-passed β s t (suc n) = pick (is_primitive t.slot) O.Crossed (passed β s (moved β s t) n)
+unfoldable pub passed : (β s : List ℕ) → Typed → ℕ → Option Typed
+passed β s t zero = Some t
+passed β s t (suc n) = pick (is_primitive t.slot) None (passed β s (moved β s t) n)
 
-abbrev pub passed_by : Bool → (β s : List ℕ) → Typed → ℕ → Passed
-passed_by true β s t n = O.Over t
+abbrev pub passed_by : Bool → (β s : List ℕ) → Typed → ℕ → Option Typed
+passed_by true β s t n = Some t
 passed_by false β s t n = passed β s t n
 
 -- a null run of n: the slots of an array are alike, and none of them is walked
-unfoldable pub passed_of : (β s : List ℕ) → Typed → ℕ → Passed
+unfoldable pub passed_of : (β s : List ℕ) → Typed → ℕ → Option Typed
 passed_of β s t n = passed_by (eqb t.types 0) β s t n

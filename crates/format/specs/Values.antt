@@ -1,41 +1,36 @@
 -- Primitive values (01, Field rules), and the items of a primitive array.
-use Rattle.std.specs.Prelude.{ℕ, zero, suc, ◌+◌, ◌-◌, ◌*◌, ◌/◌, ◌%◌, Bool, ◌&&◌, ◌||◌, List, [], ◌∷◌, length, get_or, ltb, leb, eqb}
+use Rattle.std.specs.Prelude.{ℕ, zero, suc, ◌+◌, ◌-◌, ◌*◌, ◌/◌, ◌%◌, Bool, ◌&&◌, ◌||◌, List, [], ◌∷◌, length, get_or, ltb, leb, eqb, Option, Some, None, Result, Ok, Err}
+use Rattle.format.specs.declared.Refusal.{Refusal}
 use Rattle.format.specs.declared.Refusal.TheVariants as R
 use Rattle.format.specs.declared.PrimitiveCode.{PrimitiveCode}
 use Rattle.format.specs.declared.PrimitiveCode.TheVariants as C
 use Rattle.format.specs.declared.Setting.{Setting}
-use Rattle.format.specs.declared.Prefix.{Prefix}
-use Rattle.format.specs.declared.Prefix.TheVariants as P
-use Rattle.format.specs.declared.Number64.{Number64}
-use Rattle.format.specs.declared.Number64.TheVariants as N64
 use Rattle.format.specs.declared.Span.{Span}
-use Rattle.format.specs.declared.Field.{Field}
-use Rattle.format.specs.declared.Field.TheVariants as F
 use Rattle.format.specs.Bytes.{pick, part}
 use Rattle.format.specs.Numbers.{u64_at}
 use Rattle.format.specs.Prefix.{prefix_at}
 use Rattle.format.specs.Text.{need_of, well_formed, span_at}
 
 -- n bytes at a place, whatever they are
-unfoldable pub bytes_at : List ℕ → ℕ → ℕ → Field
-bytes_at s at n = pick (leb (at + n) (length s)) (F.End (at + n)) (F.Fault R.CutShort)
+unfoldable pub bytes_at : List ℕ → ℕ → ℕ → Result ℕ Refusal
+bytes_at s at n = pick (leb (at + n) (length s)) (Ok (at + n)) (Err R.CutShort)
 
 -- ---- Boolean: 0 or 1
 
-unfoldable pub boolean_at : List ℕ → ℕ → Field
-boolean_at s at = pick (ltb at (length s)) (pick (leb (get_or s at 0) 1) (F.End (at + 1)) (F.Fault R.BadValue)) (F.Fault R.CutShort)
+unfoldable pub boolean_at : List ℕ → ℕ → Result ℕ Refusal
+boolean_at s at = pick (ltb at (length s)) (pick (leb (get_or s at 0) 1) (Ok (at + 1)) (Err R.BadValue)) (Err R.CutShort)
 
 -- ---- Char: one scalar, whose first byte announces its size
 
 -- a scalar of n bytes
-unfoldable pub scalar_at : List ℕ → ℕ → ℕ → Field
-scalar_at s at n = pick (leb (at + n) (length s)) (pick (well_formed (part s at n)) (F.End (at + n)) (F.Fault R.BadValue)) (F.Fault R.CutShort)
+unfoldable pub scalar_at : List ℕ → ℕ → ℕ → Result ℕ Refusal
+scalar_at s at n = pick (leb (at + n) (length s)) (pick (well_formed (part s at n)) (Ok (at + n)) (Err R.BadValue)) (Err R.CutShort)
 
-unfoldable pub char_at : List ℕ → ℕ → Field
+unfoldable pub char_at : List ℕ → ℕ → Result ℕ Refusal
 char_at s at =
     pick (ltb at (length s))
-    (pick (eqb (need_of (get_or s at 0)) 4) (F.Fault R.BadValue) (scalar_at s at (need_of (get_or s at 0) + 1)))
-    (F.Fault R.CutShort)
+    (pick (eqb (need_of (get_or s at 0)) 4) (Err R.BadValue) (scalar_at s at (need_of (get_or s at 0) + 1)))
+    (Err R.CutShort)
 
 -- ---- Decimal (2.1.1.7): optional minus, digits, optionally a point and digits; its exact value within the range
 
@@ -84,14 +79,14 @@ unfoldable pub decimal : List ℕ → Bool
 decimal l = ends (decimal_after begun l).phase
 
 -- n bytes of Decimal text
-unfoldable pub decimal_text : List ℕ → ℕ → ℕ → Field
-decimal_text s at n = pick (leb (at + n) (length s)) (pick (decimal (part s at n)) (F.End (at + n)) (F.Fault R.BadValue)) (F.Fault R.CutShort)
+unfoldable pub decimal_text : List ℕ → ℕ → ℕ → Result ℕ Refusal
+decimal_text s at n = pick (leb (at + n) (length s)) (pick (decimal (part s at n)) (Ok (at + n)) (Err R.BadValue)) (Err R.CutShort)
 
-abbrev pub decimal_from : List ℕ → Prefix → Field
-decimal_from s (P.Length n next) = decimal_text s next n
-decimal_from s (P.Fault f) = F.Fault f
+abbrev pub decimal_from : List ℕ → Result (ℕ × ℕ) Refusal → Result ℕ Refusal
+decimal_from s (Ok (n, next)) = decimal_text s next n
+decimal_from s (Err f) = Err f
 
-unfoldable pub decimal_at : Setting → List ℕ → ℕ → Field
+unfoldable pub decimal_at : Setting → List ℕ → ℕ → Result ℕ Refusal
 decimal_at σ s at = decimal_from s (prefix_at σ s at)
 
 -- ---- DateTime (2.1.1.5; 02, (i)): the top two bits are the kind, 0 to 2; the low 62 bits are ticks without a sign, up to the last of the year 9999
@@ -103,11 +98,11 @@ last_tick = 3155378975999999999
 abbrev pub date_time : ℕ → Bool
 date_time x = ltb (x / 4611686018427387904) 3 && leb (x % 4611686018427387904) last_tick
 
-abbrev pub date_time_of : Number64 → Field
-date_time_of (N64.Value x next) = pick (date_time x) (F.End next) (F.Fault R.BadValue)
-date_time_of N64.Short = F.Fault R.CutShort
+abbrev pub date_time_of : Option (ℕ × ℕ) → Result ℕ Refusal
+date_time_of (Some (x, next)) = pick (date_time x) (Ok next) (Err R.BadValue)
+date_time_of None = Err R.CutShort
 
-unfoldable pub date_time_at : List ℕ → ℕ → Field
+unfoldable pub date_time_at : List ℕ → ℕ → Result ℕ Refusal
 date_time_at s at = date_time_of (u64_at s at)
 
 -- ---- a value by its code
@@ -130,7 +125,7 @@ size_of C.UInt16 = 2
 size_of C.UInt32 = 4
 size_of C.UInt64 = 8
 
-unfoldable pub value_at : Setting → List ℕ → PrimitiveCode → ℕ → Field
+unfoldable pub value_at : Setting → List ℕ → PrimitiveCode → ℕ → Result ℕ Refusal
 value_at σ s C.Boolean at = boolean_at s at
 value_at σ s C.Byte at = bytes_at s at 1
 value_at σ s C.Char at = char_at s at
@@ -174,15 +169,15 @@ value_span s c at = pick (eqb (size_from s c at) 0) (span_at s at) (record { fro
 -- ---- fields in a row
 
 -- what follows a field that is good
-abbrev pub on_end : (ℕ → Field) → Field → Field
-on_end k (F.End next) = k next
-on_end k (F.Fault f) = F.Fault f
+abbrev pub on_end : (ℕ → Result ℕ Refusal) → Result ℕ Refusal → Result ℕ Refusal
+on_end k (Ok next) = k next
+on_end k (Err f) = Err f
 
 -- n fields, one after the other
-unfoldable pub times : (ℕ → Field) → ℕ → ℕ → Field
-times field zero at = F.End at
+unfoldable pub times : (ℕ → Result ℕ Refusal) → ℕ → ℕ → Result ℕ Refusal
+times field zero at = Ok at
 times field (suc n) at = on_end (times field n) (field at)
 
 -- the n items of a primitive array: numbers in one step, judged values one by one
-unfoldable pub items_at : Setting → List ℕ → PrimitiveCode → ℕ → ℕ → Field
+unfoldable pub items_at : Setting → List ℕ → PrimitiveCode → ℕ → ℕ → Result ℕ Refusal
 items_at σ s code n at = pick (eqb (size_of code) 0) (times (value_at σ s code) n at) (bytes_at s at (size_of code * n))

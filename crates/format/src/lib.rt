@@ -67,39 +67,32 @@ pub fn number_of(r: Refusal) -> u32
     }
 }
 
-// What reading a stream into a table answers: how many rows, or the refusal and its place.
+// A refusal, and its place.
 #[derive(Clone, Copy)]
-pub enum ReadAnswer {
-    Accepted(usize),
-    Refused(Refusal, usize),
+pub struct Refused {
+    pub refusal: Refusal,
+    pub place: usize,
 }
 
-// What the row question answers.
+// What the row question answers. Neither answer carries anything, so two names are plainer than an empty Result.
 #[derive(Clone, Copy)]
 pub enum RowAnswer {
     HasText,
     NoSuchRow,
 }
 
-// What tidying answers: the copy's length; the refusal of the reading and its place; or, where the copy has no room, the length
-// that it needs.
+// Why no tidy copy is written: the reading is refused; or the copy has no room, with the length that it needs.
 #[derive(Clone, Copy)]
-pub enum TidyAnswer {
-    Written(usize),
-    Refused(Refusal, usize),
+pub enum Untidied {
+    Refused(Refused),
     OutFull(usize),
 }
 
-// What comparing two lists answers: whether they say the same; or the first list whose reading is refused, with the refusal and its place; or the
-// first whose tidy copy has no room, with the length that it needs.
+// Why two lists are not compared: the first or the second has no tidy copy.
 #[derive(Clone, Copy)]
-pub enum Sameness {
-    Same,
-    Different,
-    FirstRefused(Refusal, usize),
-    SecondRefused(Refusal, usize),
-    FirstFull(usize),
-    SecondFull(usize),
+pub enum Uncompared {
+    First(Untidied),
+    Second(Untidied),
 }
 
 // ---- the two counts
@@ -133,13 +126,6 @@ pub enum PrimitiveCode {
     UInt64,
 }
 
-// What a byte says where a primitive code stands.
-#[derive(Clone, Copy)]
-pub enum Coded {
-    Code(PrimitiveCode),
-    NoCode,
-}
-
 // The type of a member or an item. The primitive cases hold their code; the other details are told apart by place alone.
 #[derive(Clone, Copy)]
 pub enum SlotType {
@@ -163,43 +149,11 @@ pub struct Typed {
 
 // ---- fields: what stands at a place
 
-#[derive(Clone, Copy)]
-pub enum Number16 {
-    Value(u16, usize),
-    Short,
-}
-
-#[derive(Clone, Copy)]
-pub enum Number32 {
-    Value(u32, usize),
-    Short,
-}
-
-#[derive(Clone, Copy)]
-pub enum Number64 {
-    Value(u64, usize),
-    Short,
-}
-
 // How length prefixes are judged: strict takes the shortest form alone, lenient any form of at most five bytes whose fifth is at most 7.
 #[derive(Clone, Copy)]
 pub enum Setting {
     Strict,
     Lenient,
-}
-
-// A length prefix: its number, and the place after its bytes.
-#[derive(Clone, Copy)]
-pub enum Prefix {
-    Length(u32, usize),
-    Fault(Refusal),
-}
-
-// A prefixed string: where its text begins and ends.
-#[derive(Clone, Copy)]
-pub enum Text {
-    Part(usize, usize),
-    Fault(Refusal),
 }
 
 // Where the text of a string, or what a value says, begins and ends.
@@ -209,13 +163,6 @@ pub struct Span {
     pub to: usize,
 }
 
-// Any other field: the place after it.
-#[derive(Clone, Copy)]
-pub enum Field {
-    End(usize),
-    Fault(Refusal),
-}
-
 // The state of the text check between two bytes. need: how many bytes must still follow, 4 where nothing can mend it; the next one
 // lies in lo..=hi.
 #[derive(Clone, Copy)]
@@ -223,13 +170,6 @@ pub struct Utf8 {
     pub need: u8,
     pub lo: u8,
     pub hi: u8,
-}
-
-// The lengths of an array: their exact product, and the place after the last.
-#[derive(Clone, Copy)]
-pub enum Slots {
-    Product(u32, usize),
-    Fault(Refusal),
 }
 
 // ---- rows
@@ -260,13 +200,6 @@ pub enum Where {
     ArraySlot,
 }
 
-// What a kind byte says where it stands.
-#[derive(Clone, Copy)]
-pub enum Kind {
-    Taken(u8),
-    Wrong(Refusal),
-}
-
 // What a record's fields say: its id, the place after them, its count, how many slots wait to be filled, the type of the first of
 // them, and the link word.
 #[derive(Clone, Copy)]
@@ -279,12 +212,6 @@ pub struct Head {
     pub link: u32,
 }
 
-#[derive(Clone, Copy)]
-pub enum Heading {
-    Fields(Head),
-    Bad(Refusal),
-}
-
 // ---- the machine
 
 // An object that is open: the number of its row plus 1, how many slots it has, how many are left, and the type of the next one. The
@@ -295,13 +222,6 @@ pub struct Frame {
     pub count: u32,
     pub left: u32,
     pub typed: Typed,
-}
-
-// A null run over slots: the type of the slot after it, or it meets a primitive slot.
-#[derive(Clone, Copy)]
-pub enum Passed {
-    Over(Typed),
-    Crossed,
 }
 
 // The reader between two records: the place, how many rows there are, how many frames are saved below the innermost object, and its

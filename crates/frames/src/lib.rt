@@ -54,6 +54,7 @@ pub fn settle(frames: &[u32; Reader::WORDS], m: Reader) -> Reader
 {
     let mut depth = m.depth;
     let mut top = m.top;
+    // How many are full is found one by one, so no range counts them.
     while depth != 0 && top.left == 0 {
         depth -= 1;
         top = frame_at(frames, depth);

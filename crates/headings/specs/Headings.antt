@@ -1,17 +1,12 @@
 -- The fields of a record by its kind: one law for each kind that the definition names, and one for all others.
-use Rattle.std.specs.Prelude.{ℕ, ◌+◌, ◌≡◌, refl, Bool, true, false, List, get_or}
+use Rattle.std.specs.Prelude.{ℕ, ◌+◌, ◌≡◌, refl, Bool, true, false, List, get_or, Option, Some, None, Result, Ok, Err}
+use Rattle.format.specs.declared.Head.{Head}
 use borrow.Author.Tests.{ne_eqb}
 use Rattle.format.specs.Terms.{Terms}
 use Rattle.format.specs.declared.Setting.{Setting}
 use Rattle.format.specs.declared.Refusal.{Refusal}
 use Rattle.format.specs.declared.Refusal.TheVariants as R
 use Rattle.format.specs.declared.SlotType.TheVariants as S
-use Rattle.format.specs.declared.Field.{Field}
-use Rattle.format.specs.declared.Field.TheVariants as F
-use Rattle.format.specs.declared.Number32.{Number32}
-use Rattle.format.specs.declared.Number32.TheVariants as N32
-use Rattle.format.specs.declared.Heading.{Heading}
-use Rattle.format.specs.declared.Heading.TheVariants as H
 use Rattle.format.specs.declared.Row.{Row}
 use Rattle.format.specs.Bytes.{pick}
 use Rattle.format.specs.Numbers.{u32_at}
@@ -112,19 +107,19 @@ module _ (τ : Terms) (s : List ℕ) (rows : List Row) (k at : ℕ) where
 
 -- ---- records without slots of their own
 
-hollow_pick : (t : Bool) (x y : Heading) → Hollow x → Hollow y → Hollow (pick t x y)
+hollow_pick : (t : Bool) (x y : Result Head Refusal) → Hollow x → Hollow y → Hollow (pick t x y)
 hollow_pick true x y a b = a
 hollow_pick false x y a b = b
 
-hollow_field : (k : ℕ → Heading) (r : Field) → ((e : ℕ) → Hollow (k e)) → Hollow (on_field k r)
-hollow_field k (F.End e) h = h e
-hollow_field k (F.Fault f) h = tt
+hollow_field : (k : ℕ → Result Head Refusal) (r : Result ℕ Refusal) → ((e : ℕ) → Hollow (k e)) → Hollow (on_field k r)
+hollow_field k (Ok e) h = h e
+hollow_field k (Err f) h = tt
 
-hollow_judged : (test : ℕ → Bool) (refusal : Refusal) (good : ℕ → ℕ → Heading) (r : Number32) → ((v p : ℕ) → Hollow (good v p))
+hollow_judged : (test : ℕ → Bool) (refusal : Refusal) (good : ℕ → ℕ → Result Head Refusal) (r : Option (ℕ × ℕ)) → ((v p : ℕ) → Hollow (good v p))
     → Hollow (on_judged test refusal good r)
 unfolding on_judged
-hollow_judged test refusal good (N32.Value v p) h = hollow_pick (test v) (good v p) (H.Bad refusal) (h v p) tt
-hollow_judged test refusal good N32.Short h = tt
+hollow_judged test refusal good (Some (v, p)) h = hollow_pick (test v) (good v p) (Err refusal) (h v p) tt
+hollow_judged test refusal good None h = tt
 
 module _ (σ : Setting) (s : List ℕ) (at : ℕ) where
   named_hollow : (id p : ℕ) → Hollow (named_at σ s id p)

@@ -7,7 +7,7 @@ ghost use Rattle.format.specs.Records.{heading_at};
 ghost use Rattle.kinds.specs.Kinds.{is_brief, Hollow};
 ghost use Rattle.format.specs.Terms.{terms};
 
-use format::{Heading, Setting, SlotType};
+use format::{Head, Refusal, Setting, SlotType};
 
 // ---- all kinds
 
@@ -21,7 +21,7 @@ pub fn heading_at(
     k: u8,
     at: usize,
     setting: Setting,
-) -> Heading
+) -> Result<Head, Refusal>
     requires { (n ≤ room_of table.now) × (length s.now ≤ 16777216) × (n ≤ 16777216) × (at < length s.now) × (is_brief k ≡ false) }
     ensures { result ≡ heading_at (terms setting book.now) s.now (rows_of n table.now) k at }
 {
@@ -58,7 +58,7 @@ pub fn brief_at(
     k: u8,
     at: usize,
     setting: Setting,
-) -> Heading
+) -> Result<Head, Refusal>
     requires { (is_brief k ≡ true) × (n ≤ room_of table.now) × (at < length s.now) }
     ensures { (result ≡ heading_at (terms setting book.now) s.now (rows_of n table.now) k at) × Hollow result }
 {

@@ -1,5 +1,6 @@
 -- Each value is some bytes that a test judges.
-use Rattle.std.specs.Prelude.{ℕ, ◌+◌, ◌<◌, ◌≡◌, refl, Bool, List, length, ltb, leb, eqb}
+use Rattle.std.specs.Prelude.{ℕ, ◌+◌, ◌<◌, ◌≡◌, refl, Bool, List, length, ltb, leb, eqb, Some, None, Result, Ok, Err}
+use Rattle.format.specs.declared.Refusal.{Refusal}
 use Rattle.std.proofs.Common.{◌∙◌, arith, lt-ltb, le-ltb, le-leb}
 use Rattle.std.proofs.Math.Bool.{true, false}
 use Rattle.std.proofs.Math.Decide.{dec_lt}
@@ -8,10 +9,6 @@ use Rattle.std.proofs.lemmas.Bool.{eqb-false, lt-leb}
 use Rattle.format.specs.declared.Setting.{Setting}
 use Rattle.format.specs.declared.Refusal.TheVariants as R
 use Rattle.format.specs.declared.Setting.TheVariants as Q
-use Rattle.format.specs.declared.Prefix.{Prefix}
-use Rattle.format.specs.declared.Prefix.TheVariants as P
-use Rattle.format.specs.declared.Number64.TheVariants as N64
-use Rattle.format.specs.declared.Field.TheVariants as F
 use Rattle.format.specs.Bytes.{pick, part}
 use Rattle.format.specs.Numbers.{le, u64_at}
 use Rattle.format.specs.Prefix.{prefix_at}
@@ -39,8 +36,8 @@ unfolding boolean_at judged_at
 boolean_judged s p = go (dec_lt p (length s))
   where
     go : Dec (p < length s)
-        → pick (ltb p (length s)) (pick (leb (get_or s p 0) 1) (F.End (p + 1)) (F.Fault R.BadValue)) (F.Fault R.CutShort)
-        ≡ pick (leb (p + 1) (length s)) (pick (leb (get_or (part s p 1) 0 0) 1) (F.End (p + 1)) (F.Fault R.BadValue)) (F.Fault R.CutShort)
+        → pick (ltb p (length s)) (pick (leb (get_or s p 0) 1) (Ok (p + 1)) (Err R.BadValue)) (Err R.CutShort)
+        ≡ pick (leb (p + 1) (length s)) (pick (leb (get_or (part s p 1) 0 0) 1) (Ok (p + 1)) (Err R.BadValue)) (Err R.CutShort)
     go (yes h) = rw (lt-ltb p (length s) h, le-leb (p + 1) (length s) (omega arith), part_first s p 1 (omega arith))
     go (no h) = rw (le-ltb p (length s) (omega arith), lt-leb (p + 1) (length s) (omega arith))
 
@@ -56,8 +53,8 @@ date_judged s p = go (leb (p + 8) (length s))
     x : ℕ
     x = le (part s p 8)
 
-    go : (t : Bool) → date_time_of (pick t (N64.Value (le (part s p 8)) (p + 8)) N64.Short)
-        ≡ pick t (pick (date_time (le (part s p 8))) (F.End (p + 8)) (F.Fault R.BadValue)) (F.Fault R.CutShort)
+    go : (t : Bool) → date_time_of (pick t (Some (le (part s p 8), p + 8)) None)
+        ≡ pick t (pick (date_time (le (part s p 8))) (Ok (p + 8)) (Err R.BadValue)) (Err R.CutShort)
     go true = refl
     go false = refl
 
@@ -70,17 +67,17 @@ abbrev pub one_scalar : List ℕ → Bool
 one_scalar l = pick (eqb (need_of (get_or l 0 0)) 4) false (well_formed l)
 
 module _ (s : List ℕ) (p e : ℕ) where
-  pub char_taken : char_at s p ≡ F.End e → Taken one_scalar s p (char_width (get_or s p 0)) e
+  pub char_taken : char_at s p ≡ Ok e → Taken one_scalar s p (char_width (get_or s p 0)) e
   unfolding char_at scalar_at judged_at
   char_taken q =
       let b = get_or s p 0 in
       let n = need_of b + 1 in
-      let u = told (ltb p (length s)) (pick (eqb (need_of b) 4) (F.Fault R.BadValue) (scalar_at s p n)) (F.Fault R.CutShort) (F.End e) q (no_end R.CutShort e) in
-      let v = other (eqb (need_of b) 4) (F.Fault R.BadValue) (scalar_at s p n) (F.End e) u.1 (no_end R.BadValue e) in
+      let u = told (ltb p (length s)) (pick (eqb (need_of b) 4) (Err R.BadValue) (scalar_at s p n)) (Err R.CutShort) (Ok e) q (no_end R.CutShort e) in
+      let v = other (eqb (need_of b) 4) (Err R.BadValue) (scalar_at s p n) (Ok e) u.1 (no_end R.BadValue e) in
       let w = judged_taken well_formed R.BadValue s p n e v.1 in
       record { ends = w.ends; room = w.room; good = rw (part_first s p n (omega arith), v.0) w.good }
 
-  pub char_of : Taken one_scalar s p (char_width (get_or s p 0)) e → char_at s p ≡ F.End e
+  pub char_of : Taken one_scalar s p (char_width (get_or s p 0)) e → char_at s p ≡ Ok e
   unfolding scalar_at judged_at
   char_of w =
       let b = get_or s p 0 in
@@ -92,14 +89,14 @@ module _ (s : List ℕ) (p e : ℕ) where
 
 -- ---- Decimal: a prefix, and as many bytes as it says
 
-pub decimal_told : (σ : Setting) (s : List ℕ) (p e : ℕ) → decimal_at σ s p ≡ F.End e → (n : ℕ) × (a : ℕ) × Counted σ decimal R.BadValue s p n a e
+pub decimal_told : (σ : Setting) (s : List ℕ) (p e : ℕ) → decimal_at σ s p ≡ Ok e → (n : ℕ) × (a : ℕ) × Counted σ decimal R.BadValue s p n a e
 unfolding decimal_at decimal_text judged_at
 decimal_told σ s p e q = go (prefix_at σ s p) refl q
   where
-    go : (r : Prefix) → prefix_at σ s p ≡ r → decimal_from s r ≡ F.End e → (n : ℕ) × (a : ℕ) × Counted σ decimal R.BadValue s p n a e
-    go (P.Length n a) h q = (n, a, record { says = h; ends = q })
-    go (P.Fault f) h q = absurd (no_end f e q)
+    go : (r : Result (ℕ × ℕ) Refusal) → prefix_at σ s p ≡ r → decimal_from s r ≡ Ok e → (n : ℕ) × (a : ℕ) × Counted σ decimal R.BadValue s p n a e
+    go (Ok (n, a)) h q = (n, a, record { says = h; ends = q })
+    go (Err f) h q = absurd (no_end f e q)
 
-pub decimal_of_lem : (σ : Setting) (s : List ℕ) (p n a e : ℕ) → Counted σ decimal R.BadValue s p n a e → decimal_at σ s p ≡ F.End e
+pub decimal_of_lem : (σ : Setting) (s : List ℕ) (p n a e : ℕ) → Counted σ decimal R.BadValue s p n a e → decimal_at σ s p ≡ Ok e
 unfolding decimal_at decimal_text judged_at
 decimal_of_lem σ s p n a e c = rw c.says c.ends

@@ -1,12 +1,11 @@
 -- Every value moves forward within the stream and looks only at its own bytes, and so do the items of a primitive array.
-use Rattle.std.specs.Prelude.{ℕ, zero, suc, ◌+◌, ◌-◌, ◌*◌, ◌≤◌, ◌<◌, ◌≡◌, refl, Bool, true, false, List, ◌++◌, length, drop, eqb}
+use Rattle.std.specs.Prelude.{ℕ, zero, suc, ◌+◌, ◌-◌, ◌*◌, ◌≤◌, ◌<◌, ◌≡◌, refl, Bool, true, false, List, ◌++◌, length, drop, eqb, Ok}
 use Rattle.std.proofs.Common.{sym, ◌∙◌, arith, mul-le-mul}
 use Rattle.std.proofs.lemmas.Bool.{eqb-false}
 use Rattle.format.specs.declared.Setting.{Setting}
 use Rattle.format.specs.declared.Refusal.TheVariants as R
 use Rattle.format.specs.declared.PrimitiveCode.{PrimitiveCode}
 use Rattle.format.specs.declared.PrimitiveCode.TheVariants as C
-use Rattle.format.specs.declared.Field.TheVariants as F
 use Rattle.format.specs.Bytes.{pick, part}
 use Rattle.format.specs.Local.{Local}
 use Rattle.format.specs.Values.{bytes_at, boolean_at, char_at, decimal, decimal_at, date_time_at, size_of, value_at, times, items_at}
@@ -37,13 +36,13 @@ char_local = local_of one_scalar char_width char_at (λ b. omega arith) char_tak
 pub decimal_local : (σ : Setting) → Local (decimal_at σ)
 decimal_local σ = record { moves = moves; only = only }
   where
-    moves : (s : List ℕ) (p e : ℕ) → decimal_at σ s p ≡ F.End e → (p ≤ e) × (e ≤ length s)
+    moves : (s : List ℕ) (p e : ℕ) → decimal_at σ s p ≡ Ok e → (p ≤ e) × (e ≤ length s)
     moves s p e q =
         let w = decimal_told σ s p e q in
         let m = counted_moves σ decimal R.BadValue s p w.0 w.1 e w.2 in
         (omega arith, omega arith)
 
-    only : (s t rest : List ℕ) (p q e : ℕ) → decimal_at σ s p ≡ F.End e → drop q t ≡ part s p (e - p) ++ rest → decimal_at σ t q ≡ F.End (q + (e - p))
+    only : (s t rest : List ℕ) (p q e : ℕ) → decimal_at σ s p ≡ Ok e → drop q t ≡ part s p (e - p) ++ rest → decimal_at σ t q ≡ Ok (q + (e - p))
     only s t rest p q e h d =
         let w = decimal_told σ s p e h in
         let c = counted_only σ decimal R.BadValue s t rest p q w.0 w.1 e w.2 d in
@@ -69,12 +68,12 @@ value_local σ C.UInt64 = bytes_local 8 (omega arith)
 
 -- ---- at least one byte
 
-bytes_some : (s : List ℕ) (p n e : ℕ) → 0 < n → bytes_at s p n ≡ F.End e → p < e
+bytes_some : (s : List ℕ) (p n e : ℕ) → 0 < n → bytes_at s p n ≡ Ok e → p < e
 bytes_some s p n e h q =
     let w = judged_taken any R.BadValue s p n e (sym (bytes_judged s p n) ∙ q) in
     omega arith
 
-value_some : (σ : Setting) (s : List ℕ) (code : PrimitiveCode) (p e : ℕ) → value_at σ s code p ≡ F.End e → p < e
+value_some : (σ : Setting) (s : List ℕ) (code : PrimitiveCode) (p e : ℕ) → value_at σ s code p ≡ Ok e → p < e
 unfolding value_at
 value_some σ s C.Boolean p e q =
     let w = judged_taken truth R.BadValue s p 1 e (sym (boolean_judged s p) ∙ q) in
@@ -101,7 +100,7 @@ value_some σ s C.UInt16 p e q = bytes_some s p 2 e (omega arith) q
 value_some σ s C.UInt32 p e q = bytes_some s p 4 e (omega arith) q
 value_some σ s C.UInt64 p e q = bytes_some s p 8 e (omega arith) q
 
-pub value_moves : (σ : Setting) (s : List ℕ) (code : PrimitiveCode) (p e : ℕ) → value_at σ s code p ≡ F.End e → (p < e) × (e ≤ length s)
+pub value_moves : (σ : Setting) (s : List ℕ) (code : PrimitiveCode) (p e : ℕ) → value_at σ s code p ≡ Ok e → (p < e) × (e ≤ length s)
 value_moves σ s code p e q = (value_some σ s code p e q, ((value_local σ code).moves s p e q).1)
 
 -- ---- the items

@@ -4,30 +4,33 @@
 ghost use Rattle.std.specs.Prelude.{◌≡◌};
 ghost use Rattle.format.specs.Values.{value_at, times, items_at};
 
-use format::{Field, PrimitiveCode, Setting};
+use format::{PrimitiveCode, Refusal, Setting};
 
 // n values, one after the other: the first that is bad or missing decides.
-fn each_at(s: &[u8], code: PrimitiveCode, n: u32, at: usize, setting: Setting) -> Field
+fn each_at(
+    s: &[u8],
+    code: PrimitiveCode,
+    n: u32,
+    at: usize,
+    setting: Setting,
+) -> Result<usize, Refusal>
     ensures { result ≡ times (value_at setting s.now code) n at }
 {
-    let mut left = n;
     let mut p = at;
-    while left > 0 {
-        match values::value_at(s, code, p, setting) {
-            Field::End(next) => {
-                p = next;
-            }
-            Field::Fault(f) => {
-                return Field::Fault(f);
-            }
-        }
-        left -= 1;
+    for _ in 0..n {
+        p = values::value_at(s, code, p, setting)?;
     }
-    Field::End(p)
+    Ok(p)
 }
 
 // The n items of a primitive array: numbers in one step, judged values one by one.
-pub fn items_at(s: &[u8], code: PrimitiveCode, n: u32, at: usize, setting: Setting) -> Field
+pub fn items_at(
+    s: &[u8],
+    code: PrimitiveCode,
+    n: u32,
+    at: usize,
+    setting: Setting,
+) -> Result<usize, Refusal>
     ensures { result ≡ items_at setting s.now code n at }
 {
     let size = values::size_of(code);

@@ -1,5 +1,6 @@
 -- What a kind byte says where it stands: one law for each answer, and what a kind that is taken says.
-use Rattle.std.specs.Prelude.{ℕ, ◌≤◌, ◌<◌, ◌≡◌, Bool, ◌&&◌, ◌||◌, List, length, get_or, ltb, eqb}
+use Rattle.std.specs.Prelude.{ℕ, ◌≤◌, ◌<◌, ◌≡◌, Bool, ◌&&◌, ◌||◌, List, length, get_or, ltb, eqb, Result, Ok, Err}
+use Rattle.format.specs.declared.Head.{Head}
 use Rattle.std.proofs.Math.Path.{refl}
 use Rattle.std.proofs.Math.Decide.{dec_lt}
 use Rattle.std.proofs.Common.{sym, ap, subst, ◌∙◌, arith}
@@ -9,10 +10,6 @@ use Rattle.format.specs.declared.Refusal.{Refusal}
 use Rattle.format.specs.declared.Refusal.TheVariants as R
 use Rattle.format.specs.declared.Where.{Where}
 use Rattle.format.specs.declared.Where.TheVariants as W
-use Rattle.format.specs.declared.Kind.{Kind}
-use Rattle.format.specs.declared.Kind.TheVariants as K
-use Rattle.format.specs.declared.Heading.{Heading}
-use Rattle.format.specs.declared.Heading.TheVariants as H
 use Rattle.format.specs.Bytes.{pick}
 use Rattle.format.specs.Records.{is_kind, not_taken, in_slot, is_class_kind, allowed, kind_of, kind_at}
 use Rattle.fields.specs.Tests.{both_of}
@@ -47,9 +44,9 @@ brief_none k e =
     neither false q e = (refl, e)
 
 -- the fields of a record without slots of its own
-abbrev pub Hollow : Heading → Type 0
-Hollow (H.Fields h) = h.slots ≡ 0
-Hollow (H.Bad f) = Unit {0}
+abbrev pub Hollow : Result Head Refusal → Type 0
+Hollow (Ok h) = h.slots ≡ 0
+Hollow (Err f) = Unit {0}
 
 -- ---- the slots
 
@@ -57,20 +54,20 @@ module _ (k : ℕ) where
   -- ---- a kind byte
 
   module _ (w : Where) where
-    pub kind_unknown : is_kind k ≡ false → kind_of w k ≡ K.Wrong R.UnknownKind
+    pub kind_unknown : is_kind k ≡ false → kind_of w k ≡ Err R.UnknownKind
     unfolding kind_of
     kind_unknown i = rw i
 
     module _ (i : is_kind k ≡ true) where
-      pub kind_refused : not_taken k ≡ true → kind_of w k ≡ K.Wrong R.NotTaken
+      pub kind_refused : not_taken k ≡ true → kind_of w k ≡ Err R.NotTaken
       unfolding kind_of
       kind_refused t = rw (i, t)
 
-      pub kind_taken : not_taken k ≡ false → allowed w k ≡ true → kind_of w k ≡ K.Taken k
+      pub kind_taken : not_taken k ≡ false → allowed w k ≡ true → kind_of w k ≡ Ok k
       unfolding kind_of
       kind_taken t a = rw (i, t, a)
 
-      pub kind_misplaced : not_taken k ≡ false → allowed w k ≡ false → kind_of w k ≡ K.Wrong R.WrongPlace
+      pub kind_misplaced : not_taken k ≡ false → allowed w k ≡ false → kind_of w k ≡ Err R.WrongPlace
       unfolding kind_of
       kind_misplaced t a = rw (i, t, a)
 
@@ -108,7 +105,7 @@ module _ (k : ℕ) where
   allowed_known W.ObjectSlot = or _ _ class_known (or _ _ (is 6 (refl, refl)) (or _ _ (is 8 (refl, refl)) slot_known))
   allowed_known W.ArraySlot = slot_known
 
-  pub kind_allowed : (w : Where) → allowed w k ≡ true → kind_of w k ≡ K.Taken k
+  pub kind_allowed : (w : Where) → allowed w k ≡ true → kind_of w k ≡ Ok k
   kind_allowed w a = let x = allowed_known w a in kind_taken k w x.0 x.1 a
 
 module _ (s : List ℕ) (w : Where) (at : ℕ) where
@@ -116,13 +113,13 @@ module _ (s : List ℕ) (w : Where) (at : ℕ) where
   unfolding kind_at
   kind_there h = simp lt-ltb
 
-  pub kind_short : length s ≤ at → kind_at s w at ≡ K.Wrong R.CutShort
+  pub kind_short : length s ≤ at → kind_at s w at ≡ Err R.CutShort
   unfolding kind_at
   kind_short h = simp le-ltb
 
 -- ---- what a kind that is taken says
 
-pub no_kind : (f : Refusal) (k : ℕ) → K.Wrong f ≡ K.Taken k → ⊥
+pub no_kind : (f : Refusal) (k : ℕ) → Err f ≡ Ok k → ⊥
 no_kind f k q = let z : ◌≡◌ {A = ℕ} 0 1 = cc in omega arith
 
 -- it is the byte, of a kind that is known, not refused by name, and allowed there
@@ -132,26 +129,26 @@ pub record Stands (w : Where) (b k : ℕ) : Type 0 where
   pub free : not_taken k ≡ false
   pub fits : allowed w k ≡ true
 
-pub kind_stands : (w : Where) (b k : ℕ) → kind_of w b ≡ K.Taken k → Stands w b k
+pub kind_stands : (w : Where) (b k : ℕ) → kind_of w b ≡ Ok k → Stands w b k
 unfolding kind_of
 kind_stands w b k q =
-    let rest = pick (allowed w b) (K.Taken b) (K.Wrong R.WrongPlace) in
-    let i = told (is_kind b) (pick (not_taken b) (K.Wrong R.NotTaken) rest) (K.Wrong R.UnknownKind) (K.Taken k) q (no_kind R.UnknownKind k) in
+    let rest = pick (allowed w b) (Ok b) (Err R.WrongPlace) in
+    let i = told (is_kind b) (pick (not_taken b) (Err R.NotTaken) rest) (Err R.UnknownKind) (Ok k) q (no_kind R.UnknownKind k) in
     let t = second (not_taken b) rest i.1 in
-    let a = told (allowed w b) (K.Taken b) (K.Wrong R.WrongPlace) (K.Taken k) t.1 (no_kind R.WrongPlace k) in
+    let a = told (allowed w b) (Ok b) (Err R.WrongPlace) (Ok k) t.1 (no_kind R.WrongPlace k) in
     let y = a.1 in
     let e : k ≡ b = cc in
     record { byte = e; known = rw e i.0; free = rw e t.0; fits = rw e a.0 }
   where
-    second : (t : Bool) (r : Kind) → pick t (K.Wrong R.NotTaken) r ≡ K.Taken k → (t ≡ false) × (r ≡ K.Taken k)
+    second : (t : Bool) (r : Result ℕ Refusal) → pick t (Err R.NotTaken) r ≡ Ok k → (t ≡ false) × (r ≡ Ok k)
     second true r e = absurd (no_kind R.NotTaken k e)
     second false r e = (refl, e)
 
-module _ (s : List ℕ) (w : Where) (at k : ℕ) (q : kind_at s w at ≡ K.Taken k) where
+module _ (s : List ℕ) (w : Where) (at k : ℕ) (q : kind_at s w at ≡ Ok k) where
   pub kind_within : at < length s
   unfolding kind_at
   kind_within =
-      ltb-true at (length s) (told (ltb at (length s)) (kind_of w (get_or s at 0)) (K.Wrong R.CutShort) (K.Taken k) q (no_kind R.CutShort k)).0
+      ltb-true at (length s) (told (ltb at (length s)) (kind_of w (get_or s at 0)) (Err R.CutShort) (Ok k) q (no_kind R.CutShort k)).0
 
   pub kind_byte : Stands w (get_or s at 0) k
   kind_byte = kind_stands w (get_or s at 0) k (sym (kind_there s w at kind_within) ∙ q)
@@ -197,11 +194,11 @@ module _ (s : List ℕ) (w : Where) (at : ℕ) where
     pub brief_is : is_brief (get_or s at 0) ≡ true
     brief_is = parts.0
 
-    pub brief_taken : kind_at s w at ≡ K.Taken (get_or s at 0)
+    pub brief_taken : kind_at s w at ≡ Ok (get_or s at 0)
     brief_taken = kind_there s w at brief_within ∙ kind_allowed (get_or s at 0) w parts.1
 
   -- a kind that is taken where no brief record stands is not brief
-  pub taken_long : brief_at s w at ≡ false → (k : ℕ) → kind_at s w at ≡ K.Taken k → is_brief k ≡ false
+  pub taken_long : brief_at s w at ≡ false → (k : ℕ) → kind_at s w at ≡ Ok k → is_brief k ≡ false
   unfolding brief_at brief_in
   taken_long e k q =
       let x = kind_byte s w at k q in

@@ -6,7 +6,7 @@ ghost use Rattle.format.specs.declared.Where.TheVariants as W;
 ghost use Rattle.format.specs.Records.{is_kind, not_taken, in_slot, allowed, kind_of, kind_at};
 ghost use Rattle.kinds.specs.Kinds.{brief_in, brief_at};
 
-use format::{Kind, Refusal, Where};
+use format::{Refusal, Where};
 
 // ---- what may stand where
 
@@ -74,28 +74,28 @@ fn allowed(w: Where, k: u8) -> bool
 
 // A kind byte where it stands: unknown, then refused by name, then in the wrong place. What is allowed is none of these, so the frequent
 // answer is asked for first.
-fn kind_of(w: Where, k: u8) -> Kind
+fn kind_of(w: Where, k: u8) -> Result<u8, Refusal>
     ensures { result ≡ kind_of w k }
 {
     if allowed(w, k) {
-        return Kind::Taken(k);
+        return Ok(k);
     }
     if is_kind(k) {
         if not_taken(k) {
-            return Kind::Wrong(Refusal::NotTaken);
+            return Err(Refusal::NotTaken);
         }
-        return Kind::Wrong(Refusal::WrongPlace);
+        return Err(Refusal::WrongPlace);
     }
-    Kind::Wrong(Refusal::UnknownKind)
+    Err(Refusal::UnknownKind)
 }
 
-pub fn kind_at(s: &[u8], w: Where, at: usize) -> Kind
+pub fn kind_at(s: &[u8], w: Where, at: usize) -> Result<u8, Refusal>
     ensures { result ≡ kind_at s.now w at }
 {
     if at < s.len() {
         return kind_of(w, s[at]);
     }
-    Kind::Wrong(Refusal::CutShort)
+    Err(Refusal::CutShort)
 }
 
 // ---- brief kinds: they fill one slot and open nothing

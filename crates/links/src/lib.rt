@@ -46,7 +46,7 @@ fn is_lost(kind: u32, link: u32) -> bool
 // ---- all rows
 
 // Each of the first n rows gets its link, up to the first reference with no target: the number of its row plus 1; 0 if there is none.
-// With keep all rows but references and the header keep the link that they were read with.
+// As the lookups it answers a number as a link word has it (`Linking`), no Option. With keep all rows but references and the header keep the link that they were read with.
 pub fn link_all(table: &mut [u32], n: usize, keep: bool) -> usize
     requires { (n ≤ room_of table.old) × (n < 4294967296) }
     ensures { Linking keep (rows_of n table.old) (rows_of n table.new) result }

@@ -69,7 +69,8 @@ fn names(table: &[u32], n: usize, i: usize, what: Wanted) -> bool
     table::id_at(table, n, i) == id_of(what) && is_of(what, table::kind_at(table, n, i))
 }
 
-// What is looked up among the first n rows: the number of its row plus 1; 0 if there is none.
+// What is looked up among the first n rows: the number of its row plus 1; 0 if there is none. That is what a link word holds, and so the definitions
+// (`object_row`, `class_row`, `library_row`) have it: no Option.
 fn find(table: &[u32], n: usize, what: Wanted) -> usize
     requires { n ≤ room_of table.now }
     ensures { result ≡ find_from (named (is_of what) (id_of what)) 0 (rows_of n table.now) }

@@ -1,12 +1,11 @@
 -- The bytes written for a BinaryArray are those of the array that it says, with its new number and the new number of its items' library.
-use Rattle.std.specs.Prelude.{ℕ, zero, suc, ◌+◌, ◌-◌, ◌*◌, ◌≤◌, ◌<◌, ◌≡◌, ◌&&◌, eqb}
+use Rattle.std.specs.Prelude.{ℕ, zero, suc, ◌+◌, ◌-◌, ◌*◌, ◌≤◌, ◌<◌, ◌≡◌, ◌&&◌, eqb, Ok}
 use Rattle.std.proofs.Math.Path.{refl, sym, ap, ap₂, subst}
 use Rattle.std.proofs.Common.{◌∙◌, arith, ne_eqb}
 use mathlib.Core.List.{List, [], ◌∷◌, ◌++◌}
 use Rattle.std.proofs.Math.Decide.{ℕ_discrete}
 use Rattle.std.proofs.Math.ListN.{length, get_or}
 use Rattle.format.specs.Terms.{Terms}
-use Rattle.format.specs.declared.Field.TheVariants as F
 use Rattle.format.specs.declared.Row.{Row}
 use Rattle.format.specs.Bytes.{pick}
 use Rattle.format.specs.Numbers.{le_bytes}
@@ -80,8 +79,8 @@ lengths_is s byte o rank p d h n =
     ∙ ap₂ (λ (x y : List ℕ). x ++ y) (numbers_is s byte rank (o + 10) p d (omega arith)) last)))
 
 module _ (τ : Terms) (s : List ℕ) (byte : Bytes s) (rows rs : List Row) (ls : Libraries) where
-  array_bytes : (o id rank p e : ℕ) (vs : List Prefixed) (items : List ℕ) → p ≡ o + 10 + 4 * rank → number_from s (o + 6) ≡ rank → type_byte_at s p ≡ F.End (p + 1)
-      → info_known τ.setting s rows (get_or s p 0) (p + 1) ≡ F.End e → (get_or s p 0 ≡ 4 → Numbered s rows rs ls (e - 4)) → items ≡ items_bytes vs
+  array_bytes : (o id rank p e : ℕ) (vs : List Prefixed) (items : List ℕ) → p ≡ o + 10 + 4 * rank → number_from s (o + 6) ≡ rank → type_byte_at s p ≡ Ok (p + 1)
+      → info_known τ.setting s rows (get_or s p 0) (p + 1) ≡ Ok e → (get_or s p 0 ≡ 4 → Numbered s rows rs ls (e - 4)) → items ≡ items_bytes vs
       → head_out 7 id ++ (between s (o + 5) (p + 1) ++ (info_out s rs (get_or s p 0) (p + 1) e ++ items))
       ≡ enc (array id (get_or s (o + 5) 0) (numbers_from s rank (o + 10)) (detail_by ls (detail_from s rows (get_or s p 0) (p + 1))) vs)
   unfolding enc
@@ -100,9 +99,9 @@ module _ (τ : Terms) (s : List ℕ) (byte : Bytes s) (rows rs : List Row) (ls :
 
 -- what stands at the item type
 record ItemStands (τ : Terms) (s : List ℕ) (rows : List Row) (r : Row) : Type 0 where
-  typed : type_byte_at s (item_type s r) ≡ F.End (item_type s r + 1)
-  known : info_known τ.setting s rows (get_or s (item_type s r) 0) (item_type s r + 1) ≡ F.End (items_place s r)
-  items : get_or s (item_type s r) 0 ≡ 0 → items_at τ.setting s (code_from s (item_type s r + 1)) r.count (items_place s r) ≡ F.End r.end
+  typed : type_byte_at s (item_type s r) ≡ Ok (item_type s r + 1)
+  known : info_known τ.setting s rows (get_or s (item_type s r) 0) (item_type s r + 1) ≡ Ok (items_place s r)
+  items : get_or s (item_type s r) 0 ≡ 0 → items_at τ.setting s (code_from s (item_type s r + 1)) r.count (items_place s r) ≡ Ok r.end
   no_items : (get_or s (item_type s r) 0 ≡ 0 → ⊥) → r.end ≡ items_place s r
   inside : items_place s r ≤ length s
 
@@ -110,14 +109,14 @@ item_stands : (τ : Terms) (s : List ℕ) (rows : List Row) (r : Row) → ArrayS
 unfolding item_type
 item_stands τ s rows r c =
     let n : c.rank ≡ number_from s (r.offset + 6) = (u32_says s (r.offset + 6) c.rank (r.offset + 10) c.ranked).value in
-    let known = subst (λ (k : ℕ). info_known τ.setting s rows (get_or s (r.offset + 10 + 4 * k) 0) (r.offset + 10 + 4 * k + 1) ≡ F.End c.info_end) n c.info in
+    let known = subst (λ (k : ℕ). info_known τ.setting s rows (get_or s (r.offset + 10 + 4 * k) 0) (r.offset + 10 + 4 * k + 1) ≡ Ok c.info_end) n c.info in
     let place = info_place τ s rows (get_or s (item_type s r) 0) (item_type s r + 1) c.info_end known in
     record {
-      typed = subst (λ (k : ℕ). type_byte_at s (r.offset + 10 + 4 * k) ≡ F.End (r.offset + 10 + 4 * k + 1)) n c.typed;
-      known = known ∙ ap F.End (sym place);
+      typed = subst (λ (k : ℕ). type_byte_at s (r.offset + 10 + 4 * k) ≡ Ok (r.offset + 10 + 4 * k + 1)) n c.typed;
+      known = known ∙ ap Ok (sym place);
       items =
-          subst (λ (e : ℕ). get_or s (item_type s r) 0 ≡ 0 → items_at τ.setting s (code_from s (item_type s r + 1)) r.count e ≡ F.End r.end) (sym place)
-          (subst (λ (k : ℕ). get_or s (r.offset + 10 + 4 * k) 0 ≡ 0 → items_at τ.setting s (code_from s (r.offset + 10 + 4 * k + 1)) r.count c.info_end ≡ F.End r.end) n
+          subst (λ (e : ℕ). get_or s (item_type s r) 0 ≡ 0 → items_at τ.setting s (code_from s (item_type s r + 1)) r.count e ≡ Ok r.end) (sym place)
+          (subst (λ (k : ℕ). get_or s (r.offset + 10 + 4 * k) 0 ≡ 0 → items_at τ.setting s (code_from s (r.offset + 10 + 4 * k + 1)) r.count c.info_end ≡ Ok r.end) n
           c.items_at_holds);
       no_items = λ z.
           subst (λ (k : ℕ). (get_or s (r.offset + 10 + 4 * k) 0 ≡ 0 → ⊥) → r.end ≡ c.info_end) n c.no_items z ∙ sym place;
@@ -155,8 +154,8 @@ module _ (τ : Terms) (s : List ℕ) (rows : List Row) (r : Row) (c : ArrayStand
           → values_out s (eqb (get_or s (item_type s r) 0) 0 && eqb (get_or s (item_type s r + 1) 0) (anew_in τ.setting)) r.count (items_place s r) r.end
           ≡ items_bytes (values_by (code_of (array_item s rows r)) (array_items s r))
       go (yes z) =
-          let plain : code_at s at ≡ F.End (items_place s r) =
-          subst (λ (t : ℕ). info_at τ.setting s t at ≡ F.End (items_place s r)) z (info_plain τ.setting s rows type at (items_place s r) i.known) in
+          let plain : code_at s at ≡ Ok (items_place s r) =
+          subst (λ (t : ℕ). info_at τ.setting s t at ≡ Ok (items_place s r)) z (info_plain τ.setting s rows type at (items_place s r) i.known) in
           let code : get_or s at 0 ≡ code_number (code_from s at) = code_is s at (items_place s r) plain in
           ap₂ (λ (t k : ℕ). values_out s (eqb t 0 && eqb k (anew_in τ.setting)) r.count (items_place s r) r.end) z code
           ∙ (items_are τ s byte (code_from s at) r.count (items_place s r) r.end i.inside (i.items z)

@@ -1,14 +1,12 @@
 -- The bytes of a field are how what it says is written: texts, numbers, primitive codes, and the details of types, libraries by their new numbers.
 use Prim.Native.Nat.{ℕ, zero, suc, ◌+◌, ◌-◌, ◌≤◌, ◌<◌}
-use Rattle.std.specs.Prelude.{◌≡◌, length, eqb}
+use Rattle.std.specs.Prelude.{◌≡◌, length, eqb, Some, Ok}
 use Rattle.std.proofs.Math.Path.{refl, ap, ap₂}
 use Rattle.std.proofs.Common.{sym, ◌∙◌, arith}
 use mathlib.Core.List.{List, [], ◌∷◌, ◌++◌, append_assoc}
 use Rattle.std.proofs.Math.Decide.{dec_lt}
 use Rattle.std.proofs.Math.ListN.{get_or}
 use Rattle.format.specs.Terms.{Terms}
-use Rattle.format.specs.declared.Number32.TheVariants as N32
-use Rattle.format.specs.declared.Field.TheVariants as F
 use Rattle.format.specs.declared.Row.{Row}
 use Rattle.format.specs.Bytes.{pick, part, same_bytes}
 use Rattle.format.specs.Numbers.{le_bytes, u32_at}
@@ -74,19 +72,19 @@ module _ (s : List ℕ) (byte : Bytes s) where
       let l = length_part s p 4 h in
       rw d (sym (rw l at (le_bytes_le (part s p 4) (bytes_part s p 4 byte))))
 
-  pub number_is : (p v : ℕ) → u32_at s p ≡ N32.Value v (p + 4) → between s p (p + 4) ≡ le_bytes 4 v
+  pub number_is : (p v : ℕ) → u32_at s p ≡ Some (v, p + 4) → between s p (p + 4) ≡ le_bytes 4 v
   number_is p v q =
       let w = u32_says s p v (p + 4) q in
       number_there p w.within ∙ ap (le_bytes 4) (sym w.value)
 
 module _ (s : List ℕ) where
-  pub code_is : (p e : ℕ) → code_at s p ≡ F.End e → get_or s p 0 ≡ code_number (code_from s p)
+  pub code_is : (p e : ℕ) → code_at s p ≡ Ok e → get_or s p 0 ≡ code_number (code_from s p)
   code_is p e q =
       let w = code_told s p e q in
       rw w.1 (sym (number_primitive (get_or s p 0) w.0 w.1))
 
   -- the bytes of a primitive code
-  pub code_kept : (p e : ℕ) → code_at s p ≡ F.End e → between s p e ≡ code_number (code_from s p) ∷ []
+  pub code_kept : (p e : ℕ) → code_at s p ≡ Ok e → between s p e ≡ code_number (code_from s p) ∷ []
   code_kept p e q =
       let w = code_told s p e q in
       let d : e - p ≡ 1 = omega arith in
@@ -94,7 +92,7 @@ module _ (s : List ℕ) where
 
 module _ (τ : Terms) (s : List ℕ) where
   -- a name is a string
-  pub name_stands : (p e : ℕ) → name_at τ.setting s p ≡ F.End e → StringStands τ s p e
+  pub name_stands : (p e : ℕ) → name_at τ.setting s p ≡ Ok e → StringStands τ s p e
   name_stands p e q = let w = name_told τ.setting s p e q in record { from = w.0; text = w.1 }
 
 module _ (s : List ℕ) where
@@ -108,29 +106,29 @@ module _ (s : List ℕ) where
 
 -- what stands where a detail of type 4 ends at e: the class's name, then the LibraryId
 pub record ClassInfo (τ : Terms) (s : List ℕ) (p e : ℕ) : Type 0 where
-  pub named : name_at τ.setting s p ≡ F.End (e - 4)
+  pub named : name_at τ.setting s p ≡ Ok (e - 4)
   pub number : ℕ
-  pub numbered : u32_at s (e - 4) ≡ N32.Value number e
+  pub numbered : u32_at s (e - 4) ≡ Some (number, e)
   pub moves : (p < e - 4) × (e ≡ e - 4 + 4)
 
-pub class_info : (τ : Terms) (s : List ℕ) (rows : List Row) (p e : ℕ) → info_known τ.setting s rows 4 p ≡ F.End e → ClassInfo τ s p e
+pub class_info : (τ : Terms) (s : List ℕ) (rows : List Row) (p e : ℕ) → info_known τ.setting s rows 4 p ≡ Ok e → ClassInfo τ s p e
 unfolding info_known info_at
 class_info τ s rows p e q =
     let x = through (known_library s rows) (on_end (library_id_at s) (name_at τ.setting s p)) e q in
     let y = through (library_id_at s) (name_at τ.setting s p) x.0 x.1 in
     go y.0 x.0 y.1 y.2 (known_moves s rows x.0 e x.2)
   where
-    at : (m v : ℕ) → m ≡ e - 4 → e ≡ m + 4 → p < m → name_at τ.setting s p ≡ F.End m → u32_at s m ≡ N32.Value v e → ClassInfo τ s p e
+    at : (m v : ℕ) → m ≡ e - 4 → e ≡ m + 4 → p < m → name_at τ.setting s p ≡ Ok m → u32_at s m ≡ Some (v, e) → ClassInfo τ s p e
     at m v d g h n u = record { named = rw d at n; number = v; numbered = rw d at u; moves = (omega arith, omega arith) }
 
-    go : (m x : ℕ) → name_at τ.setting s p ≡ F.End m → library_id_at s m ≡ F.End x → e ≡ x → ClassInfo τ s p e
+    go : (m x : ℕ) → name_at τ.setting s p ≡ Ok m → library_id_at s m ≡ Ok x → e ≡ x → ClassInfo τ s p e
     go m x n l k =
         let v = library_told s m x l in
         let u = u32_says s m v.0 x v.1 in
-        at m v.0 (omega arith) (omega arith) (name_moves τ.setting s p m n).0 n (v.1 ∙ ap (N32.Value v.0) (sym k))
+        at m v.0 (omega arith) (omega arith) (name_moves τ.setting s p m n).0 n (v.1 ∙ ap (λ (x : ℕ). Some (v.0, x)) (sym k))
 
 module _ (τ : Terms) (s : List ℕ) (rows : List Row) where
-  pub info_place : (type p e : ℕ) → info_known τ.setting s rows type p ≡ F.End e → after_info s type p ≡ e
+  pub info_place : (type p e : ℕ) → info_known τ.setting s rows type p ≡ Ok e → after_info s type p ≡ e
   info_place type p e q = info_after τ.setting s type p e (info_plain τ.setting s rows type p e q)
 
 module _ (s : List ℕ) (rows : List Row) where
@@ -144,7 +142,7 @@ module _ (τ : Terms) (s : List ℕ) (rows : List Row) where
   class_detail p e c = rw (name_after τ.setting s p (e - 4) c.named)
 
   -- the libraries that a detail needs
-  pub needs_is : (type p e : ℕ) → type ≤ 7 → info_known τ.setting s rows type p ≡ F.End e
+  pub needs_is : (type p e : ℕ) → type ≤ 7 → info_known τ.setting s rows type p ≡ Ok e
       → names_of s rows (pick (eqb type 4) ((e - 4) ∷ []) []) ≡ detail_needs (detail_from s rows type p)
   unfolding detail_from names_of
   needs_is zero p e h q = refl
@@ -173,7 +171,7 @@ abbrev pub Numbered : List ℕ → List Row → List Row → Libraries → ℕ �
 Numbered s rows rs ls p = library_number s rs p ≡ number_in (same_bytes (name_at_field s rows p)) ls
 
 module _ (τ : Terms) (s : List ℕ) (rows rs : List Row) (ls : Libraries) where
-  pub info_is : (type p e : ℕ) → type ≤ 7 → info_known τ.setting s rows type p ≡ F.End e → (type ≡ 4 → Numbered s rows rs ls (e - 4))
+  pub info_is : (type p e : ℕ) → type ≤ 7 → info_known τ.setting s rows type p ≡ Ok e → (type ≡ 4 → Numbered s rows rs ls (e - 4))
       → info_out s rs type p e ≡ info_bytes (detail_by ls (detail_from s rows type p))
   unfolding info_out info_at detail_from
   info_is zero p e h q f = code_kept s p e (info_plain τ.setting s rows 0 p e q)
@@ -194,11 +192,11 @@ module _ (τ : Terms) (s : List ℕ) (rows rs : List Row) (ls : Libraries) where
 -- one detail, whose type byte stands at types, and those after it
 pub record First (τ : Terms) (s : List ℕ) (rows : List Row) (n types p e t : ℕ) : Type 0 where
   pub low : get_or s types 0 ≤ 7
-  pub known : info_known τ.setting s rows (get_or s types 0) p ≡ F.End (after_info s (get_or s types 0) p)
-  pub infos : infos_at τ.setting s rows n (types + 1) (after_info s (get_or s types 0) p) ≡ F.End e
-  pub type_bytes : times (type_byte_at s) n (types + 1) ≡ F.End t
+  pub known : info_known τ.setting s rows (get_or s types 0) p ≡ Ok (after_info s (get_or s types 0) p)
+  pub infos : infos_at τ.setting s rows n (types + 1) (after_info s (get_or s types 0) p) ≡ Ok e
+  pub type_bytes : times (type_byte_at s) n (types + 1) ≡ Ok t
 
-pub first_is : (τ : Terms) (s : List ℕ) (rows : List Row) (n types p e t : ℕ) → infos_at τ.setting s rows (suc n) types p ≡ F.End e → times (type_byte_at s) (suc n) types ≡ F.End t
+pub first_is : (τ : Terms) (s : List ℕ) (rows : List Row) (n types p e t : ℕ) → infos_at τ.setting s rows (suc n) types p ≡ Ok e → times (type_byte_at s) (suc n) types ≡ Ok t
     → First τ s rows n types p e t
 unfolding infos_at times
 first_is τ s rows n types p e t q r =
@@ -208,7 +206,7 @@ first_is τ s rows n types p e t q r =
     let d = sym (info_place τ s rows (get_or s types 0) p x.0 x.1) in
     record {
       low = w.0;
-      known = x.1 ∙ ap F.End d;
+      known = x.1 ∙ ap Ok d;
       infos = ap (infos_at τ.setting s rows n (types + 1)) (sym d) ∙ x.2;
       type_bytes = ap (times (type_byte_at s) n) (sym w.2) ∙ y.2;
     }
@@ -229,7 +227,7 @@ pub field_of : (P : ℕ → Type 0) (type p : ℕ) → All P (pick (eqb type 4) 
 field_of P type p a e = all_first P p [] (rw e at a)
 
 -- wherever the members' names stand
-pub infos_need : (τ : Terms) (s : List ℕ) (rows : List Row) (n types names p e t : ℕ) → infos_at τ.setting s rows n types p ≡ F.End e → times (type_byte_at s) n types ≡ F.End t
+pub infos_need : (τ : Terms) (s : List ℕ) (rows : List Row) (n types names p e t : ℕ) → infos_at τ.setting s rows n types p ≡ Ok e → times (type_byte_at s) n types ≡ Ok t
     → names_of s rows (info_fields s n types p) ≡ members_need (members_from s rows n names types p)
 unfolding info_fields members_from names_of
 infos_need τ s rows zero types names p e t q r = refl
@@ -242,7 +240,7 @@ infos_need τ s rows (suc n) types names p e t q r =
     (infos_need τ s rows n (types + 1) (after_text s names) next e t f.infos f.type_bytes)
 
 module _ (τ : Terms) (s : List ℕ) (rows rs : List Row) (ls : Libraries) where
-  pub infos_is : (n types names p e t : ℕ) → infos_at τ.setting s rows n types p ≡ F.End e → times (type_byte_at s) n types ≡ F.End t
+  pub infos_is : (n types names p e t : ℕ) → infos_at τ.setting s rows n types p ≡ Ok e → times (type_byte_at s) n types ≡ Ok t
       → All (Numbered s rows rs ls) (info_fields s n types p) → infos_out s rs n types p ≡ infos_bytes (members_by ls (members_from s rows n names types p))
   unfolding info_fields infos_out members_from
   infos_is zero types names p e t q r a = refl

@@ -1,12 +1,11 @@
 -- The bytes written for a class record are those of the class that it says, with its new number and the new numbers of its libraries.
 use Prim.Native.Nat.{ℕ, zero, suc, ◌+◌, ◌-◌, ◌%◌}
-use Rattle.std.specs.Prelude.{◌≡◌, length, eqb}
+use Rattle.std.specs.Prelude.{◌≡◌, length, eqb, Ok}
 use Rattle.std.proofs.Math.Path.{refl, ap, ap₂}
 use Rattle.std.proofs.Common.{sym, subst, ◌∙◌, arith}
 use mathlib.Core.List.{List, [], ◌∷◌, ◌++◌, append_assoc, append-nil}
 use Rattle.std.proofs.Math.ListN.{get_or}
 use Rattle.format.specs.Terms.{Terms}
-use Rattle.format.specs.declared.Field.TheVariants as F
 use Rattle.format.specs.declared.Row.{Row}
 use Rattle.format.specs.Bytes.{pick, same_bytes}
 use Rattle.format.specs.Numbers.{le_bytes}
@@ -38,14 +37,14 @@ module _ (s : List ℕ) (rows : List Row) (ls : Libraries) where
       ap suc (members_count n (after_text s names) (types + 1) (after_info s (get_or s types 0) infos))
 
   -- wherever names and details stand
-  pub types_is : (n names types infos e : ℕ) → times (type_byte_at s) n types ≡ F.End e
+  pub types_is : (n names types infos e : ℕ) → times (type_byte_at s) n types ≡ Ok e
       → between s types e ≡ types_bytes (members_by ls (members_from s rows n names types infos))
   unfolding times members_from
   types_is zero names types infos e q = between_none s types e (cc)
   types_is (suc n) names types infos e q =
       let x = through (times (type_byte_at s) n) (type_byte_at s types) e q in
       let w = type_told s types x.0 x.1 in
-      let r : times (type_byte_at s) n (types + 1) ≡ F.End e = ap (times (type_byte_at s) n) (sym w.2) ∙ x.2 in
+      let r : times (type_byte_at s) n (types + 1) ≡ Ok e = ap (times (type_byte_at s) n) (sym w.2) ∙ x.2 in
       let z = types_end s n (types + 1) e r in
       let type = get_or s types 0 in
       part_to s types e w.1 (omega arith)

@@ -1,13 +1,12 @@
 -- Equal classes: two class rows pass the test of the marks where they say one class, and the first row that passes it is the first row of
 -- the class.
 use Prim.Native.Nat.{ℕ, suc, ◌+◌, ◌-◌, ◌≤◌, ◌<◌}
-use Rattle.std.specs.Prelude.{◌≡◌, refl, true, false, ◌&&◌, List, length, get_or, eqb}
+use Rattle.std.specs.Prelude.{◌≡◌, refl, true, false, ◌&&◌, List, length, get_or, eqb, Ok}
 use Rattle.std.proofs.Math.Path.{sym, ap}
 use Rattle.std.proofs.Common.{subst, ◌∙◌, eq-eqb, eqb-true, ne_eqb}
 use Rattle.std.proofs.Math.Bool.{Bool}
 use native.Mathlib.Omega.{arith}
 use Rattle.format.specs.Terms.{Terms}
-use Rattle.format.specs.declared.Field.TheVariants as F
 use Rattle.format.specs.declared.Row.{Row}
 use Rattle.format.specs.Bytes.{pick, same_bytes}
 use Rattle.format.specs.Types.{name_at}
@@ -44,7 +43,7 @@ module _ (τ : Terms) (s : List ℕ) (rows ps : List Row) (st : Stands τ s rows
   test_system : (a b : Row) → a.kind ≡ 4 → own_test s ps a b ≡ true
   test_system a b k = ap (λ (x : ℕ). pick (eqb x 5) (eqb (library_at s ps (a.end - 4)) (library_at s ps (b.end - 4))) true) k
 
-  test_library : (a b : Row) (p q : ℕ) → a.kind ≡ 5 → own_library_at s rows p ≡ F.End a.end → own_library_at s rows q ≡ F.End b.end
+  test_library : (a b : Row) (p q : ℕ) → a.kind ≡ 5 → own_library_at s rows p ≡ Ok a.end → own_library_at s rows q ≡ Ok b.end
       → own_test s ps a b ≡ same_bytes (name_at_field s rows (a.end - 4)) (name_at_field s rows (b.end - 4))
   test_library a b p q k v w =
       ap (λ (x : ℕ). pick (eqb x 5) (eqb (library_at s ps (a.end - 4)) (library_at s ps (b.end - 4))) true) k
@@ -123,8 +122,8 @@ module _ (τ : Terms) (s : List ℕ) (rows ps : List Row) (st : Stands τ s rows
     names_place_lem : (x : Row) (c : ClassStands τ s rows x) → names_place s x ≡ c.name_end + 4
     names_place_lem x c = ap (λ (n : ℕ). n + 4) (name_after τ.setting s (x.offset + 5) c.name_end c.named)
 
-    other_names : r.count ≡ q.count → times (name_at τ.setting s) r.count (b.name_end + 4) ≡ F.End b.types
-    other_names e = subst (λ (n : ℕ). times (name_at τ.setting s) n (b.name_end + 4) ≡ F.End b.types) (sym e) b.names
+    other_names : r.count ≡ q.count → times (name_at τ.setting s) r.count (b.name_end + 4) ≡ Ok b.types
+    other_names e = subst (λ (n : ℕ). times (name_at τ.setting s) n (b.name_end + 4) ≡ Ok b.types) (sym e) b.names
 
     abbrev name_test : Bool
     name_test = same_text s (r.offset + 5) (q.offset + 5)

@@ -1,9 +1,7 @@
 -- The rows of an accepted stream stand in it: what each record's fields say where the row says they do, with the links in the rows.
-use Rattle.std.specs.Prelude.{ℕ, suc, ◌+◌, ◌-◌, ◌≤◌, ◌<◌, ◌≡◌, refl, Bool, true, false, List, length, get_or, take}
+use Rattle.std.specs.Prelude.{ℕ, suc, ◌+◌, ◌-◌, ◌≤◌, ◌<◌, ◌≡◌, refl, Bool, true, false, List, length, get_or, take, Some, Ok}
 use Rattle.std.proofs.Common.{sym, ap, subst, ◌∙◌, arith}
 use Rattle.format.specs.Terms.{Terms}
-use Rattle.format.specs.declared.Number32.TheVariants as N32
-use Rattle.format.specs.declared.Field.TheVariants as F
 use Rattle.format.specs.declared.Row.{Row}
 use Rattle.format.specs.Values.{value_at, times}
 use Rattle.format.specs.Types.{type_byte_at, name_at}
@@ -39,7 +37,7 @@ owner_is rows i o h (within a b k) = owned (record { row = o - 1; link_is = omeg
 
 -- ---- records
 
-string_stands : (τ : Terms) (s : List ℕ) (p e : ℕ) → name_at τ.setting s p ≡ F.End e → StringStands τ s p e
+string_stands : (τ : Terms) (s : List ℕ) (p e : ℕ) → name_at τ.setting s p ≡ Ok e → StringStands τ s p e
 string_stands τ s p e q =
     let w = name_told τ.setting s p e q in
     record { from = w.0; text = w.1 }
@@ -47,7 +45,7 @@ string_stands τ s p e q =
 -- a record among the rows, with a link
 module _ (τ : Terms) {s : List ℕ} {before rows : List Row} {r : Row} (later : Later before rows) (w : Recorded τ s before r) (inside : r.end ≤ length s) (link : ℕ) where
   class_stands : (own : Bool) → Class τ s before own r.offset w.head
-      → ((p : ℕ) → after_infos own s before p ≡ F.End r.end → OwnStands s rows (with_link r link) p)
+      → ((p : ℕ) → after_infos own s before p ≡ Ok r.end → OwnStands s rows (with_link r link) p)
       → ClassStands τ s rows (with_link r link)
   class_stands own c after =
       let h = w.head in
@@ -56,19 +54,19 @@ module _ (τ : Terms) {s : List ℕ} {before rows : List Row} {r : Row} (later :
       let f : c.infos ≡ h.link + r.count = places.2 ∙ ap (λ (k : ℕ). h.link + k) n in
       record {
         name_end = c.counts;
-        named = subst (λ (p : ℕ). name_at τ.setting s p ≡ F.End c.counts) places.0 c.name_at_holds;
-        counted = c.count_at ∙ (ap (λ (k : ℕ). N32.Value k c.names) n ∙ ap (N32.Value r.count) places.1);
+        named = subst (λ (p : ℕ). name_at τ.setting s p ≡ Ok c.counts) places.0 c.name_at_holds;
+        counted = c.count_at ∙ (ap (λ (k : ℕ). Some (k, c.names)) n ∙ ap (λ (x : ℕ). Some (r.count, x)) places.1);
         types = h.link;
         names =
-            subst (λ (p : ℕ). times (name_at τ.setting s) r.count p ≡ F.End h.link) places.1
-            (subst (λ (k : ℕ). times (name_at τ.setting s) k c.names ≡ F.End h.link) n c.names_at);
-        type_bytes = subst (λ (k : ℕ). times (type_byte_at s) k h.link ≡ F.End c.infos) n c.types_at_holds ∙ ap F.End f;
+            subst (λ (p : ℕ). times (name_at τ.setting s) r.count p ≡ Ok h.link) places.1
+            (subst (λ (k : ℕ). times (name_at τ.setting s) k c.names ≡ Ok h.link) n c.names_at);
+        type_bytes = subst (λ (k : ℕ). times (type_byte_at s) k h.link ≡ Ok c.infos) n c.types_at_holds ∙ ap Ok f;
         infos_end = c.after;
         infos =
             infos_later τ s later r.count h.link (h.link + r.count) c.after
-            (subst (λ (p : ℕ). infos_at τ.setting s before r.count h.link p ≡ F.End c.after) f
-            (subst (λ (k : ℕ). infos_at τ.setting s before k h.link c.infos ≡ F.End c.after) n c.infos_at_holds));
-        own = after c.after (c.after_at ∙ ap F.End (sym w.same_end));
+            (subst (λ (p : ℕ). infos_at τ.setting s before r.count h.link p ≡ Ok c.after) f
+            (subst (λ (k : ℕ). infos_at τ.setting s before k h.link c.infos ≡ Ok c.after) n c.infos_at_holds));
+        own = after c.after (c.after_at ∙ ap Ok (sym w.same_end));
         inside = inside;
       }
 
@@ -239,10 +237,10 @@ module _ (τ : Terms) (s : List ℕ) (room : ℕ) (raw : List Row) (e : raw_of �
           let l : x.head.link ≡ bound_link raw r = sym x.same_link ∙ sym (bound_own raw r b c) in
           record {
             name_end = w.counts;
-            named = subst (λ (p : ℕ). name_at τ.setting s p ≡ F.End w.counts) places.0 w.name_at_holds;
+            named = subst (λ (p : ℕ). name_at τ.setting s p ≡ Ok w.counts) places.0 w.name_at_holds;
             names =
-                subst (λ (p : ℕ). times (name_at τ.setting s) r.count p ≡ F.End (bound_link raw r)) places.1
-                (subst (λ (k : ℕ). times (name_at τ.setting s) k w.names ≡ F.End (bound_link raw r)) n (w.names_at ∙ ap F.End l));
+                subst (λ (p : ℕ). times (name_at τ.setting s) r.count p ≡ Ok (bound_link raw r)) places.1
+                (subst (λ (k : ℕ). times (name_at τ.setting s) k w.names ≡ Ok (bound_link raw r)) n (w.names_at ∙ ap Ok l));
           }
 
   pub bound_types : (i : ℕ) → i < length (bound raw) → is_class (get_or (bound raw) i blank).kind ≡ true → TypesThere τ s (get_or (bound raw) i blank)
@@ -281,7 +279,7 @@ module _ (τ : Terms) (s : List ℕ) (room : ℕ) (raw : List Row) (e : raw_of �
       record {
         code = w.code;
         link_is = ap (λ (x : Row). x.link) at ∙ (l ∙ w.link_is);
-        reads = ap (λ (x : Row). value_at τ.setting s w.code x.offset) at ∙ (w.reads ∙ ap F.End (sym (ap (λ (x : Row). x.end) at)));
+        reads = ap (λ (x : Row). value_at τ.setting s w.code x.offset) at ∙ (w.reads ∙ ap Ok (sym (ap (λ (x : Row). x.end) at)));
         said = w.said_by_holds (bound_link raw) (by_bound raw);
       }
 

@@ -1,9 +1,8 @@
 -- The words that the passes of tidying leave in rows, each row by itself; the fields that name libraries; and the first rows of equal libraries
 -- and classes, by what they say. The laws about them stand in the other files.
-use Rattle.std.specs.Prelude.{ℕ, zero, suc, ◌+◌, ◌-◌, ◌<◌, ◌≡◌, true, false, ◌&&◌, List, [], ◌∷◌, ◌++◌, length, get_or, eqb}
+use Rattle.std.specs.Prelude.{ℕ, zero, suc, ◌+◌, ◌-◌, ◌<◌, ◌≡◌, true, false, ◌&&◌, List, [], ◌∷◌, ◌++◌, length, get_or, eqb, Ok}
 use Rattle.format.specs.Terms.{Terms}
 use Rattle.format.specs.declared.PrimitiveCode.{PrimitiveCode}
-use Rattle.format.specs.declared.Field.TheVariants as F
 use Rattle.format.specs.declared.Row.{Row}
 use Rattle.format.specs.Bytes.{pick, same_bytes}
 use Rattle.format.specs.Values.{value_at, times}
@@ -20,14 +19,14 @@ use Rattle.marks.specs.Marks.{with_id, with_slot, with_count, first_library, inf
 -- the link of a class's row is the place of its type bytes: after its name, its member count and its members' names
 pub record TypesThere (τ : Terms) (s : List ℕ) (r : Row) : Type 0 where
   pub name_end : ℕ
-  pub named : name_at τ.setting s (r.offset + 5) ≡ F.End name_end
-  pub names : times (name_at τ.setting s) r.count (name_end + 4) ≡ F.End r.link
+  pub named : name_at τ.setting s (r.offset + 5) ≡ Ok name_end
+  pub names : times (name_at τ.setting s) r.count (name_end + 4) ≡ Ok r.link
 
 -- the link of a member value's row is the number of its code, by which it was read and which its slot has
 pub record ValueThere (τ : Terms) (s : List ℕ) (rows : List Row) (r : Row) : Type 0 where
   pub code : PrimitiveCode
   pub link_is : r.link ≡ code_number code
-  pub reads : value_at τ.setting s code r.offset ≡ F.End r.end
+  pub reads : value_at τ.setting s code r.offset ≡ Ok r.end
   pub said : value_code τ.book s rows r ≡ code
 
 -- after numbering, and after the first library and the types' place were put in

@@ -1,14 +1,14 @@
 -- Members: names, and types with their details, pass the test of the marks where they are equal.
 use Prim.Native.Nat.{ℕ, zero, suc, ◌+◌, ◌-◌, ◌≤◌, ◌<◌}
-use Rattle.std.specs.Prelude.{◌≡◌, true, false, List, [], ◌∷◌, length}
+use Rattle.std.specs.Prelude.{◌≡◌, true, false, List, [], ◌∷◌, length, Option, Ok, Result}
+use Rattle.format.specs.declared.Refusal.{Refusal}
+use Rattle.format.specs.declared.PrimitiveCode.{PrimitiveCode}
 use Rattle.std.proofs.Math.Path.{refl, sym, ap, ap₂, subst}
 use Rattle.std.proofs.Common.{◌∙◌, arith}
 use Rattle.std.proofs.Math.ListN.{get_or}
 use Rattle.std.proofs.Math.Dec.{eqb}
 use borrow.Author.Tests.{eq-eqb, eqb-true}
 use Rattle.format.specs.Terms.{Terms}
-use Rattle.format.specs.declared.Coded.{Coded}
-use Rattle.format.specs.declared.Field.TheVariants as F
 use Rattle.format.specs.declared.Row.{Row}
 use Rattle.format.specs.Bytes.{pick, same_bytes}
 use Rattle.format.specs.Types.{code_number, coded, primitive_of, code_at, type_byte_at, name_at, info_at, after_text, after_info}
@@ -56,19 +56,19 @@ module _ (τ : Terms) (s : List ℕ) where
       let e = w.equal in
       cc
 
-  name_same : (p q m k : ℕ) → name_at τ.setting s p ≡ F.End m → name_at τ.setting s q ≡ F.End k → same_text s p q ≡ same_bytes (text_from s p) (text_from s q)
+  name_same : (p q m k : ℕ) → name_at τ.setting s p ≡ Ok m → name_at τ.setting s q ≡ Ok k → same_text s p q ≡ same_bytes (text_from s p) (text_from s q)
   name_same p q m k a b =
       let c = name_told τ.setting s p m a in
       let d = name_told τ.setting s q k b in
       same_texts_lem τ s p m q k (record { from = c.0; text = c.1 }) (record { from = d.0; text = d.1 })
 
   -- two codes
-  code_number_lem : (p e : ℕ) → code_at s p ≡ F.End e → code_number (code_from s p) ≡ get_or s p 0
+  code_number_lem : (p e : ℕ) → code_at s p ≡ Ok e → code_number (code_from s p) ≡ get_or s p 0
   code_number_lem p e h =
       let w = code_told s p e h in
-      ap (λ (c : Coded). code_number (coded c)) w.1 ∙ number_primitive (get_or s p 0) w.0 w.1
+      ap (λ (c : Option PrimitiveCode). code_number (coded c)) w.1 ∙ number_primitive (get_or s p 0) w.0 w.1
 
-  code_same : (p q m k : ℕ) → code_at s p ≡ F.End m → code_at s q ≡ F.End k
+  code_same : (p q m k : ℕ) → code_at s p ≡ Ok m → code_at s q ≡ Ok k
       → (same_between s p m q k ≡ true → code_from s p ≡ code_from s q) × (code_from s p ≡ code_from s q → same_between s p m q k ≡ true)
   code_same p q m k a b =
       let c = code_told s p m a in
@@ -85,12 +85,12 @@ module _ (τ : Terms) (s : List ℕ) where
 -- the test of two details of type t is a test for equality
 abbrev Fair : Terms → List ℕ → List Row → List Row → ℕ → Type 0
 Fair τ s rows ps t =
-    (a x b y : ℕ) → a ≤ length s → b ≤ length s → info_known τ.setting s rows t a ≡ F.End x → info_known τ.setting s rows t b ≡ F.End y
+    (a x b y : ℕ) → a ≤ length s → b ≤ length s → info_known τ.setting s rows t a ≡ Ok x → info_known τ.setting s rows t b ≡ Ok y
     → (same_info s ps t a x b y ≡ true → detail_from s rows t a ≡ detail_from s rows t b)
     × (detail_from s rows t a ≡ detail_from s rows t b → same_info s ps t a x b y ≡ true)
 
 module _ (τ : Terms) (s : List ℕ) (rows ps : List Row) (st : Stands τ s rows) (pl : Placed τ s rows ps) where
-  no_detail : (a x b y : ℕ) → a ≤ length s → b ≤ length s → F.End a ≡ F.End x → F.End b ≡ F.End y → same_between s a x b y ≡ true
+  no_detail : (a x b y : ℕ) → a ≤ length s → b ≤ length s → ◌≡◌ {A = Result ℕ Refusal} (Ok a) (Ok x) → ◌≡◌ {A = Result ℕ Refusal} (Ok b) (Ok y) → same_between s a x b y ≡ true
   no_detail a x b y h g p q =
       let c : a ≡ x = cc in
       let d : b ≡ y = cc in
@@ -104,8 +104,8 @@ module _ (τ : Terms) (s : List ℕ) (rows ps : List Row) (st : Stands τ s rows
       let v = class_info τ s rows b y q in
       let i : u.1 ≡ x - 4 = omega (arith, u.3) in
       let j : v.1 ≡ y - 4 = omega (arith, v.3) in
-      let m : name_at τ.setting s a ≡ F.End (x - 4) = rw i at u.2 in
-      let n : name_at τ.setting s b ≡ F.End (y - 4) = rw j at v.2 in
+      let m : name_at τ.setting s a ≡ Ok (x - 4) = rw i at u.2 in
+      let n : name_at τ.setting s b ≡ Ok (y - 4) = rw j at v.2 in
       let names = name_same τ s a b (x - 4) (y - 4) m n in
       let libraries = same_library τ s rows ps st pl (x - 4) (y - 4) u.0 v.0 in
       let k = name_at_field s rows (x - 4) in
@@ -145,7 +145,7 @@ module _ (τ : Terms) (s : List ℕ) (rows ps : List Row) (st : Stands τ s rows
       ((λ t. ap system (same_eq (text_from s a) (text_from s b) (sym w ∙ t))), (λ t. w ∙ true_same (text_from s a) (text_from s b) cc))
 
   -- a type without a detail
-  fair_none : (d : Detail (List ℕ) (List ℕ)) (t : ℕ) → ((p : ℕ) → info_at τ.setting s t p ≡ F.End p) → ((p : ℕ) → detail_from s rows t p ≡ d)
+  fair_none : (d : Detail (List ℕ) (List ℕ)) (t : ℕ) → ((p : ℕ) → info_at τ.setting s t p ≡ Ok p) → ((p : ℕ) → detail_from s rows t p ≡ d)
       → ((a x b y : ℕ) → same_info s ps t a x b y ≡ same_between s a x b y) → Fair τ s rows ps t
   fair_none d t i f k a x b y h g p q = (
     (λ e. f a ∙ sym (f b)),
@@ -169,9 +169,9 @@ module _ (τ : Terms) (s : List ℕ) (rows ps : List Row) (st : Stands τ s rows
 -- n type bytes from t on, and their details from p on
 pub record Infos (τ : Terms) (s : List ℕ) (rows : List Row) (n t p : ℕ) : Type 0 where
   pub types_end : ℕ
-  pub typed : times (type_byte_at s) n t ≡ F.End types_end
+  pub typed : times (type_byte_at s) n t ≡ Ok types_end
   pub infos_end : ℕ
-  pub infos : infos_at τ.setting s rows n t p ≡ F.End infos_end
+  pub infos : infos_at τ.setting s rows n t p ≡ Ok infos_end
   pub begins : t ≤ length s
   pub inside : p ≤ length s
 
@@ -180,7 +180,7 @@ record Info (τ : Terms) (s : List ℕ) (rows : List Row) (n t p : ℕ) : Type 0
   type : get_or s t 0 ≤ 7
   there : t < length s
   info_end : ℕ
-  info : info_known τ.setting s rows (get_or s t 0) p ≡ F.End info_end
+  info : info_known τ.setting s rows (get_or s t 0) p ≡ Ok info_end
   others : Infos τ s rows n (t + 1) info_end
 
 next_info : (τ : Terms) (s : List ℕ) (rows : List Row) (n t p : ℕ) → Infos τ s rows (suc n) t p → Info τ s rows n t p
@@ -216,7 +216,7 @@ apart_at e = (cc, cc)
 
 -- n members of two classes: names from a and b on, type bytes from t and u on, details from p and q on
 module _ (τ : Terms) (s : List ℕ) (rows ps : List Row) (st : Stands τ s rows) (pl : Placed τ s rows ps) where
-  pub members_of_lem : (n a t p b u q e f : ℕ) → times (name_at τ.setting s) n a ≡ F.End e → times (name_at τ.setting s) n b ≡ F.End f → Infos τ s rows n t p → Infos τ s rows n u q
+  pub members_of_lem : (n a t p b u q e f : ℕ) → times (name_at τ.setting s) n a ≡ Ok e → times (name_at τ.setting s) n b ≡ Ok f → Infos τ s rows n t p → Infos τ s rows n u q
       → same_members_at s ps n a t p b u q ≡ true → members_from s rows n a t p ≡ members_from s rows n b u q
   unfolding times same_members_at members_from
   members_of_lem zero a t p b u q e f g h v w z = refl
@@ -234,7 +234,7 @@ module _ (τ : Terms) (s : List ℕ) (rows ps : List Row) (st : Stands τ s rows
       let two = pick_of (eqb type (get_or s u 0)) (pick same rest false) one.1 in
       let three = pick_of same rest two.1 in
       let c : type ≡ get_or s u 0 = eqb-true type (get_or s u 0) two.0 in
-      let known : info_known τ.setting s rows type q ≡ F.End k = subst (λ (z : ℕ). info_known τ.setting s rows z q ≡ F.End k) (sym c) y.info in
+      let known : info_known τ.setting s rows type q ≡ Ok k = subst (λ (z : ℕ). info_known τ.setting s rows z q ≡ Ok k) (sym c) y.info in
       let o = info_place τ s rows type p m x.info in
       let r = info_place τ s rows type q k known in
       let d = name_after τ.setting s a i.0 i.1 in
@@ -246,7 +246,7 @@ module _ (τ : Terms) (s : List ℕ) (rows ps : List Row) (st : Stands τ s rows
       (ap₂ (λ (x y : ℕ). members_from s rows n x (t + 1) y) d o
       ∙ (more ∙ sym (ap₂ (λ (x y : ℕ). members_from s rows n x (u + 1) y) l (info_place τ s rows (get_or s u 0) q k y.info))))
 
-  pub members_same : (n a t p b u q e f : ℕ) → times (name_at τ.setting s) n a ≡ F.End e → times (name_at τ.setting s) n b ≡ F.End f → Infos τ s rows n t p → Infos τ s rows n u q
+  pub members_same : (n a t p b u q e f : ℕ) → times (name_at τ.setting s) n a ≡ Ok e → times (name_at τ.setting s) n b ≡ Ok f → Infos τ s rows n t p → Infos τ s rows n u q
       → members_from s rows n a t p ≡ members_from s rows n b u q → same_members_at s ps n a t p b u q ≡ true
   unfolding times same_members_at members_from
   members_same zero a t p b u q e f g h v w z = refl
@@ -262,7 +262,7 @@ module _ (τ : Terms) (s : List ℕ) (rows ps : List Row) (st : Stands τ s rows
       let name : text_from s a ≡ text_from s b = ap (λ (x : Member (List ℕ) (List ℕ)). x.name) both.0 in
       let detail : detail_from s rows type p ≡ detail_from s rows (get_or s u 0) q = ap (λ (x : Member (List ℕ) (List ℕ)). x.type) both.0 in
       let c : type ≡ get_or s u 0 = sym (type_is s rows type p x.type) ∙ (ap type_byte detail ∙ type_is s rows (get_or s u 0) q y.type) in
-      let known : info_known τ.setting s rows type q ≡ F.End k = subst (λ (z : ℕ). info_known τ.setting s rows z q ≡ F.End k) (sym c) y.info in
+      let known : info_known τ.setting s rows type q ≡ Ok k = subst (λ (z : ℕ). info_known τ.setting s rows z q ≡ Ok k) (sym c) y.info in
       let o = info_place τ s rows type p m x.info in
       let r = info_place τ s rows type q k known in
       let d = name_after τ.setting s a i.0 i.1 in

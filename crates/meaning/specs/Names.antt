@@ -1,7 +1,8 @@
 -- Libraries by name: two library rows are compared by their names, the fields that name libraries name rows that are there, and the first row
 -- that a field leads to is the first library with the name that the field says.
 use Prim.Native.Nat.{ℕ, zero, suc, ◌+◌, ◌-◌, ◌*◌, ◌≤◌, ◌<◌}
-use Rattle.std.specs.Prelude.{◌≡◌, true, false, ◌&&◌, length}
+use Rattle.std.specs.Prelude.{◌≡◌, true, false, ◌&&◌, length, Result, Ok, Err}
+use Rattle.format.specs.declared.Refusal.{Refusal}
 use Rattle.std.proofs.Math.Path.{refl, sym, ap, subst}
 use Rattle.std.proofs.Common.{◌∙◌}
 use Rattle.std.proofs.Math.Bool.{Bool}
@@ -13,8 +14,6 @@ use Rattle.std.proofs.Math.Dec.{eqb}
 use borrow.Author.Tests.{eq-eqb, eqb-true, eqb-false}
 use Rattle.format.specs.Terms.{Terms}
 use Rattle.format.specs.declared.Refusal.TheVariants as R
-use Rattle.format.specs.declared.Field.{Field}
-use Rattle.format.specs.declared.Field.TheVariants as F
 use Rattle.format.specs.declared.Row.{Row}
 use Rattle.format.specs.Bytes.{pick, same_bytes}
 use Rattle.format.specs.Types.{name_at, library_id_at, info_at, after_info}
@@ -133,20 +132,20 @@ all_append none b = b
 all_append (both x a) b = both x (all_append a b)
 
 module _ (τ : Terms) (s : List ℕ) (rows : List Row) where
-  known_told : (end e : ℕ) → known_library s rows end ≡ F.End e → (e ≡ end) × (0 < library_row (number_from s (end - 4)) rows)
+  known_told : (end e : ℕ) → known_library s rows end ≡ Ok e → (e ≡ end) × (0 < library_row (number_from s (end - 4)) rows)
   known_told end e q = go (eqb (library_row (number_from s (end - 4)) rows) 0) refl q
     where
       positive : (n : ℕ) → (n ≡ 0 → ⊥) → 0 < n
       positive zero f = absurd (f refl)
       positive (suc n) f = omega arith
 
-      go : (t : Bool) → eqb (library_row (number_from s (end - 4)) rows) 0 ≡ t → pick t (F.Fault R.NoLibrary) (F.End end) ≡ F.End e
+      go : (t : Bool) → eqb (library_row (number_from s (end - 4)) rows) 0 ≡ t → pick t (Err R.NoLibrary) (Ok end) ≡ Ok e
           → (e ≡ end) × (0 < library_row (number_from s (end - 4)) rows)
       go true f q = absurd (no_end R.NoLibrary e q)
       go false f q = (cc, positive (library_row (number_from s (end - 4)) rows) (eqb-false (library_row (number_from s (end - 4)) rows) 0 f))
 
   -- a LibraryId that is known
-  id_names : (p m e : ℕ) → library_id_at s p ≡ F.End m → known_library s rows m ≡ F.End e → NamesLibrary s rows (e - 4) × (e ≡ p + 4) × (e ≤ length s)
+  id_names : (p m e : ℕ) → library_id_at s p ≡ Ok m → known_library s rows m ≡ Ok e → NamesLibrary s rows (e - 4) × (e ≡ p + 4) × (e ≤ length s)
   id_names p m e h q =
       let w = library_told s p m h in
       let u = u32_says s p w.0 m w.1 in
@@ -159,15 +158,15 @@ module _ (τ : Terms) (s : List ℕ) (rows : List Row) where
         omega (arith, u.next, u.within, k.0),
       )
 
-  pub own_names : (p e : ℕ) → own_library_at s rows p ≡ F.End e → NamesLibrary s rows (e - 4) × (e ≡ p + 4) × (e ≤ length s)
+  pub own_names : (p e : ℕ) → own_library_at s rows p ≡ Ok e → NamesLibrary s rows (e - 4) × (e ≡ p + 4) × (e ≤ length s)
   unfolding own_library_at
   own_names p e q =
       let x = through (known_library s rows) (library_id_at s p) e q in
       id_names p x.0 e x.1 x.2
 
   -- type 4: a name, and then the number of a library
-  pub class_info : (p e : ℕ) → info_known τ.setting s rows 4 p ≡ F.End e
-      → NamesLibrary s rows (e - 4) × (m : ℕ) × (name_at τ.setting s p ≡ F.End m) × (e ≡ m + 4) × (e ≤ length s)
+  pub class_info : (p e : ℕ) → info_known τ.setting s rows 4 p ≡ Ok e
+      → NamesLibrary s rows (e - 4) × (m : ℕ) × (name_at τ.setting s p ≡ Ok m) × (e ≡ m + 4) × (e ≤ length s)
   unfolding info_known info_at
   class_info p e q =
       let x = through (known_library s rows) (on_end (library_id_at s) (name_at τ.setting s p)) e q in
@@ -177,10 +176,10 @@ module _ (τ : Terms) (s : List ℕ) (rows : List Row) where
 
   -- ---- all fields of a row
 
-  info_field : (type p e : ℕ) → info_known τ.setting s rows type p ≡ F.End e → All (NamesLibrary s rows) (pick (eqb type 4) ((e - 4) ∷ []) [])
+  info_field : (type p e : ℕ) → info_known τ.setting s rows type p ≡ Ok e → All (NamesLibrary s rows) (pick (eqb type 4) ((e - 4) ∷ []) [])
   info_field type p e q = picked (λ (l : List ℕ). All (NamesLibrary s rows) l) (eqb type 4) (λ t. both (class_info p e (rw (eqb-true type 4 t) at q)).0 none) (λ t. none)
 
-  pub infos_name : (n types p e : ℕ) → infos_at τ.setting s rows n types p ≡ F.End e → All (NamesLibrary s rows) (info_fields s n types p)
+  pub infos_name : (n types p e : ℕ) → infos_at τ.setting s rows n types p ≡ Ok e → All (NamesLibrary s rows) (info_fields s n types p)
   unfolding infos_at info_fields
   infos_name zero types p e q = none
   infos_name (suc n) types p e q =
@@ -229,7 +228,7 @@ module _ (τ : Terms) (s : List ℕ) (rows : List Row) (r : Row) (c : ClassStand
       let e : t.name_end ≡ c.name_end = end_same t.named c.named in
       end_same t.names (ap (λ (p : ℕ). times (name_at τ.setting s) r.count (p + 4)) e ∙ c.names)
     where
-      end_same : {f : Field} {a b : ℕ} → f ≡ F.End a → f ≡ F.End b → a ≡ b
+      end_same : {f : Result ℕ Refusal} {a b : ℕ} → f ≡ Ok a → f ≡ Ok b → a ≡ b
       end_same p q = cc
 
   pub class_places : (c.name_end + 4 ≤ c.types) × (c.types + r.count ≤ length s) × (c.types + r.count ≤ c.infos_end) × (c.infos_end ≤ length s)

@@ -1,13 +1,11 @@
 -- The bytes written for the other records are those of what they say: strings, libraries, the arrays of kinds 15, 16 and 17, primitives, values,
 -- references, objects by their class's first, the header and the end.
-use Rattle.std.specs.Prelude.{ℕ, ◌+◌, ◌-◌, ◌%◌, ◌≤◌, ◌≡◌, refl, length, get_or, eqb}
+use Rattle.std.specs.Prelude.{ℕ, ◌+◌, ◌-◌, ◌%◌, ◌≤◌, ◌≡◌, refl, length, get_or, eqb, Some, Ok}
 use Rattle.std.proofs.Math.Path.{ap, ap₂}
 use Rattle.std.proofs.Common.{◌∙◌, arith}
 use mathlib.Core.List.{List, [], ◌∷◌, ◌++◌, append_assoc}
 use Rattle.format.specs.Terms.{Terms}
 use Rattle.format.specs.declared.PrimitiveCode.{PrimitiveCode}
-use Rattle.format.specs.declared.Number32.TheVariants as N32
-use Rattle.format.specs.declared.Field.TheVariants as F
 use Rattle.format.specs.declared.Row.{Row}
 use Rattle.format.specs.Numbers.{le_bytes, u32_at}
 use Rattle.format.specs.Values.{value_at, items_at}
@@ -46,13 +44,13 @@ end_is s o e k h g =
     part_to s o e (omega arith) (omega arith) ∙ rw (k, z)
 
 module _ (τ : Terms) (s : List ℕ) (byte : Bytes s) (r : Row) where
-  pub member_is : (c : PrimitiveCode) → r.link ≡ code_number c → value_at τ.setting s c r.offset ≡ F.End r.end
+  pub member_is : (c : PrimitiveCode) → r.link ≡ code_number c → value_at τ.setting s c r.offset ≡ Ok r.end
       → member_out (anew_in τ.setting) s r ≡ enc (value c (value_by c (content_from s c r.offset)))
   unfolding enc
   member_is c l q = ap (λ (n : ℕ). value_out s (eqb n (anew_in τ.setting)) r.offset r.end) l ∙ value_is τ s byte c r.offset r.end q
 
-  pub typed_is : get_or s r.offset 0 ≡ 8 → code_at s (r.offset + 1) ≡ F.End (r.offset + 2)
-      → value_at τ.setting s (code_from s (r.offset + 1)) (r.offset + 2) ≡ F.End r.end
+  pub typed_is : get_or s r.offset 0 ≡ 8 → code_at s (r.offset + 1) ≡ Ok (r.offset + 2)
+      → value_at τ.setting s (code_from s (r.offset + 1)) (r.offset + 2) ≡ Ok r.end
       → typed_out (anew_in τ.setting) s r
       ≡ enc (typed_primitive (code_from s (r.offset + 1)) (value_by (code_from s (r.offset + 1)) (content_from s (code_from s (r.offset + 1)) (r.offset + 2))))
   unfolding typed_out enc
@@ -87,15 +85,15 @@ module _ (s : List ℕ) (byte : Bytes s) (q r : Row) (o : q.offset ≡ r.offset)
   kept_out_lem kind k = rw (k, o, e)
 
   -- the bytes of an array's length
-  counted : (p : ℕ) → u32_at s (p + 5) ≡ N32.Value r.count (p + 9) → between s (p + 5) (p + 9) ≡ le_bytes 4 r.count
+  counted : (p : ℕ) → u32_at s (p + 5) ≡ Some (r.count, p + 9) → between s (p + 5) (p + 9) ≡ le_bytes 4 r.count
   counted p u =
       let d : p + 5 + 4 ≡ p + 9 = omega arith in
       rw d at (number_is s byte (p + 5) r.count (rw d u))
 
 module _ (τ : Terms) (s : List ℕ) (byte : Bytes s) (q r : Row) (o : q.offset ≡ r.offset) (e : q.end ≡ r.end) where
-  module _ (u : u32_at s (r.offset + 5) ≡ N32.Value r.count (r.offset + 9)) where
-    pub primitives_is : q.count ≡ r.count → code_at s (r.offset + 9) ≡ F.End (r.offset + 10)
-        → items_at τ.setting s (code_from s (r.offset + 9)) r.count (r.offset + 10) ≡ F.End r.end
+  module _ (u : u32_at s (r.offset + 5) ≡ Some (r.count, r.offset + 9)) where
+    pub primitives_is : q.count ≡ r.count → code_at s (r.offset + 9) ≡ Ok (r.offset + 10)
+        → items_at τ.setting s (code_from s (r.offset + 9)) r.count (r.offset + 10) ≡ Ok r.end
         → primitives_out (anew_in τ.setting) s q
         ≡ enc (primitive_array q.id r.count (code_from s (r.offset + 9)) (values_by (code_from s (r.offset + 9)) (items_from s (code_from s (r.offset + 9)) r.count (r.offset + 10))))
     unfolding primitives_out primitive_items_out enc
@@ -116,7 +114,7 @@ module _ (τ : Terms) (s : List ℕ) (byte : Bytes s) (q r : Row) (o : q.offset 
         ∙ append_assoc (le_bytes 4 r.count) (code_number code ∷ []) items))
 
 module _ (s : List ℕ) (byte : Bytes s) (q r : Row) (o : q.offset ≡ r.offset) (e : q.end ≡ r.end) where
-  module _ (u : u32_at s (r.offset + 5) ≡ N32.Value r.count (r.offset + 9)) where
+  module _ (u : u32_at s (r.offset + 5) ≡ Some (r.count, r.offset + 9)) where
     slots : r.end ≡ r.offset + 9 → between s (r.offset + 5) r.end ≡ le_bytes 4 r.count
     slots h = ap (between s (r.offset + 5)) h ∙ counted s byte q r o e r.offset u
 

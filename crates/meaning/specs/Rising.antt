@@ -1,13 +1,12 @@
 -- The fields that name libraries stand in the stream in the order of the rows, each names a library by its first row, and the first row spells
 -- the library's name.
 use Prim.Native.Nat.{ℕ, zero, suc, ◌+◌, ◌-◌, ◌*◌, ◌≤◌, ◌<◌}
-use Rattle.std.specs.Prelude.{◌≡◌, refl, true, length, eqb}
+use Rattle.std.specs.Prelude.{◌≡◌, refl, true, length, eqb, Ok}
 use Rattle.std.proofs.Math.Path.{sym, subst}
 use Rattle.std.proofs.Common.{ap, ◌∙◌, arith, eqb-true}
 use mathlib.Core.List.{List, [], ◌∷◌, ◌++◌, append-nil}
 use Rattle.std.proofs.Math.ListN.{get_or}
 use Rattle.format.specs.Terms.{Terms}
-use Rattle.format.specs.declared.Field.TheVariants as F
 use Rattle.format.specs.declared.Row.{Row}
 use Rattle.format.specs.Bytes.{pick}
 use Rattle.format.specs.Rows.{blank, is_object, is_class}
@@ -43,7 +42,7 @@ one_field e b p h l = next {b = b} {p = p} h (no_field e (suc p) l)
 
 module _ (τ : Terms) (s : List ℕ) (rows : List Row) where
   -- a detail from p to e
-  info_rising : (type p e : ℕ) → p ≤ length s → info_known τ.setting s rows type p ≡ F.End e → Rising e p (pick (eqb type 4) ((e - 4) ∷ []) [])
+  info_rising : (type p e : ℕ) → p ≤ length s → info_known τ.setting s rows type p ≡ Ok e → Rising e p (pick (eqb type 4) ((e - 4) ∷ []) [])
   info_rising type p e h q = picked (Rising e p) (eqb type 4) of_class_holds (λ t. let m = info_known_moves τ.setting s rows type p e h q in no_field e p (omega arith))
     where
       of_class_holds : eqb type 4 ≡ true → Rising e p ((e - 4) ∷ [])
@@ -52,7 +51,7 @@ module _ (τ : Terms) (s : List ℕ) (rows : List Row) where
           let m = c.moves in
           one_field e p (e - 4) (omega arith) (omega arith)
 
-  infos_rising : (n types p e : ℕ) → p ≤ length s → infos_at τ.setting s rows n types p ≡ F.End e → Rising e p (info_fields s n types p)
+  infos_rising : (n types p e : ℕ) → p ≤ length s → infos_at τ.setting s rows n types p ≡ Ok e → Rising e p (info_fields s n types p)
   unfolding infos_at info_fields
   infos_rising zero types p e h q = let z : p ≡ e = cc in no_field e p (omega arith)
   infos_rising (suc n) types p e h q =

@@ -1,10 +1,7 @@
 -- What stands where a row of an accepted stream says it does, kind by kind: the facts about the stream that the copy rests on.
-use Rattle.std.specs.Prelude.{ℕ, suc, ◌+◌, ◌-◌, ◌*◌, ◌≤◌, ◌<◌, ◌≡◌, true, false, List, length, get_or}
+use Rattle.std.specs.Prelude.{ℕ, suc, ◌+◌, ◌-◌, ◌*◌, ◌≤◌, ◌<◌, ◌≡◌, true, false, List, length, get_or, Some, Ok}
 use Rattle.std.proofs.Common.{ap}
 use Rattle.format.specs.Terms.{Terms}
-use Rattle.format.specs.declared.Number32.TheVariants as N32
-use Rattle.format.specs.declared.Text.TheVariants as T
-use Rattle.format.specs.declared.Field.TheVariants as F
 use Rattle.format.specs.declared.Row.{Row}
 use Rattle.format.specs.Numbers.{u32_at}
 use Rattle.format.specs.Text.{string_at}
@@ -25,23 +22,23 @@ pub record Target (rows : List Row) (link : ℕ) : Type 0 where
 -- a string that ends at e
 pub record StringStands (τ : Terms) (s : List ℕ) (p e : ℕ) : Type 0 where
   pub from : ℕ
-  pub text : string_at τ.setting s p ≡ T.Part from e
+  pub text : string_at τ.setting s p ≡ Ok (record { from = from; to = e })
 
 -- after the details: nothing, or the class's own library
 pub data OwnStands (s : List ℕ) (rows : List Row) (r : Row) (p : ℕ) : Type 0 where
   of_system : r.kind ≡ 4 → p ≡ r.end → OwnStands s rows r p
-  of_library_rule : r.kind ≡ 5 → own_library_at s rows p ≡ F.End r.end → OwnStands s rows r p
+  of_library_rule : r.kind ≡ 5 → own_library_at s rows p ≡ Ok r.end → OwnStands s rows r p
 
 -- name, member count, names, type bytes, details, own library
 pub record ClassStands (τ : Terms) (s : List ℕ) (rows : List Row) (r : Row) : Type 0 where
   pub name_end : ℕ
-  pub named : name_at τ.setting s (r.offset + 5) ≡ F.End name_end
-  pub counted : u32_at s name_end ≡ N32.Value r.count (name_end + 4)
+  pub named : name_at τ.setting s (r.offset + 5) ≡ Ok name_end
+  pub counted : u32_at s name_end ≡ Some (r.count, name_end + 4)
   pub types : ℕ
-  pub names : times (name_at τ.setting s) r.count (name_end + 4) ≡ F.End types
-  pub type_bytes : times (type_byte_at s) r.count types ≡ F.End (types + r.count)
+  pub names : times (name_at τ.setting s) r.count (name_end + 4) ≡ Ok types
+  pub type_bytes : times (type_byte_at s) r.count types ≡ Ok (types + r.count)
   pub infos_end : ℕ
-  pub infos : infos_at τ.setting s rows r.count types (types + r.count) ≡ F.End infos_end
+  pub infos : infos_at τ.setting s rows r.count types (types + r.count) ≡ Ok infos_end
   pub own : OwnStands s rows r infos_end
   pub inside : r.end ≤ length s
 
@@ -56,12 +53,12 @@ class_stands τ s rows r c β = class_typed β s rows r (typed c.own)
 -- array type, rank, lengths, item type with its detail, items where they are primitive
 pub record ArrayStands (τ : Terms) (s : List ℕ) (rows : List Row) (r : Row) : Type 0 where
   pub rank : ℕ
-  pub ranked : u32_at s (r.offset + 6) ≡ N32.Value rank (r.offset + 10)
-  pub typed : type_byte_at s (r.offset + 10 + 4 * rank) ≡ F.End (r.offset + 10 + 4 * rank + 1)
+  pub ranked : u32_at s (r.offset + 6) ≡ Some (rank, r.offset + 10)
+  pub typed : type_byte_at s (r.offset + 10 + 4 * rank) ≡ Ok (r.offset + 10 + 4 * rank + 1)
   pub info_end : ℕ
-  pub info : info_known τ.setting s rows (get_or s (r.offset + 10 + 4 * rank) 0) (r.offset + 10 + 4 * rank + 1) ≡ F.End info_end
+  pub info : info_known τ.setting s rows (get_or s (r.offset + 10 + 4 * rank) 0) (r.offset + 10 + 4 * rank + 1) ≡ Ok info_end
   pub items : info_end ≤ r.end
-  pub items_at_holds : get_or s (r.offset + 10 + 4 * rank) 0 ≡ 0 → items_at τ.setting s (code_from s (r.offset + 10 + 4 * rank + 1)) r.count info_end ≡ F.End r.end
+  pub items_at_holds : get_or s (r.offset + 10 + 4 * rank) 0 ≡ 0 → items_at τ.setting s (code_from s (r.offset + 10 + 4 * rank + 1)) r.count info_end ≡ Ok r.end
   pub no_items : (get_or s (r.offset + 10 + 4 * rank) 0 ≡ 0 → ⊥) → r.end ≡ info_end
   pub inside : r.end ≤ length s
 
@@ -77,16 +74,16 @@ pub data RowStands (τ : Terms) (s : List ℕ) (rows : List Row) (i : ℕ) (r : 
   a_class_rule : is_class r.kind ≡ true → ClassStands τ s rows r → RowStands τ s rows i r
   a_string_rule : r.kind ≡ 6 → StringStands τ s (r.offset + 5) r.end → RowStands τ s rows i r
   an_array_rule : r.kind ≡ 7 → ArrayStands τ s rows r → RowStands τ s rows i r
-  a_primitive_rule : r.kind ≡ 8 → code_at s (r.offset + 1) ≡ F.End (r.offset + 2)
-      → value_at τ.setting s (code_from s (r.offset + 1)) (r.offset + 2) ≡ F.End r.end → r.end ≤ length s → RowStands τ s rows i r
+  a_primitive_rule : r.kind ≡ 8 → code_at s (r.offset + 1) ≡ Ok (r.offset + 2)
+      → value_at τ.setting s (code_from s (r.offset + 1)) (r.offset + 2) ≡ Ok r.end → r.end ≤ length s → RowStands τ s rows i r
   a_reference_rule : r.kind ≡ 9 → Target rows r.link → RowStands τ s rows i r
   nulls : is_nulls r.kind ≡ true → r.count < 2147483648 → RowStands τ s rows i r
   the_end : r.kind ≡ 11 → suc i ≡ length rows → r.end ≡ r.offset + 1 → RowStands τ s rows i r
   a_library_rule : r.kind ≡ 12 → StringStands τ s (r.offset + 5) r.end → RowStands τ s rows i r
-  primitives : r.kind ≡ 15 → u32_at s (r.offset + 5) ≡ N32.Value r.count (r.offset + 9) → code_at s (r.offset + 9) ≡ F.End (r.offset + 10)
-      → items_at τ.setting s (code_from s (r.offset + 9)) r.count (r.offset + 10) ≡ F.End r.end → r.end ≤ length s → RowStands τ s rows i r
-  objects : r.kind ≡ 16 → u32_at s (r.offset + 5) ≡ N32.Value r.count (r.offset + 9) → r.end ≡ r.offset + 9 → RowStands τ s rows i r
-  texts : r.kind ≡ 17 → u32_at s (r.offset + 5) ≡ N32.Value r.count (r.offset + 9) → r.end ≡ r.offset + 9 → RowStands τ s rows i r
+  primitives : r.kind ≡ 15 → u32_at s (r.offset + 5) ≡ Some (r.count, r.offset + 9) → code_at s (r.offset + 9) ≡ Ok (r.offset + 10)
+      → items_at τ.setting s (code_from s (r.offset + 9)) r.count (r.offset + 10) ≡ Ok r.end → r.end ≤ length s → RowStands τ s rows i r
+  objects : r.kind ≡ 16 → u32_at s (r.offset + 5) ≡ Some (r.count, r.offset + 9) → r.end ≡ r.offset + 9 → RowStands τ s rows i r
+  texts : r.kind ≡ 17 → u32_at s (r.offset + 5) ≡ Some (r.count, r.offset + 9) → r.end ≡ r.offset + 9 → RowStands τ s rows i r
   a_value_rule : r.kind ≡ 32 → r.offset < r.end → r.end ≤ length s → RowStands τ s rows i r
 
 -- the rows of an accepted stream, links and all

@@ -1,17 +1,15 @@
 -- The bytes written for values are those of what they say: a Decimal with the shortest prefix, which it has already where strict took it; any other as it
 -- stands.
 use Prim.Native.Nat.{ℕ, zero, suc, ◌+◌, ◌-◌, ◌≤◌}
-use Rattle.std.specs.Prelude.{◌≡◌, Bool, true, false, length, eqb}
+use Rattle.std.specs.Prelude.{◌≡◌, Bool, true, false, length, eqb, Some, None, Ok}
 use Rattle.std.proofs.Math.Path.{refl, ap₂}
 use Rattle.std.proofs.Common.{sym, ap, subst, ◌∙◌, arith, eqb-true}
 use mathlib.Core.List.{List, ◌++◌}
 use Rattle.format.specs.Terms.{Terms, strict, lenient}
 use Rattle.format.specs.declared.Setting.{Setting}
 use Rattle.format.specs.declared.Setting.TheVariants as S
-use Rattle.format.specs.declared.Coded.TheVariants as D
 use Rattle.format.specs.declared.PrimitiveCode.{PrimitiveCode}
 use Rattle.format.specs.declared.PrimitiveCode.TheVariants as C
-use Rattle.format.specs.declared.Field.TheVariants as F
 use Rattle.format.specs.Bytes.{pick}
 use Rattle.format.specs.Prefix.{prefix_of}
 use Rattle.format.specs.Values.{value_at, items_at, value_span}
@@ -82,14 +80,14 @@ no_code_0 c = either (eqb (code_number c) 0) never (λ f. f)
   where
     never : eqb (code_number c) 0 ≡ true → eqb (code_number c) 0 ≡ false
     never f =
-        let e : D.Code c ≡ D.NoCode = sym (primitive_number c) ∙ ap primitive_of (eqb-true (code_number c) 0 f) in
+        let e : Some c ≡ None = sym (primitive_number c) ∙ ap primitive_of (eqb-true (code_number c) 0 f) in
         absurd (let z : ◌≡◌ {A = ℕ} 0 1 = cc in omega arith)
 
 -- ---- any value, and items
 
 -- as they are written where Decimals are written anew
 module _ (τ : Terms) (s : List ℕ) (byte : Bytes s) (c : PrimitiveCode) where
-  value_anew : (p e : ℕ) → value_at τ.setting s c p ≡ F.End e → value_out s (has_prefix c) p e ≡ bytes_in (value_by c (content_from s c p))
+  value_anew : (p e : ℕ) → value_at τ.setting s c p ≡ Ok e → value_out s (has_prefix c) p e ≡ bytes_in (value_by c (content_from s c p))
   value_anew p e q = either (has_prefix c) prefixed plain
     where
       prefixed : has_prefix c ≡ true → value_out s (has_prefix c) p e ≡ bytes_in (value_by c (content_from s c p))
@@ -102,7 +100,7 @@ module _ (τ : Terms) (s : List ℕ) (byte : Bytes s) (c : PrimitiveCode) where
           let w = value_back τ s c p e byte q in
           ap (λ (t : Bool). value_out s t p e) f ∙ (stand_same w.1 ∙ bare_one τ c (value_in s c p) f w.0)
 
-  items_anew : (n p e : ℕ) → p ≤ length s → items_at τ.setting s c n p ≡ F.End e
+  items_anew : (n p e : ℕ) → p ≤ length s → items_at τ.setting s c n p ≡ Ok e
       → values_out s (has_prefix c) n p e ≡ items_bytes (values_by c (items_from s c n p))
   items_anew n p e h q = either (has_prefix c) prefixed plain
     where
@@ -120,20 +118,20 @@ module _ (τ : Terms) (s : List ℕ) (byte : Bytes s) (c : PrimitiveCode) where
 
 -- and as they are written under these terms
 module _ (τ : Terms) (s : List ℕ) (byte : Bytes s) (c : PrimitiveCode) where
-  pub value_is : (p e : ℕ) → value_at τ.setting s c p ≡ F.End e → value_out s (eqb (code_number c) (anew_in τ.setting)) p e ≡ bytes_in (value_by c (content_from s c p))
+  pub value_is : (p e : ℕ) → value_at τ.setting s c p ≡ Ok e → value_out s (eqb (code_number c) (anew_in τ.setting)) p e ≡ bytes_in (value_by c (content_from s c p))
   value_is p e q = go τ.setting q
     where
-      go : (σ : Setting) → value_at σ s c p ≡ F.End e → value_out s (eqb (code_number c) (anew_in σ)) p e ≡ bytes_in (value_by c (content_from s c p))
+      go : (σ : Setting) → value_at σ s c p ≡ Ok e → value_out s (eqb (code_number c) (anew_in σ)) p e ≡ bytes_in (value_by c (content_from s c p))
       go S.Strict q =
           let w = value_back strict s c p e byte q in
           ap (λ (t : Bool). value_out s t p e) (no_code_0 c) ∙ (stand_same w.1 ∙ strict_one c (value_in s c p) w.0)
       go S.Lenient q = value_anew lenient s byte c p e q
 
-  pub items_are : (n p e : ℕ) → p ≤ length s → items_at τ.setting s c n p ≡ F.End e
+  pub items_are : (n p e : ℕ) → p ≤ length s → items_at τ.setting s c n p ≡ Ok e
       → values_out s (eqb (code_number c) (anew_in τ.setting)) n p e ≡ items_bytes (values_by c (items_from s c n p))
   items_are n p e h q = go τ.setting q
     where
-      go : (σ : Setting) → items_at σ s c n p ≡ F.End e → values_out s (eqb (code_number c) (anew_in σ)) n p e ≡ items_bytes (values_by c (items_from s c n p))
+      go : (σ : Setting) → items_at σ s c n p ≡ Ok e → values_out s (eqb (code_number c) (anew_in σ)) n p e ≡ items_bytes (values_by c (items_from s c n p))
       go S.Strict q =
           let w = items_back strict s c n p e byte h q in
           ap (λ (t : Bool). values_out s t n p e) (no_code_0 c)

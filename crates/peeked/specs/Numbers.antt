@@ -1,9 +1,6 @@
 -- Where the format reads a number at a place, programs for people find the same.
-use Rattle.std.specs.Prelude.{ℕ, ◌+◌, ◌≤◌, ◌≡◌, List, length}
+use Rattle.std.specs.Prelude.{ℕ, ◌+◌, ◌≤◌, ◌≡◌, List, length, Some}
 use Rattle.std.proofs.Common.{sym, ◌∙◌, arith}
-use Rattle.format.specs.declared.Number16.TheVariants as N16
-use Rattle.format.specs.declared.Number32.TheVariants as N32
-use Rattle.format.specs.declared.Number64.TheVariants as N64
 use Rattle.format.specs.Bytes.{part}
 use Rattle.format.specs.Numbers.{le, u16_at, u32_at, u64_at}
 use Rattle.num.specs.Le.{le_join, le_byte}
@@ -27,17 +24,17 @@ unfolding eight_at
 eight_part s p h =
     rw (← onward_in s p 4 (omega arith), four_part s p (omega arith), four_part s (p + 4) (omega arith)) (omega (arith, le_join s p 4 4 (omega arith)))
 
-pub u16_found : (s : List ℕ) (p v e : ℕ) → u16_at s p ≡ N16.Value v e → two_at s p ≡ v
+pub u16_found : (s : List ℕ) (p v e : ℕ) → u16_at s p ≡ Some (v, e) → two_at s p ≡ v
 u16_found s p v e q =
     let w = u16_says s p v e q in
     two_part s p w.within ∙ sym w.value
 
-pub u32_found : (s : List ℕ) (p v e : ℕ) → u32_at s p ≡ N32.Value v e → four_at s p ≡ v
+pub u32_found : (s : List ℕ) (p v e : ℕ) → u32_at s p ≡ Some (v, e) → four_at s p ≡ v
 u32_found s p v e q =
     let w = u32_says s p v e q in
     four_part s p w.within ∙ sym w.value
 
-pub u64_found : (s : List ℕ) (p v e : ℕ) → u64_at s p ≡ N64.Value v e → eight_at s p ≡ v
+pub u64_found : (s : List ℕ) (p v e : ℕ) → u64_at s p ≡ Some (v, e) → eight_at s p ≡ v
 u64_found s p v e q =
     let w = u64_says s p v e q in
     eight_part s p w.within ∙ sym w.value

@@ -1,10 +1,8 @@
 -- A class's name and members at a place (01, Records, kinds 4 and 5): those that the grammar takes are those that end.
-use Rattle.std.specs.Prelude.{ℕ, ◌+◌, ◌≤◌, ◌<◌, ◌≡◌, refl, false, List, ◌++◌, length}
+use Rattle.std.specs.Prelude.{ℕ, ◌+◌, ◌≤◌, ◌<◌, ◌≡◌, refl, false, List, ◌++◌, length, Some, Ok}
 use Rattle.std.proofs.Common.{ap, ◌∙◌, arith}
 use borrow.Author.Tests.{le-ltb}
 use Rattle.format.specs.Terms.{Terms}
-use Rattle.format.specs.declared.Number32.TheVariants as N32
-use Rattle.format.specs.declared.Field.TheVariants as F
 use Rattle.format.specs.declared.Row.{Row}
 use Rattle.format.specs.Numbers.{le_bytes, u32_at, negative}
 use Rattle.format.specs.Values.{times}
@@ -34,8 +32,8 @@ module _ (τ : Terms) (s : List ℕ) (rows : List Row) where
   unfolding types_at
   types_known types infos n e h = rw (← e, le-ltb (length s) infos h)
 
-  pub class_back : (p q n r types infos e : ℕ) → Bytes s → name_at τ.setting s p ≡ F.End q → u32_at s q ≡ N32.Value n r → negative n ≡ false
-      → times (name_at τ.setting s) n r ≡ F.End types → times (type_byte_at s) n types ≡ F.End infos → infos_at τ.setting s rows n types infos ≡ F.End e
+  pub class_back : (p q n r types infos e : ℕ) → Bytes s → name_at τ.setting s p ≡ Ok q → u32_at s q ≡ Some (n, r) → negative n ≡ false
+      → times (name_at τ.setting s) n r ≡ Ok types → times (type_byte_at s) n types ≡ Ok infos → infos_at τ.setting s rows n types infos ≡ Ok e
       → ClassAt (prefixed_at s p) (members_in s n r types infos) p e n types infos
   class_back p q n r types infos e byte a b c d f g =
       let x = name_back τ s p q byte a in
@@ -62,12 +60,12 @@ module _ (τ : Terms) (s : List ℕ) (rows : List Row) where
     pub names_at : ℕ
     pub types_at_holds : ℕ
     pub infos_at_holds : ℕ
-    pub name_end : name_at τ.setting s p ≡ F.End count_at
-    pub count_is : u32_at s count_at ≡ N32.Value (length ms) names_at
+    pub name_end : name_at τ.setting s p ≡ Ok count_at
+    pub count_is : u32_at s count_at ≡ Some (length ms, names_at)
     pub fits : negative (length ms) ≡ false
-    pub names_end : times (name_at τ.setting s) (length ms) names_at ≡ F.End types_at_holds
-    pub types_end : times (type_byte_at s) (length ms) types_at_holds ≡ F.End infos_at_holds
-    pub infos_end : infos_at τ.setting s rows (length ms) types_at_holds infos_at_holds ≡ F.End e
+    pub names_end : times (name_at τ.setting s) (length ms) names_at ≡ Ok types_at_holds
+    pub types_end : times (type_byte_at s) (length ms) types_at_holds ≡ Ok infos_at_holds
+    pub infos_end : infos_at τ.setting s rows (length ms) types_at_holds infos_at_holds ≡ Ok e
     pub infos_are : infos_at_holds ≡ types_at_holds + length ms
     pub same : members_in s (length ms) names_at types_at_holds infos_at_holds ≡ ms
     pub class_at_holds : ClassAt name ms p e (length ms) types_at_holds infos_at_holds

@@ -1,6 +1,7 @@
 -- LibraryIds and the details of types at a place (01, Records; 2.1.2.2): those that the grammar takes are those that end, and a detail read
 -- at a place is one written there. Its library is given by number.
-use Rattle.std.specs.Prelude.{ℕ, ◌-◌, ◌≤◌, ◌≡◌, Bool, length, get_or}
+use Rattle.std.specs.Prelude.{ℕ, ◌-◌, ◌≤◌, ◌≡◌, Bool, length, get_or, Result, Ok, Err}
+use Rattle.format.specs.declared.Refusal.{Refusal}
 use Rattle.std.proofs.Math.Path.{refl, ap}
 use Rattle.std.proofs.Common.{sym, ◌∙◌, subst}
 use Rattle.std.proofs.Math.Bool.{true, false}
@@ -9,8 +10,6 @@ use native.Mathlib.Omega.{arith}
 use Rattle.std.proofs.Math.Dec.{eqb}
 use Rattle.format.specs.Terms.{Terms}
 use Rattle.format.specs.declared.Refusal.TheVariants as R
-use Rattle.format.specs.declared.Field.{Field}
-use Rattle.format.specs.declared.Field.TheVariants as F
 use Rattle.format.specs.declared.Row.{Row}
 use Rattle.format.specs.Bytes.{pick, part}
 use Rattle.format.specs.Numbers.{le, le_bytes}
@@ -36,7 +35,7 @@ use Rattle.places.specs.Fields.{Number, number_size, number_there, number_back, 
 -- ---- LibraryIds
 
 module _ (β s : List ℕ) (rows : List Row) (p e : ℕ) where
-  pub library_there : (l : ℕ) → LibraryId l (env_of β s rows) → Stand s (le_bytes 4 l) p e → own_library_at s rows p ≡ F.End e
+  pub library_there : (l : ℕ) → LibraryId l (env_of β s rows) → Stand s (le_bytes 4 l) p e → own_library_at s rows p ≡ Ok e
   unfolding own_library_at
   library_there l g w =
       let b = positive_bits l g.sign in
@@ -45,14 +44,14 @@ module _ (β s : List ℕ) (rows : List Row) (p e : ℕ) where
       let z : e - 4 ≡ p = omega arith in
       rw (library_end s p l e u ((positive_exactly l).1 g.sign), z, number_from_lem s l p e b w, library_id_good β s rows l g)
 
-  known_told : (m : ℕ) → known_library s rows m ≡ F.End e → eqb (library_row (le (part s (m - 4) 4)) rows) 0 ≡ false
+  known_told : (m : ℕ) → known_library s rows m ≡ Ok e → eqb (library_row (le (part s (m - 4) 4)) rows) 0 ≡ false
   known_told m q = go (eqb (library_row (le (part s (m - 4) 4)) rows) 0) q
     where
-      go : (t : Bool) → pick t (F.Fault R.NoLibrary) (F.End m) ≡ F.End e → t ≡ false
+      go : (t : Bool) → pick t (Err R.NoLibrary) (Ok m) ≡ Ok e → t ≡ false
       go true q = absurd (no_end R.NoLibrary e q)
       go false q = refl
 
-  pub library_back : Bytes s → own_library_at s rows p ≡ F.End e
+  pub library_back : Bytes s → own_library_at s rows p ≡ Ok e
       → LibraryId (number_from s p) (env_of β s rows) × Stand s (le_bytes 4 (number_from s p)) p e
   unfolding own_library_at
   library_back b q =
@@ -80,9 +79,9 @@ detail_in s type at =
     (pick (eqb type 6) texts
     (primitives (code_from s at))))))))
 
-same : (r : Field) → on_end F.End r ≡ r
-same (F.End e) = refl
-same (F.Fault f) = refl
+same : (r : Result ℕ Refusal) → on_end Ok r ≡ r
+same (Ok e) = refl
+same (Err f) = refl
 
 module _ (τ : Terms) (s : List ℕ) (rows : List Row) (p : ℕ) where
   -- type 4: a name, and then a library that is known
@@ -90,22 +89,22 @@ module _ (τ : Terms) (s : List ℕ) (rows : List Row) (p : ℕ) where
   unfolding info_known info_at own_library_at
   class_detail = go (name_at τ.setting s p)
     where
-      go : (r : Field) → on_end (known_library s rows) (on_end (library_id_at s) r) ≡ on_end (λ m. on_end (known_library s rows) (library_id_at s m)) r
-      go (F.End m) = refl
-      go (F.Fault f) = refl
+      go : (r : Result ℕ Refusal) → on_end (known_library s rows) (on_end (library_id_at s) r) ≡ on_end (λ m. on_end (known_library s rows) (library_id_at s m)) r
+      go (Ok m) = refl
+      go (Err f) = refl
 
   module _ (e : ℕ) where
-    pub detail_there : (d : Detail Prefixed ℕ) → GoodDetail τ (env_of τ.book s rows) d → Stand s (info_bytes d) p e → info_known τ.setting s rows (type_byte d) p ≡ F.End e
+    pub detail_there : (d : Detail Prefixed ℕ) → GoodDetail τ (env_of τ.book s rows) d → Stand s (info_bytes d) p e → info_known τ.setting s rows (type_byte d) p ≡ Ok e
     unfolding info_known info_at
     detail_there (primitive c) g w = same (code_at s p) ∙ code_there s c p e w
-    detail_there text g w = let k = stand_size w in ap F.End (omega arith)
-    detail_there object g w = let k = stand_size w in ap F.End (omega arith)
+    detail_there text g w = let k = stand_size w in ap Ok (omega arith)
+    detail_there object g w = let k = stand_size w in ap Ok (omega arith)
     detail_there (system n) g w = same (name_at τ.setting s p) ∙ name_there τ s n p e g w
     detail_there (class n l) g w =
         let x = stand_split (bytes_in n) (le_bytes 4 l) w in
         class_detail ∙ rw (name_there τ s n p x.0 g.0 x.1) (library_there τ.book s rows x.0 e l g.1 x.2)
-    detail_there objects g w = let k = stand_size w in ap F.End (omega arith)
-    detail_there texts g w = let k = stand_size w in ap F.End (omega arith)
+    detail_there objects g w = let k = stand_size w in ap Ok (omega arith)
+    detail_there texts g w = let k = stand_size w in ap Ok (omega arith)
     detail_there (primitives c) g w = same (code_at s p) ∙ code_there s c p e w
 
     -- and it is the detail that is read there
@@ -147,10 +146,10 @@ module _ (τ : Terms) (s : List ℕ) (p : ℕ) where
       pub good : GoodDetail τ (env_of τ.book s rows) (detail_in s b p)
       pub stands : Stand s (info_bytes (detail_in s b p)) p e
 
-    pub detail_back : (b : ℕ) → b ≤ 7 → Bytes s → p ≤ length s → info_known τ.setting s rows b p ≡ F.End e → Detailed b
+    pub detail_back : (b : ℕ) → b ≤ 7 → Bytes s → p ≤ length s → info_known τ.setting s rows b p ≡ Ok e → Detailed b
     unfolding info_known info_at detail_in
     detail_back b h byte i q =
-        by_type (λ (b : ℕ). info_known τ.setting s rows b p ≡ F.End e → Detailed b)
+        by_type (λ (b : ℕ). info_known τ.setting s rows b p ≡ Ok e → Detailed b)
         (λ q. record { good = tt; stands = code_back s p e (sym (same (code_at s p)) ∙ q) })
         (λ q. record { good = tt; stands = none q })
         (λ q. record { good = tt; stands = none q })
@@ -163,10 +162,10 @@ module _ (τ : Terms) (s : List ℕ) (p : ℕ) where
         h
         q
       where
-        none : F.End p ≡ F.End e → Stand s [] p e
+        none : ◌≡◌ {A = Result ℕ Refusal} (Ok p) (Ok e) → Stand s [] p e
         none q = let z : p ≡ e = cc in rw (← z) (stand_none i)
 
-        class_back : (m : ℕ) × (name_at τ.setting s p ≡ F.End m) × (own_library_at s rows m ≡ F.End e) → Detailed 4
+        class_back : (m : ℕ) × (name_at τ.setting s p ≡ Ok m) × (own_library_at s rows m ≡ Ok e) → Detailed 4
         class_back x =
             let n = name_back τ s p x.0 byte x.1 in
             let l = library_back τ.book s rows x.0 e byte x.2 in

@@ -1,15 +1,11 @@
 -- Numbers, names and codes at a place (01, Field rules): what is written is read, and what is read is written so, with contents that are
 -- functions of the stream and the place.
-use Rattle.std.specs.Prelude.{ℕ, ◌+◌, ◌-◌, ◌<◌, ◌≡◌, false, List, [], ◌∷◌, length, get_or, drop}
+use Rattle.std.specs.Prelude.{ℕ, ◌+◌, ◌-◌, ◌<◌, ◌≡◌, false, List, [], ◌∷◌, length, get_or, drop, Some, Ok}
 use Rattle.std.proofs.Common.{sym, ap, ◌∙◌, arith, leb-false}
 use Rattle.std.proofs.lemmas.Bool.{lt-leb}
 use Rattle.format.specs.Terms.{Terms}
 use Rattle.format.specs.declared.Refusal.TheVariants as R
 use Rattle.format.specs.declared.PrimitiveCode.{PrimitiveCode}
-use Rattle.format.specs.declared.Coded.TheVariants as D
-use Rattle.format.specs.declared.Number32.TheVariants as N32
-use Rattle.format.specs.declared.Text.TheVariants as T
-use Rattle.format.specs.declared.Field.TheVariants as F
 use Rattle.format.specs.Bytes.{part}
 use Rattle.format.specs.Numbers.{le_bytes, negative, u32_at}
 use Rattle.format.specs.Text.{well_formed, text_at, string_at, span_at}
@@ -35,7 +31,7 @@ use Rattle.places.specs.Prefixes.{prefixed, behind, counted_there, written_at, c
 pub number_size : (s : List ℕ) (n p e : ℕ) → Stand s (le_bytes 4 n) p e → e ≡ p + 4
 number_size s n p e w = stand_size w ∙ ap (λ (k : ℕ). p + k) (length_le_bytes 4 n)
 
-pub number_there : (s : List ℕ) (n p e : ℕ) → n < 4294967296 → Stand s (le_bytes 4 n) p e → u32_at s p ≡ N32.Value n e
+pub number_there : (s : List ℕ) (n p e : ℕ) → n < 4294967296 → Stand s (le_bytes 4 n) p e → u32_at s p ≡ Some (n, e)
 number_there s n p e h w =
     let z : e ≡ p + 4 = number_size s n p e w in
     rw z (u32_written s (drop e s) p n h w.bytes)
@@ -47,7 +43,7 @@ pub record Number (s : List ℕ) (p v e : ℕ) : Type 0 where
   pub from : number_from s p ≡ v
   pub next : e ≡ p + 4
 
-pub number_back : (s : List ℕ) (p v e : ℕ) → Bytes s → u32_at s p ≡ N32.Value v e → Number s p v e
+pub number_back : (s : List ℕ) (p v e : ℕ) → Bytes s → u32_at s p ≡ Some (v, e) → Number s p v e
 number_back s p v e b q =
     let w = u32_says s p v e q in
     let l = length_part s p 4 w.within in
@@ -79,13 +75,13 @@ abbrev pub prefixed_at : List ℕ → ℕ → Prefixed
 prefixed_at s p = record { width = (span_at s p).from - p; text = text_from s p }
 
 module _ (τ : Terms) (s : List ℕ) (t : Prefixed) (p e : ℕ) (n : Name τ t) (w : Stand s (bytes_in t) p e) where
-  pub string_there : string_at τ.setting s p ≡ T.Part (p + t.width) e
+  pub string_there : string_at τ.setting s p ≡ Ok (record { from = (p + t.width); to = e })
   unfolding text_at judged_at
   string_there =
       let c = counted_there τ well_formed R.BadText s p e t n.prefix n.characters.short ((utf8_exactly t.text).1 n.characters.good) w in
       string_part τ.setting s p (length t.text) (p + t.width) e c.says c.ends
 
-  pub name_there : name_at τ.setting s p ≡ F.End e
+  pub name_there : name_at τ.setting s p ≡ Ok e
   name_there = name_end τ.setting s p (p + t.width) e string_there
 
   pub name_text : text_from s p ≡ t.text
@@ -97,7 +93,7 @@ module _ (τ : Terms) (s : List ℕ) (t : Prefixed) (p e : ℕ) (n : Name τ t) 
   pub name_in_lem : prefixed_at s p ≡ t
   name_in_lem = prefixed t ((span_at s p).from - p) (text_from s p) (rw (string_span_lem τ.setting s p (p + t.width) e string_there) (omega arith)) name_text
 
-pub name_back : (τ : Terms) (s : List ℕ) (p e : ℕ) → Bytes s → name_at τ.setting s p ≡ F.End e
+pub name_back : (τ : Terms) (s : List ℕ) (p e : ℕ) → Bytes s → name_at τ.setting s p ≡ Ok e
     → Name τ (prefixed_at s p) × Stand s (bytes_in (prefixed_at s p)) p e × (after_text s p ≡ e)
 name_back τ s p e b q =
     let w = name_told τ.setting s p e q in
@@ -111,10 +107,10 @@ name_back τ s p e b q =
 -- ---- codes
 
 module _ (s : List ℕ) (c : PrimitiveCode) (p e : ℕ) (w : Stand s (code_number c ∷ []) p e) where
-  code_is : primitive_of (get_or s p 0) ≡ D.Code c
+  code_is : primitive_of (get_or s p 0) ≡ Some c
   code_is = rw (stand_here w) (primitive_number c)
 
-  pub code_there : code_at s p ≡ F.End e
+  pub code_there : code_at s p ≡ Ok e
   code_there =
       let k = stand_size w in
       rw k (code_end_lem s p (stand_inside w) c code_is)
@@ -122,7 +118,7 @@ module _ (s : List ℕ) (c : PrimitiveCode) (p e : ℕ) (w : Stand s (code_numbe
   pub code_from_lem : code_from s p ≡ c
   code_from_lem = rw code_is
 
-pub code_back : (s : List ℕ) (p e : ℕ) → code_at s p ≡ F.End e → Stand s (code_number (code_from s p) ∷ []) p e
+pub code_back : (s : List ℕ) (p e : ℕ) → code_at s p ≡ Ok e → Stand s (code_number (code_from s p) ∷ []) p e
 code_back s p e q =
     let w = code_told s p e q in
     let f : code_number (code_from s p) ≡ get_or s p 0 = rw w.1 (number_primitive (get_or s p 0) w.0 w.1) in

@@ -1,12 +1,11 @@
 -- The items of a primitive array at a place (01, Field rules): those that the grammar takes are those that end, and read at a place they are
 -- those written there, one after the other.
-use Rattle.std.specs.Prelude.{ℕ, zero, suc, ◌+◌, ◌*◌, ◌≤◌, ◌<◌, ◌≡◌, refl, Bool, true, false, List, [], ◌∷◌, length, eqb}
+use Rattle.std.specs.Prelude.{ℕ, zero, suc, ◌+◌, ◌*◌, ◌≤◌, ◌<◌, ◌≡◌, refl, Bool, true, false, List, [], ◌∷◌, length, eqb, Ok}
 use Rattle.std.proofs.Common.{sym, ap, ◌∙◌, subst, arith}
 use Rattle.std.proofs.Math.Decide.{dec_lt}
 use Rattle.std.proofs.lemmas.Bool.{eqb-false}
 use Rattle.format.specs.Terms.{Terms}
 use Rattle.format.specs.declared.PrimitiveCode.{PrimitiveCode}
-use Rattle.format.specs.declared.Field.TheVariants as F
 use Rattle.format.specs.Bytes.{pick}
 use Rattle.format.specs.Values.{bytes_at, size_of, value_at, value_span, times, items_at}
 use Rattle.format.specs.Contents.{Prefixed, bytes_in, texts_of, items_bytes}
@@ -31,7 +30,7 @@ unfolding times
 numbers_each τ s c zero p h i =
     let z : size_of c * 0 ≡ 0 = omega arith in
     let y : p + 0 ≡ p = omega arith in
-    rw z (ap F.End (sym y) ∙ sym (bytes_end s p 0 (omega arith)))
+    rw z (ap Ok (sym y) ∙ sym (bytes_end s p 0 (omega arith)))
 numbers_each τ s c (suc n) p h i = go (dec_lt (length s) (p + size_of c)) (numbers_each τ s c n (p + size_of c) h)
   where
     go : Dec (length s < p + size_of c) → (p + size_of c ≤ length s → times (value_at τ.setting s c) n (p + size_of c) ≡ bytes_at s (p + size_of c) (size_of c * n))
@@ -54,16 +53,16 @@ items_each τ s c n p i = go (eqb (size_of c) 0) refl
 
 -- ---- what is written is read
 
-each_there : (τ : Terms) (s : List ℕ) (c : PrimitiveCode) (n : ℕ) (vs : List Prefixed) (p e : ℕ) → Values τ c n vs → Stand s (items_bytes vs) p e → times (value_at τ.setting s c) n p ≡ F.End e
+each_there : (τ : Terms) (s : List ℕ) (c : PrimitiveCode) (n : ℕ) (vs : List Prefixed) (p e : ℕ) → Values τ c n vs → Stand s (items_bytes vs) p e → times (value_at τ.setting s c) n p ≡ Ok e
 unfolding times
 each_there τ s c n vs p e none w =
     let k = stand_size w in
-    ap F.End (omega arith)
+    ap Ok (omega arith)
 each_there τ s c n vs p e (more {n = k} {v = v} {vs = us} g gs) w =
     let x = stand_split (bytes_in v) (items_bytes us) w in
     rw (value_there τ s c v p x.0 g x.1) (each_there τ s c k us x.0 e gs x.2)
 
-pub items_there : (τ : Terms) (s : List ℕ) (c : PrimitiveCode) (n : ℕ) (vs : List Prefixed) (p e : ℕ) → Values τ c n vs → Stand s (items_bytes vs) p e → items_at τ.setting s c n p ≡ F.End e
+pub items_there : (τ : Terms) (s : List ℕ) (c : PrimitiveCode) (n : ℕ) (vs : List Prefixed) (p e : ℕ) → Values τ c n vs → Stand s (items_bytes vs) p e → items_at τ.setting s c n p ≡ Ok e
 items_there τ s c n vs p e g w = items_each τ s c n p (omega (arith, w.onward, w.room)) ∙ each_there τ s c n vs p e g w
 
 -- ---- what is read is written so
@@ -79,7 +78,7 @@ unfolding items_in items_from
 items_from_lem s c zero p = refl
 items_from_lem s c (suc n) p = ap (λ (ts : List (List ℕ)). content_from s c p ∷ ts) (items_from_lem s c n (value_span s c p).to)
 
-each_back : (τ : Terms) (s : List ℕ) (c : PrimitiveCode) (n p e : ℕ) → Bytes s → p ≤ length s → times (value_at τ.setting s c) n p ≡ F.End e
+each_back : (τ : Terms) (s : List ℕ) (c : PrimitiveCode) (n p e : ℕ) → Bytes s → p ≤ length s → times (value_at τ.setting s c) n p ≡ Ok e
     → Values τ c n (items_in s c n p) × Stand s (items_bytes (items_in s c n p)) p e
 unfolding times items_in
 each_back τ s c zero p e b h q =
@@ -93,7 +92,7 @@ each_back τ s c (suc n) p e b h q =
     subst (λ (m : ℕ). Values τ c (suc n) (value_in s c p ∷ items_in s c n m) × Stand s (items_bytes (value_in s c p ∷ items_in s c n m)) p e) (sym v.2)
     (more v.0 y.0, stand_then v.1 y.1)
 
-pub items_back : (τ : Terms) (s : List ℕ) (c : PrimitiveCode) (n p e : ℕ) → Bytes s → p ≤ length s → items_at τ.setting s c n p ≡ F.End e
+pub items_back : (τ : Terms) (s : List ℕ) (c : PrimitiveCode) (n p e : ℕ) → Bytes s → p ≤ length s → items_at τ.setting s c n p ≡ Ok e
     → Values τ c n (items_in s c n p) × Stand s (items_bytes (items_in s c n p)) p e
 items_back τ s c n p e b h q = each_back τ s c n p e b h (sym (items_each τ s c n p h) ∙ q)
 

@@ -1,7 +1,7 @@
 -- The lengths of an array at a place, with their exact product, and its rank (01, Records, BinaryArray): those that the grammar takes are
 -- those that end, and read at a place they are those written there.
 use Prim.Native.Nat.{ℕ, zero, suc, ◌+◌, ◌*◌, ◌≤◌}
-use Rattle.std.specs.Prelude.{◌≡◌, Bool, leb}
+use Rattle.std.specs.Prelude.{◌≡◌, Bool, leb, Option, Some, None, Ok, Err, Result}
 use Rattle.std.proofs.Math.Path.{refl}
 use Rattle.std.proofs.Common.{sym, ◌∙◌, subst, le-leb, leb-true, eqb-true}
 use Rattle.std.proofs.Math.Bool.{true, false}
@@ -11,9 +11,6 @@ use Rattle.std.proofs.Math.Nat.{mul_assoc}
 use Rattle.std.proofs.Math.ListN.{length}
 use Rattle.format.specs.declared.Refusal.{Refusal}
 use Rattle.format.specs.declared.Refusal.TheVariants as R
-use Rattle.format.specs.declared.Number32.{Number32}
-use Rattle.format.specs.declared.Number32.TheVariants as N32
-use Rattle.format.specs.declared.Slots.TheVariants as L
 use Rattle.format.specs.Bytes.{pick}
 use Rattle.format.specs.Numbers.{le_bytes, u32_at, negative}
 use Rattle.format.specs.Records.{good_rank, on_length, lengths_at}
@@ -21,6 +18,7 @@ use Rattle.format.specs.Contents.{numbers_bytes}
 use Rattle.format.specs.Says.{number_from, numbers_from}
 use Rattle.format.specs.Grammar.{product, Lengths, no_length, length_of_rule, Ranked, single, jagged, rectangular}
 use Rattle.fields.specs.Judged.{told}
+use Rattle.fields.specs.Pairs.{ok_pair}
 use Rattle.num.specs.Le.{Bytes}
 use Rattle.laws.specs.Tests.{both_of}
 use Rattle.places.specs.Stand.{Stand, stand_size, stand_none, stand_then, stand_split}
@@ -48,13 +46,13 @@ ranked_small type rank (rectangular h g) = (omega arith, g)
 
 -- ---- lengths
 
-no_product : {A : Type 0} (f : Refusal) (m e : ℕ) → L.Fault f ≡ L.Product m e → A
+no_product : {A : Type 0} (f : Refusal) (m e : ℕ) → ◌≡◌ {A = Result (ℕ × ℕ) Refusal} (Err f) (Ok (m, e)) → A
 no_product f m e q = absurd (let z : ◌≡◌ {A = ℕ} 0 1 = cc in omega arith)
 
 module _ (s : List ℕ) where
   -- over the product k of the lengths before
   pub lengths_there : (ns : List ℕ) (k p e : ℕ) → Lengths ns → k * product ns ≤ 2147483647 → Stand s (numbers_bytes ns) p e
-      → lengths_at s (length ns) k p ≡ L.Product (k * product ns) e
+      → lengths_at s (length ns) k p ≡ Ok (k * product ns, e)
   unfolding lengths_at
   lengths_there ns k p e no_length h w =
       let z = stand_size w in
@@ -73,26 +71,26 @@ module _ (s : List ℕ) where
     pub small : m ≤ 2147483647
     pub stands : Stand s (numbers_bytes ns) p e
 
-  pub lengths_back : (n k m p e : ℕ) → Bytes s → p ≤ length s → lengths_at s n k p ≡ L.Product m e → LengthsAt (numbers_from s n p) k m p e
+  pub lengths_back : (n k m p e : ℕ) → Bytes s → p ≤ length s → lengths_at s n k p ≡ Ok (m, e) → LengthsAt (numbers_from s n p) k m p e
   unfolding lengths_at numbers_from
   lengths_back zero k m p e b h q =
-      let w = told (leb k 2147483647) (L.Product k p) (L.Fault R.BadCount) (L.Product m e) q (no_product R.BadCount m e) in
+      let w = told (leb k 2147483647) (Ok (k, p)) (Err R.BadCount) (Ok (m, e)) q (no_product R.BadCount m e) in
       last (leb-true k 2147483647 w.0) w.1
     where
-      last : k ≤ 2147483647 → L.Product k p ≡ L.Product m e → LengthsAt [] k m p e
+      last : k ≤ 2147483647 → ◌≡◌ {A = Result (ℕ × ℕ) Refusal} (Ok (k, p)) (Ok (m, e)) → LengthsAt [] k m p e
       last g q =
-          let x : k ≡ m = cc in
-          let y : p ≡ e = cc in
+          let x : k ≡ m = (ok_pair q).0 in
+          let y : p ≡ e = (ok_pair q).1 in
           record { good = no_length; exactly = omega arith; small = omega arith; stands = rw (← y) (stand_none h) }
   lengths_back (suc n) k m p e b h q = go (u32_at s p) refl q (λ v x. lengths_back n (k * v) m x e b)
     where
-      go : (r : Number32) → u32_at s p ≡ r → on_length (λ v x. lengths_at s n (k * v) x) r ≡ L.Product m e
-          → ((v x : ℕ) → x ≤ length s → lengths_at s n (k * v) x ≡ L.Product m e → LengthsAt (numbers_from s n x) (k * v) m x e)
+      go : (r : Option (ℕ × ℕ)) → u32_at s p ≡ r → on_length (λ v x. lengths_at s n (k * v) x) r ≡ Ok (m, e)
+          → ((v x : ℕ) → x ≤ length s → lengths_at s n (k * v) x ≡ Ok (m, e) → LengthsAt (numbers_from s n x) (k * v) m x e)
           → LengthsAt (number_from s p ∷ numbers_from s n (p + 4)) k m p e
-      go N32.Short r q again = no_product R.CutShort m e q
-      go (N32.Value v x) r q again = judge (negative v) refl q
+      go None r q again = no_product R.CutShort m e q
+      go (Some (v, x)) r q again = judge (negative v) refl q
         where
-          judge : (t : Bool) → negative v ≡ t → pick t (L.Fault R.BadCount) (lengths_at s n (k * v) x) ≡ L.Product m e
+          judge : (t : Bool) → negative v ≡ t → pick t (Err R.BadCount) (lengths_at s n (k * v) x) ≡ Ok (m, e)
               → LengthsAt (number_from s p ∷ numbers_from s n (p + 4)) k m p e
           judge true t q = no_product R.BadCount m e q
           judge false t q =

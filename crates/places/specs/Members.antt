@@ -1,7 +1,7 @@
 -- The members of a class at their places (01, Records): all names, then all type bytes, then the details. Members that the grammar takes are
 -- those that end, read at a place they are those written there, and the types that an open object sees are those of the members.
 use Prim.Native.Nat.{ℕ, zero, suc, ◌+◌, ◌≤◌, ◌<◌}
-use Rattle.std.specs.Prelude.{◌≡◌}
+use Rattle.std.specs.Prelude.{◌≡◌, Ok}
 use Rattle.std.proofs.Math.Path.{refl, ap, subst}
 use Rattle.std.proofs.Common.{sym, arith}
 use mathlib.Core.List.{List, [], ◌∷◌}
@@ -9,7 +9,6 @@ use Rattle.std.proofs.Math.ListN.{length, get_or}
 use borrow.Author.Tests.{lt-ltb}
 use Rattle.format.specs.Terms.{Terms}
 use Rattle.format.specs.declared.SlotType.{SlotType}
-use Rattle.format.specs.declared.Field.TheVariants as F
 use Rattle.format.specs.declared.Row.{Row}
 use Rattle.format.specs.Values.{times}
 use Rattle.format.specs.Types.{type_byte_at, name_at, typed_at, after_text, after_info}
@@ -51,7 +50,7 @@ module _ (τ : Terms) (s : List ℕ) (rows : List Row) where
   -- ---- what ends is written so
 
   pub members_back : (n names types infos a b c : ℕ) → Bytes s → names ≤ length s → types ≤ length s → infos ≤ length s
-      → times (name_at τ.setting s) n names ≡ F.End a → times (type_byte_at s) n types ≡ F.End b → infos_at τ.setting s rows n types infos ≡ F.End c
+      → times (name_at τ.setting s) n names ≡ Ok a → times (type_byte_at s) n types ≡ Ok b → infos_at τ.setting s rows n types infos ≡ Ok c
       → MembersAt τ (env_of τ.book s rows) s (members_in s n names types infos) names types infos a b c
   unfolding times infos_at members_in
   members_back zero names types infos a b c byte h i j q r u =
@@ -69,7 +68,7 @@ module _ (τ : Terms) (s : List ℕ) (rows : List Row) where
       step x.0 z.0 x.1 z.1 t.0 t.1
       (members_back n x.0 (types + 1) z.0 a b c byte v.1 (omega arith) w.1 x.2 (rw t.2 at y.2) z.2)
     where
-      step : (m k : ℕ) → name_at τ.setting s names ≡ F.End m → info_known τ.setting s rows (get_or s types 0) infos ≡ F.End k → get_or s types 0 ≤ 7 → types < length s
+      step : (m k : ℕ) → name_at τ.setting s names ≡ Ok m → info_known τ.setting s rows (get_or s types 0) infos ≡ Ok k → get_or s types 0 ≤ 7 → types < length s
           → MembersAt τ (env_of τ.book s rows) s (members_in s n m (types + 1) k) m (types + 1) k a b c
           → MembersAt τ (env_of τ.book s rows) s (members_in s (suc n) names types infos) names types infos a b c
       step m k q u g l more =
@@ -91,9 +90,9 @@ module _ (τ : Terms) (s : List ℕ) (rows : List Row) where
 
   -- where good members end, and that they are those read at these places
   pub record MembersEnd (ms : List (Member Prefixed ℕ)) (names types infos a b c : ℕ) : Type 0 where
-    pub names_end : times (name_at τ.setting s) (length ms) names ≡ F.End a
-    pub types_end : times (type_byte_at s) (length ms) types ≡ F.End b
-    pub infos_end : infos_at τ.setting s rows (length ms) types infos ≡ F.End c
+    pub names_end : times (name_at τ.setting s) (length ms) names ≡ Ok a
+    pub types_end : times (type_byte_at s) (length ms) types ≡ Ok b
+    pub infos_end : infos_at τ.setting s rows (length ms) types infos ≡ Ok c
     pub same : members_in s (length ms) names types infos ≡ ms
 
   pub members_there : (ms : List (Member Prefixed ℕ)) (names types infos a b c : ℕ) → Members τ (env_of τ.book s rows) ms
@@ -104,7 +103,7 @@ module _ (τ : Terms) (s : List ℕ) (rows : List Row) where
       let i = stand_size x in
       let j = stand_size y in
       let k = stand_size z in
-      record { names_end = ap F.End (omega arith); types_end = ap F.End (omega arith); infos_end = ap F.End (omega arith); same = refl }
+      record { names_end = ap Ok (omega arith); types_end = ap Ok (omega arith); infos_end = ap Ok (omega arith); same = refl }
   members_there ms names types infos a b c (member {m = m} {ms = rest} g d more) x y z =
       let u = stand_split (bytes_in m.name) (names_bytes rest) x in
       let w = stand_split (info_bytes m.type) (infos_bytes rest) z in
@@ -117,7 +116,7 @@ module _ (τ : Terms) (s : List ℕ) (rows : List Row) where
           let n = name_there τ s m.name names i g u in
           let q = detail_there τ s rows infos k m.type d w in
           let a = info_after τ.setting s (type_byte m.type) infos k (info_plain τ.setting s rows (type_byte m.type) infos k q) in
-          let t : type_byte_at s types ≡ F.End (types + 1) = type_end s types (stand_inside y) (rw f (byte_small m.type)) in
+          let t : type_byte_at s types ≡ Ok (types + 1) = type_end s types (stand_inside y) (rw f (byte_small m.type)) in
           record {
             names_end = rw n ends.names_end;
             types_end = rw t ends.types_end;
@@ -127,8 +126,8 @@ module _ (τ : Terms) (s : List ℕ) (rows : List Row) where
 
   -- ---- the types of an object's slots
 
-  pub slots_are : (n names types infos b c : ℕ) → 0 < types → 0 < infos → infos ≤ length s → times (type_byte_at s) n types ≡ F.End b
-      → infos_at τ.setting s rows n types infos ≡ F.End c
+  pub slots_are : (n names types infos b c : ℕ) → 0 < types → 0 < infos → infos ≤ length s → times (type_byte_at s) n types ≡ Ok b
+      → infos_at τ.setting s rows n types infos ≡ Ok c
       → slots_from τ.book s (typed_at s types infos) n ≡ types_of (members_in s n names types infos)
   unfolding times infos_at members_in slots_from typed_at
   slots_are zero names types infos b c h o j q r = refl
@@ -139,7 +138,7 @@ module _ (τ : Terms) (s : List ℕ) (rows : List Row) where
       let w = info_known_moves τ.setting s rows (get_or s types 0) infos z.0 j z.1 in
       step z.0 z.1 t.0 t.1 (slots_are n (after_text s names) (types + 1) z.0 b c (omega arith) (omega arith) w.1 (rw t.2 at y.2) z.2)
     where
-      step : (k : ℕ) → info_known τ.setting s rows (get_or s types 0) infos ≡ F.End k → get_or s types 0 ≤ 7 → types < length s
+      step : (k : ℕ) → info_known τ.setting s rows (get_or s types 0) infos ≡ Ok k → get_or s types 0 ≤ 7 → types < length s
           → slots_from τ.book s (typed_at s (types + 1) k) n ≡ types_of (members_in s n (after_text s names) (types + 1) k)
           → slots_from τ.book s (typed_at s types infos) (suc n) ≡ types_of (members_in s (suc n) names types infos)
       step k u g l more =

@@ -1,9 +1,8 @@
 -- Every record that the grammar takes is read, whatever its kind (01, Records): its fields are good, and say what the record has.
-use Rattle.std.specs.Prelude.{ℕ, ◌≡◌, List}
+use Rattle.std.specs.Prelude.{ℕ, ◌≡◌, List, Ok}
 use Rattle.format.specs.Terms.{Terms}
 use Rattle.format.specs.declared.PrimitiveCode.{PrimitiveCode}
 use Rattle.format.specs.declared.SlotType.{SlotType}
-use Rattle.format.specs.declared.Field.TheVariants as F
 use Rattle.format.specs.declared.Row.{Row}
 use Rattle.format.specs.Values.{value_at}
 use Rattle.format.specs.Contents.{Prefixed, Rec, value, enc}
@@ -35,6 +34,6 @@ module _ (τ : Terms) (s : List ℕ) (rows : List Row) (at e : ℕ) where
 
 -- ---- member values
 
-pub member_read : (τ : Terms) (s : List ℕ) (c : PrimitiveCode) (v : Prefixed) (at e : ℕ) → Value τ c v → Stand s (enc (value c v)) at e → value_at τ.setting s c at ≡ F.End e
+pub member_read : (τ : Terms) (s : List ℕ) (c : PrimitiveCode) (v : Prefixed) (at e : ℕ) → Value τ c v → Stand s (enc (value c v)) at e → value_at τ.setting s c at ≡ Ok e
 unfolding enc
 member_read τ s c v at e g w = value_there τ s c v at e g w

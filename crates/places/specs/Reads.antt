@@ -1,10 +1,9 @@
 -- Records without slots that the grammar takes are read (01, Records): their fields are good, and say what the record has.
-use Rattle.std.specs.Prelude.{ℕ, ◌+◌, ◌<◌, ◌≡◌, false, List, [], ◌∷◌, ◌++◌, length}
+use Rattle.std.specs.Prelude.{ℕ, ◌+◌, ◌<◌, ◌≡◌, false, List, [], ◌∷◌, ◌++◌, length, Ok}
 use Rattle.std.proofs.Math.Path.{refl}
 use Rattle.std.proofs.Common.{arith, lt-ltb}
 use Rattle.format.specs.Terms.{Terms}
 use Rattle.format.specs.declared.PrimitiveCode.{PrimitiveCode}
-use Rattle.format.specs.declared.Heading.TheVariants as H
 use Rattle.format.specs.declared.Row.{Row}
 use Rattle.format.specs.Numbers.{le_bytes}
 use Rattle.format.specs.Types.{code_number}
@@ -24,7 +23,7 @@ module _ (τ : Terms) (s : List ℕ) (rows : List Row) (at e : ℕ) where
   -- a record whose bytes begin with its kind
   pub plain_there : (k : ℕ) (r : Rec) (b : List ℕ) (id count : ℕ) → enc r ≡ k ∷ b → Stand s (enc r) at e → is_class k ≡ false
       → ((row offset next owner slot : ℕ) → entry_of τ.book s row (row_with k (plain_head id e count) offset next owner slot) ≡ entry_for row r)
-      → heading_at τ s rows k at ≡ H.Fields (plain_head id e count) → There τ s rows k at r id count 0 []
+      → heading_at τ s rows k at ≡ Ok (plain_head id e count) → There τ s rows k at r id count 0 []
   plain_there k r b id count z w c f q =
       let v : Stand s (k ∷ b) at e = rw z at w in
       record { head = plain_head id e count; taken = q; told = plain_told τ.book s k at r id e count w (stand_inside v) (stand_here v) c f }

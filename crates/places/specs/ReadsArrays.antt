@@ -1,5 +1,5 @@
 -- Array records that the grammar takes are read (01, Records, kinds 7, 15, 16 and 17): their fields are good, and say what the record has.
-use Rattle.std.specs.Prelude.{ℕ, ◌+◌, ◌*◌, ◌<◌, ◌≡◌, true, false, length, replicate}
+use Rattle.std.specs.Prelude.{ℕ, ◌+◌, ◌*◌, ◌<◌, ◌≡◌, true, false, length, replicate, Ok}
 use Rattle.std.proofs.Math.Path.{refl, ap}
 use Rattle.std.proofs.Common.{sym, ◌∙◌, subst, arith}
 use mathlib.Core.List.{List, [], ◌∷◌, ◌++◌}
@@ -10,9 +10,6 @@ use Rattle.format.specs.Terms.{Terms}
 use Rattle.format.specs.declared.PrimitiveCode.{PrimitiveCode}
 use Rattle.format.specs.declared.SlotType.{SlotType}
 use Rattle.format.specs.declared.SlotType.TheVariants as S
-use Rattle.format.specs.declared.Field.TheVariants as F
-use Rattle.format.specs.declared.Slots.TheVariants as L
-use Rattle.format.specs.declared.Heading.TheVariants as H
 use Rattle.format.specs.declared.Row.{Row}
 use Rattle.format.specs.Numbers.{le_bytes}
 use Rattle.format.specs.Types.{code_number, type_byte_at, slot_of, typed_at}
@@ -35,7 +32,7 @@ module _ (τ : Terms) (s : List ℕ) (rows : List Row) (at e : ℕ) where
   -- slots alike, which records fill
   slotted_there : (k : ℕ) (r : Rec) (b : List ℕ) (id n : ℕ) (t : SlotType) (infos : ℕ) → enc r ≡ k ∷ b → Stand s (enc r) at e → is_class k ≡ false
       → ((row offset next owner slot : ℕ) → entry_of τ.book s row (row_with k (slotted_head τ.book s id e n t infos) offset next owner slot) ≡ entry_for row r)
-      → heading_at τ s rows k at ≡ H.Fields (slotted_head τ.book s id e n t infos) → There τ s rows k at r id n 0 (replicate n t)
+      → heading_at τ s rows k at ≡ Ok (slotted_head τ.book s id e n t infos) → There τ s rows k at r id n 0 (replicate n t)
   slotted_there k r b id n t infos z w c f q =
       let v : Stand s (k ∷ b) at e = rw z at w in
       record { head = slotted_head τ.book s id e n t infos; taken = q; told = slotted_told τ.book s k at r id e n t infos w (stand_inside v) (stand_here v) c f }
@@ -93,7 +90,7 @@ module _ (τ : Terms) (s : List ℕ) (rows : List Row) (at e : ℕ) where
   type_there id n types infos x d g v w =
       let k : infos ≡ types + 1 = stand_size v in
       let f : get_or s types 0 ≡ type_byte d = stand_here v in
-      let t : type_byte_at s types ≡ F.End infos = rw k (type_end s types (stand_inside v) (rw f (byte_small d))) in
+      let t : type_byte_at s types ≡ Ok infos = rw k (type_end s types (stand_inside v) (rw f (byte_small d))) in
       let y : slot_of (type_byte d) (get_or s infos 0) ≡ slot_for d =
       detail_slot τ s infos (type_byte d) (byte_small d) ∙ ap slot_for (detail_in_lem τ s rows infos x d g w) in
       rw (t, f, detail_there τ s rows infos x d g w, y)
@@ -117,7 +114,7 @@ module _ (τ : Terms) (s : List ℕ) (rows : List Row) (at e : ℕ) where
       let k = stand_split (info_bytes d) (items_bytes vs) f.2 in
       let r = ranked_small type (length ns) h.ranked in
       let one : 1 * product ns ≡ product ns = one-mul (product ns) in
-      let l : lengths_at s (length ns) 1 b.0 ≡ L.Product (product ns) c.0 =
+      let l : lengths_at s (length ns) 1 b.0 ≡ Ok (product ns, c.0) =
       rw one at (lengths_there s ns 1 b.0 c.0 h.lengths (rw one h.small) c.1) in
       record {
         infos = f.0;
@@ -136,7 +133,7 @@ module _ (τ : Terms) (s : List ℕ) (rows : List Row) (at e : ℕ) where
         stands = k.2;
       }
 
-  items_slotted : (id n infos x : ℕ) (t : SlotType) → takes_records t ≡ true → items_of τ.setting s id n infos x t ≡ H.Fields (slotted_head τ.book s id x n t infos)
+  items_slotted : (id n infos x : ℕ) (t : SlotType) → takes_records t ≡ true → items_of τ.setting s id n infos x t ≡ Ok (slotted_head τ.book s id x n t infos)
   items_slotted id n infos x (S.Primitive c) f = absurd (let z : ◌≡◌ {A = ℕ} 0 1 = cc in omega arith)
   items_slotted id n infos x S.Text f = refl
   items_slotted id n infos x S.Object f = refl
@@ -154,7 +151,7 @@ module _ (τ : Terms) (s : List ℕ) (rows : List Row) (at e : ℕ) where
       let b = begun i type ns d [] o h g w in
       let k : e ≡ b.items = stand_size b.stands ∙ add-zero b.items in
       slotted_there 7 (array i type ns d []) _ i (product ns) (slot_for d) b.infos refl w refl (λ row offset next owner slot. refl)
-      (b.taken ∙ (items_slotted i (product ns) b.infos b.items (slot_for d) f ∙ ap (λ (x : ℕ). H.Fields (slotted_head τ.book s i x (product ns) (slot_for d) b.infos)) (sym k)))
+      (b.taken ∙ (items_slotted i (product ns) b.infos b.items (slot_for d) f ∙ ap (λ (x : ℕ). Ok (slotted_head τ.book s i x (product ns) (slot_for d) b.infos)) (sym k)))
 
   value_array_there : (i type : ℕ) (ns : List ℕ) (c : PrimitiveCode) (vs : List Prefixed) → ObjectId i (env_of τ.book s rows) → Shape type ns
       → Values τ c (product ns) vs → Stand s (enc (array i type ns (primitive c) vs)) at e

@@ -1,12 +1,10 @@
 -- Class records that the grammar takes are read (01, Records, kinds 1, 4 and 5): their fields are good, and say what the record has.
-use Rattle.std.specs.Prelude.{ℕ, ◌+◌, ◌-◌, ◌<◌, ◌≡◌, Bool, length, get_or}
+use Rattle.std.specs.Prelude.{ℕ, ◌+◌, ◌-◌, ◌<◌, ◌≡◌, Bool, length, get_or, Ok}
 use Rattle.std.proofs.Math.Path.{refl, ap, subst}
 use Rattle.std.proofs.Math.Bool.{true, false}
 use mathlib.Core.List.{List, [], ◌∷◌, ◌++◌}
 use Rattle.format.specs.Terms.{Terms}
 use Rattle.format.specs.declared.SlotType.{SlotType}
-use Rattle.format.specs.declared.Field.TheVariants as F
-use Rattle.format.specs.declared.Heading.TheVariants as H
 use Rattle.format.specs.declared.Row.{Row}
 use Rattle.format.specs.Numbers.{le_bytes}
 use Rattle.format.specs.Rows.{blank, class_row}
@@ -23,8 +21,8 @@ use Rattle.places.specs.Recs.{There, class_head, class_head_told, by_id_head, by
 
 module _ (τ : Terms) (s : List ℕ) (rows : List Row) (at e : ℕ) where
   -- the fields after the ObjectId of a class record, of either kind
-  named_there : (own : Bool) (id p x : ℕ) (n : Prefixed) (ms : List (Member Prefixed ℕ)) (c : ClassEnds τ s rows n ms p x) → after_infos own s rows x ≡ F.End e
-      → named_class_at τ.setting s rows own id p ≡ H.Fields (class_head τ.book s id (length ms) c.types_at_holds c.infos_at_holds e)
+  named_there : (own : Bool) (id p x : ℕ) (n : Prefixed) (ms : List (Member Prefixed ℕ)) (c : ClassEnds τ s rows n ms p x) → after_infos own s rows x ≡ Ok e
+      → named_class_at τ.setting s rows own id p ≡ Ok (class_head τ.book s id (length ms) c.types_at_holds c.infos_at_holds e)
   unfolding named_class_at members_at
   named_there own id p x n ms c f = rw (c.name_end, c.count_is, c.fits, c.names_end, c.types_end, c.infos_end, f)
 

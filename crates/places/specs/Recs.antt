@@ -1,5 +1,5 @@
 -- A record as the grammar has it (01, Records), of any kind, and what its fields say of it at a place: the same statement for every kind.
-use Rattle.std.specs.Prelude.{ℕ, zero, suc, ◌+◌, ◌<◌, ◌≡◌, refl, true, false, List, [], ◌∷◌, ◌++◌, length, get_or, replicate}
+use Rattle.std.specs.Prelude.{ℕ, zero, suc, ◌+◌, ◌<◌, ◌≡◌, refl, true, false, List, [], ◌∷◌, ◌++◌, length, get_or, replicate, Ok}
 use Rattle.std.proofs.Common.{sym, ap, ◌∙◌}
 use Rattle.format.specs.Terms.{Terms}
 use Rattle.format.specs.declared.PrimitiveCode.{PrimitiveCode}
@@ -7,7 +7,6 @@ use Rattle.format.specs.declared.SlotType.{SlotType}
 use Rattle.format.specs.declared.SlotType.TheVariants as S
 use Rattle.format.specs.declared.Typed.{Typed}
 use Rattle.format.specs.declared.Head.{Head}
-use Rattle.format.specs.declared.Heading.TheVariants as H
 use Rattle.format.specs.declared.Row.{Row}
 use Rattle.format.specs.Bytes.{pick}
 use Rattle.format.specs.Types.{typed_at, alike, moved}
@@ -112,7 +111,7 @@ pub record Back (τ : Terms) (s : List ℕ) (rows : List Row) (k at : ℕ) (h : 
 -- the fields that tell of a good record
 pub record There (τ : Terms) (s : List ℕ) (rows : List Row) (k at : ℕ) (r : Rec) (id count class : ℕ) (ts : List SlotType) : Type 0 where
   pub head : Head
-  pub taken : heading_at τ s rows k at ≡ H.Fields head
+  pub taken : heading_at τ s rows k at ≡ Ok head
   pub told : Told τ.book s k at head r id count class ts
 
 -- ---- slots

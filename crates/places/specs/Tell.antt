@@ -1,16 +1,13 @@
 -- What good fields tell of, whatever the kind (01, Records): a record that the grammar takes stands at the place.
-use Rattle.std.specs.Prelude.{ℕ, ◌-◌, ◌≤◌, ◌<◌, ◌≡◌, refl, Bool, true, false, ◌||◌, List, length, get_or, leb, eqb}
+use Rattle.std.specs.Prelude.{ℕ, ◌-◌, ◌≤◌, ◌<◌, ◌≡◌, refl, Bool, true, false, ◌||◌, List, length, get_or, leb, eqb, Result, Ok}
+use Rattle.format.specs.declared.Refusal.{Refusal}
 use Rattle.std.proofs.Common.{sym, ◌∙◌, subst, arith, leb-true, eqb-true}
 use Rattle.std.proofs.lemmas.Bool.{eqb-false}
 use Rattle.format.specs.Terms.{Terms}
 use Rattle.format.specs.declared.PrimitiveCode.{PrimitiveCode}
 use Rattle.format.specs.declared.SlotType.TheVariants as S
-use Rattle.format.specs.declared.Field.TheVariants as F
 use Rattle.format.specs.declared.Where.{Where}
-use Rattle.format.specs.declared.Kind.TheVariants as K
 use Rattle.format.specs.declared.Head.{Head}
-use Rattle.format.specs.declared.Heading.{Heading}
-use Rattle.format.specs.declared.Heading.TheVariants as H
 use Rattle.format.specs.declared.Row.{Row}
 use Rattle.format.specs.Bytes.{pick}
 use Rattle.format.specs.Values.{value_at}
@@ -41,11 +38,11 @@ kinds_taken k known free = go (leb k 17) (eqb k 2) (eqb k 3) (eqb k 21) (eqb k 2
 
 module _ (τ : Terms) (s : List ℕ) (rows : List Row) (at k : ℕ) (byte : Bytes s) (i : at < length s) (g : get_or s at 0 ≡ k) where
   -- the kind is n
-  is : (n : ℕ) (r : Heading) → (get_or s at 0 ≡ n → Said (Back τ s rows n at) r) → k ≡ n → Said (Back τ s rows k at) r
+  is : (n : ℕ) (r : Result Head Refusal) → (get_or s at 0 ≡ n → Said (Back τ s rows n at) r) → k ≡ n → Said (Back τ s rows k at) r
   is n r f e = subst (λ (x : ℕ). Said (Back τ s rows x at) r) (sym e) (f (g ∙ e))
 
   -- the kind is n, or a later one
-  or : (n : ℕ) (a b : Heading) → n ≤ k → (get_or s at 0 ≡ n → Said (Back τ s rows n at) a) → (n < k → Said (Back τ s rows k at) b) → Said (Back τ s rows k at) (pick (eqb k n) a b)
+  or : (n : ℕ) (a b : Result Head Refusal) → n ≤ k → (get_or s at 0 ≡ n → Said (Back τ s rows n at) a) → (n < k → Said (Back τ s rows k at) b) → Said (Back τ s rows k at) (pick (eqb k n) a b)
   or n a b l f h =
       said_if (Back τ s rows k at) (eqb k n) a b (λ t. is n a f (eqb-true k n t)) (λ t.
       let e = eqb-false k n t in
@@ -72,19 +69,19 @@ module _ (τ : Terms) (s : List ℕ) (rows : List Row) (at k : ℕ) (byte : Byte
       or 16 _ _ l (object_array_back τ s rows at byte i) (λ l.
       is 17 (slot_array_at s rows S.Text at) (string_array_back τ s rows at byte i) (omega arith))))))))))))))))
 
-  pub fields_tell : (h : Head) → is_kind k ≡ true → not_taken k ≡ false → heading_at τ s rows k at ≡ H.Fields h → Back τ s rows k at h
+  pub fields_tell : (h : Head) → is_kind k ≡ true → not_taken k ≡ false → heading_at τ s rows k at ≡ Ok h → Back τ s rows k at h
   fields_tell h known free e = subst (Said (Back τ s rows k at)) e (heading_said known free)
 
 -- a record of a kind that is taken where it stands
-pub record_told : (τ : Terms) (s : List ℕ) (rows : List Row) (w : Where) (at k : ℕ) (h : Head) → Bytes s → kind_at s w at ≡ K.Taken k
-    → heading_at τ s rows k at ≡ H.Fields h → Back τ s rows k at h
+pub record_told : (τ : Terms) (s : List ℕ) (rows : List Row) (w : Where) (at k : ℕ) (h : Head) → Bytes s → kind_at s w at ≡ Ok k
+    → heading_at τ s rows k at ≡ Ok h → Back τ s rows k at h
 record_told τ s rows w at k h byte q e =
     let b = kind_byte s w at k q in
     fields_tell τ s rows at k byte (kind_within s w at k q) (sym b.byte) h b.known b.free e
 
 -- ---- member values
 
-pub member_told : (τ : Terms) (s : List ℕ) (c : PrimitiveCode) (at e : ℕ) → Bytes s → value_at τ.setting s c at ≡ F.End e
+pub member_told : (τ : Terms) (s : List ℕ) (c : PrimitiveCode) (at e : ℕ) → Bytes s → value_at τ.setting s c at ≡ Ok e
     → Value τ c (value_in s c at) × Stand s (enc (value c (value_in s c at))) at e
 unfolding enc
 member_told τ s c at e byte q = let w = value_back τ s c at e byte q in (w.0, w.1)

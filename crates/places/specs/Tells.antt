@@ -1,20 +1,13 @@
 -- What good fields tell of (01, Records): for each kind, the record that stands at the place is one that the grammar takes, its contents read
 -- from the stream.
-use Rattle.std.specs.Prelude.{ℕ, ◌+◌, ◌-◌, ◌<◌, ◌≡◌, Bool, true, false, ◌&&◌, List, [], ◌∷◌, length, get_or, ltb}
+use Rattle.std.specs.Prelude.{ℕ, ◌+◌, ◌-◌, ◌<◌, ◌≡◌, Bool, true, false, ◌&&◌, List, [], ◌∷◌, length, get_or, ltb, Option, Some, None, Result, Ok, Err}
+use Rattle.format.specs.declared.Refusal.{Refusal}
 use Rattle.std.proofs.Math.Path.{refl}
 use native.Mathlib.Omega.{arith}
 use Rattle.std.proofs.Math.Dec.{eqb}
 use Rattle.std.proofs.Common.{ltb-true, eqb-true}
 use Rattle.format.specs.Terms.{Terms}
-use Rattle.format.specs.declared.Number32.{Number32}
-use Rattle.format.specs.declared.Number32.TheVariants as N32
-use Rattle.format.specs.declared.Field.{Field}
-use Rattle.format.specs.declared.Field.TheVariants as F
-use Rattle.format.specs.declared.Slots.{Slots}
-use Rattle.format.specs.declared.Slots.TheVariants as L
 use Rattle.format.specs.declared.Head.{Head}
-use Rattle.format.specs.declared.Heading.{Heading}
-use Rattle.format.specs.declared.Heading.TheVariants as H
 use Rattle.format.specs.declared.Row.{Row}
 use Rattle.format.specs.Bytes.{pick}
 use Rattle.format.specs.Numbers.{le_bytes, u32_at}
@@ -35,25 +28,25 @@ use Rattle.places.specs.Recs.{Good, is_header, is_string, is_typed_primitive, is
 
 -- ---- a statement about good fields, through numbers, fields and lengths
 
-abbrev pub Said : (Head → Type 0) → Heading → Type 0
-Said P (H.Fields h) = P h
-Said P (H.Bad f) = Unit {0}
+abbrev pub Said : (Head → Type 0) → Result Head Refusal → Type 0
+Said P (Ok h) = P h
+Said P (Err f) = Unit {0}
 
 module _ (P : Head → Type 0) where
-  pub said_number : (k : ℕ → ℕ → Heading) (r : Number32) → ((v e : ℕ) → r ≡ N32.Value v e → Said P (k v e)) → Said P (on_number k r)
-  said_number k (N32.Value v e) f = f v e refl
-  said_number k N32.Short f = tt
+  pub said_number : (k : ℕ → ℕ → Result Head Refusal) (r : Option (ℕ × ℕ)) → ((v e : ℕ) → r ≡ Some (v, e) → Said P (k v e)) → Said P (on_number k r)
+  said_number k (Some (v, e)) f = f v e refl
+  said_number k None f = tt
 
-  pub said_field : (k : ℕ → Heading) (r : Field) → ((e : ℕ) → r ≡ F.End e → Said P (k e)) → Said P (on_field k r)
-  said_field k (F.End e) f = f e refl
-  said_field k (F.Fault x) f = tt
+  pub said_field : (k : ℕ → Result Head Refusal) (r : Result ℕ Refusal) → ((e : ℕ) → r ≡ Ok e → Said P (k e)) → Said P (on_field k r)
+  said_field k (Ok e) f = f e refl
+  said_field k (Err x) f = tt
 
-  pub said_slots : (k : ℕ → ℕ → Heading) (r : Slots) → ((n e : ℕ) → r ≡ L.Product n e → Said P (k n e)) → Said P (on_slots k r)
-  said_slots k (L.Product n e) f = f n e refl
-  said_slots k (L.Fault x) f = tt
+  pub said_slots : (k : ℕ → ℕ → Result Head Refusal) (r : Result (ℕ × ℕ) Refusal) → ((n e : ℕ) → r ≡ Ok (n, e) → Said P (k n e)) → Said P (on_slots k r)
+  said_slots k (Ok (n, e)) f = f n e refl
+  said_slots k (Err x) f = tt
 
   -- where the other choice is no good
-  pub said_if : (t : Bool) (a b : Heading) → (t ≡ true → Said P a) → (t ≡ false → Said P b) → Said P (pick t a b)
+  pub said_if : (t : Bool) (a b : Result Head Refusal) → (t ≡ true → Said P a) → (t ≡ false → Said P b) → Said P (pick t a b)
   said_if t a b f g = picked (Said P) t f g
 
 -- ---- records without slots

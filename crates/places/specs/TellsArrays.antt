@@ -1,7 +1,7 @@
 -- What good fields of an array record tell of (01, Records, kinds 7, 15, 16 and 17): the record that stands at the place is one that the
 -- grammar takes, its contents read from the stream.
 use Prim.Native.Nat.{ℕ, ◌+◌, ◌-◌, ◌≤◌, ◌<◌}
-use Rattle.std.specs.Prelude.{◌≡◌, true, false, replicate, ltb, leb}
+use Rattle.std.specs.Prelude.{◌≡◌, true, false, replicate, ltb, leb, Ok}
 use Rattle.std.proofs.Math.Path.{refl, subst}
 use Rattle.std.proofs.Common.{sym, ◌∙◌, arith, ltb-true, leb-true}
 use mathlib.Core.List.{List, [], ◌∷◌, ◌++◌}
@@ -10,7 +10,6 @@ use Rattle.std.proofs.Math.ListN.{length, get_or}
 use Rattle.format.specs.Terms.{Terms}
 use Rattle.format.specs.declared.SlotType.{SlotType}
 use Rattle.format.specs.declared.SlotType.TheVariants as S
-use Rattle.format.specs.declared.Field.TheVariants as F
 use Rattle.format.specs.declared.Row.{Row}
 use Rattle.format.specs.Numbers.{le_bytes, u32_at, negative}
 use Rattle.format.specs.Values.{items_at}
@@ -123,7 +122,7 @@ module _ (τ : Terms) (s : List ℕ) (rows : List Row) (at : ℕ) (byte : Bytes 
   -- the type of the items, after the lengths
   type_said : get_or s at 0 ≡ 7 → (id p rank x n types infos y : ℕ) → ObjectId id (env_of τ.book s rows) → Stand s (le_bytes 4 id) (at + 1) p → p < length s
       → get_or s p 0 ≤ 2 → Stand s (le_bytes 4 rank) (p + 1) x → good_rank (get_or s p 0) rank ≡ true → LengthsAt s (numbers_from s rank x) 1 n x types
-      → type_byte_at s types ≡ F.End infos → info_known τ.setting s rows (get_or s types 0) infos ≡ F.End y
+      → type_byte_at s types ≡ Ok infos → info_known τ.setting s rows (get_or s types 0) infos ≡ Ok y
       → Said (Back τ s rows 7 at) (items_of τ.setting s id n infos y (typed_at s types infos).slot)
   unfolding typed_at enc
   type_said g id p rank x n types infos y o a u v b k c w z =

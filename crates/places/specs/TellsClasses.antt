@@ -1,13 +1,12 @@
 -- What good fields of a class record tell of (01, Records, kinds 1, 4 and 5): the record that stands at the place is one that the grammar
 -- takes, its contents read from the stream.
-use Rattle.std.specs.Prelude.{ℕ, ◌+◌, ◌-◌, ◌<◌, ◌≡◌, Bool, get_or, eqb}
+use Rattle.std.specs.Prelude.{ℕ, ◌+◌, ◌-◌, ◌<◌, ◌≡◌, Bool, get_or, eqb, Ok}
 use Rattle.std.proofs.Math.Path.{refl, ap}
 use Rattle.std.proofs.Math.Bool.{true, false}
 use mathlib.Core.List.{List, [], ◌∷◌}
 use Rattle.std.proofs.Math.ListN.{length}
 use Rattle.format.specs.Terms.{Terms}
 use Rattle.format.specs.declared.SlotType.{SlotType}
-use Rattle.format.specs.declared.Field.TheVariants as F
 use Rattle.format.specs.declared.Head.{Head}
 use Rattle.format.specs.declared.Row.{Row}
 use Rattle.format.specs.Numbers.{u32_at, negative}
@@ -33,7 +32,7 @@ module _ (τ : Terms) (s : List ℕ) (rows : List Row) (at : ℕ) (byte : Bytes 
   -- the fields after the ObjectId of a class record, of either kind
   class_said : (P : Head → Type 0) (own : Bool) (id p : ℕ)
       → ((e n types infos x : ℕ) (ms : List (Member Prefixed ℕ)) → ClassAt τ s rows (prefixed_at s p) ms p x n types infos
-      → after_infos own s rows x ≡ F.End e → P (class_head τ.book s id n types infos e))
+      → after_infos own s rows x ≡ Ok e → P (class_head τ.book s id n types infos e))
       → Said P (named_class_at τ.setting s rows own id p)
   unfolding named_class_at members_at
   class_said P own id p f =

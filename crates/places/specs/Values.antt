@@ -1,13 +1,12 @@
 -- Values and the items of a primitive array at a place (01, Field rules): those that the grammar takes are those that end, and read at a place
 -- they are those written there. Of a Decimal what stands behind its prefix is judged, of any other value all its bytes.
-use Rattle.std.specs.Prelude.{ℕ, ◌+◌, ◌-◌, ◌<◌, ◌≡◌, refl, Bool, true, false, List, length, get_or}
+use Rattle.std.specs.Prelude.{ℕ, ◌+◌, ◌-◌, ◌<◌, ◌≡◌, refl, Bool, true, false, List, length, get_or, Ok}
 use Rattle.std.proofs.Common.{sym, ◌∙◌, subst, arith, leb-true, ne_eqb}
 use Rattle.format.specs.Terms.{Terms}
 use Rattle.format.specs.declared.Refusal.TheVariants as R
 use Rattle.format.specs.declared.Setting.TheVariants as Q
 use Rattle.format.specs.declared.PrimitiveCode.{PrimitiveCode}
 use Rattle.format.specs.declared.PrimitiveCode.TheVariants as C
-use Rattle.format.specs.declared.Field.TheVariants as F
 use Rattle.format.specs.Bytes.{part}
 use Rattle.format.specs.Numbers.{le}
 use Rattle.format.specs.Prefix.{prefix_of}
@@ -67,7 +66,7 @@ sized_bare a_time_span = refl
 
 -- ---- what is written is read
 
-scalar_there : (s v : List ℕ) (p e c : ℕ) → Scalar c → v ≡ encode c → Stand s v p e → char_at s p ≡ F.End e
+scalar_there : (s v : List ℕ) (p e c : ℕ) → Scalar c → v ≡ encode c → Stand s v p e → char_at s p ≡ Ok e
 scalar_there s v p e c i q w =
     let k = stand_size w in
     let z : e - p ≡ length v = omega arith in
@@ -75,7 +74,7 @@ scalar_there s v p e c i q w =
     (char_exactly s p e).1 (c, record { scalar = i; bytes = rw (← q) same; ends = rw (← q) k })
 
 -- without a prefix
-bare_there : (τ : Terms) (s : List ℕ) (c : PrimitiveCode) (v : List ℕ) (p e : ℕ) → Content c v → has_prefix c ≡ false → Stand s v p e → value_at τ.setting s c p ≡ F.End e
+bare_there : (τ : Terms) (s : List ℕ) (c : PrimitiveCode) (v : List ℕ) (p e : ℕ) → Content c v → has_prefix c ≡ false → Stand s v p e → value_at τ.setting s c p ≡ Ok e
 unfolding value_at
 bare_there τ s c v p e (number {n = n} g l) f w =
     let k = stand_size w in
@@ -102,7 +101,7 @@ decimal_only (exact g h) f = (refl, g, h)
 decimal_only (moment l d) f = apart f
 
 prefixed_there : (τ : Terms) (s : List ℕ) (c : PrimitiveCode) (v : Prefixed) (p e : ℕ) → Content c v.text → has_prefix c ≡ true
-    → Width τ.setting v.width (length v.text) → Stand s (bytes_in v) p e → value_at τ.setting s c p ≡ F.End e
+    → Width τ.setting v.width (length v.text) → Stand s (bytes_in v) p e → value_at τ.setting s c p ≡ Ok e
 unfolding value_at
 prefixed_there τ s c v p e g f i w =
     let d = decimal_only g f in
@@ -113,10 +112,10 @@ no_prefix : (v : Prefixed) → v.width ≡ 0 → bytes_in v ≡ v.text
 unfolding prefix_of
 no_prefix v z = rw z
 
-pub value_there : (τ : Terms) (s : List ℕ) (c : PrimitiveCode) (v : Prefixed) (p e : ℕ) → Value τ c v → Stand s (bytes_in v) p e → value_at τ.setting s c p ≡ F.End e
+pub value_there : (τ : Terms) (s : List ℕ) (c : PrimitiveCode) (v : Prefixed) (p e : ℕ) → Value τ c v → Stand s (bytes_in v) p e → value_at τ.setting s c p ≡ Ok e
 value_there τ s c v p e g w = go (has_prefix c) refl g.prefix
   where
-    go : (t : Bool) → has_prefix c ≡ t → PrefixIf τ t v.width (length v.text) → value_at τ.setting s c p ≡ F.End e
+    go : (t : Bool) → has_prefix c ≡ t → PrefixIf τ t v.width (length v.text) → value_at τ.setting s c p ≡ Ok e
     go true f i = prefixed_there τ s c v p e g.content f i w
     go false f i = bare_there τ s c v.text p e g.content f (subst (λ (b : List ℕ). Stand s b p e) (no_prefix v i) w)
 
@@ -132,7 +131,7 @@ record Bare (s : List ℕ) (c : PrimitiveCode) (p e : ℕ) : Type 0 where
   some : 0 < size_from s c p
   ends : e ≡ p + size_from s c p
 
-number_back : (τ : Terms) (s : List ℕ) (c : PrimitiveCode) (p e : ℕ) → 0 < size_of c → size_from s c p ≡ size_of c → value_at τ.setting s c p ≡ F.End e → Bare s c p e
+number_back : (τ : Terms) (s : List ℕ) (c : PrimitiveCode) (p e : ℕ) → 0 < size_of c → size_from s c p ≡ size_of c → value_at τ.setting s c p ≡ Ok e → Bare s c p e
 number_back τ s c p e h i q =
     let w = judged_taken any R.BadValue s p (size_of c) e (sym (bytes_judged s p (size_of c)) ∙ (sym (value_bytes τ s c p h) ∙ q)) in
     let z : e - p ≡ size_of c = omega arith in
@@ -143,7 +142,7 @@ number_back τ s c p e h i q =
       ends = rw i w.ends;
     }
 
-boolean_back : (s : List ℕ) (p e : ℕ) → boolean_at s p ≡ F.End e → Bare s C.Boolean p e
+boolean_back : (s : List ℕ) (p e : ℕ) → boolean_at s p ≡ Ok e → Bare s C.Boolean p e
 boolean_back s p e q =
     let w = judged_taken truth R.BadValue s p 1 e (sym (boolean_judged s p) ∙ q) in
     let z : e - p ≡ 1 = omega arith in
@@ -154,7 +153,7 @@ boolean_back s p e q =
       ends = w.ends;
     }
 
-char_back : (s : List ℕ) (p e : ℕ) → char_at s p ≡ F.End e → Bare s C.Char p e
+char_back : (s : List ℕ) (p e : ℕ) → char_at s p ≡ Ok e → Bare s C.Char p e
 char_back s p e q =
     let w = (char_exactly s p e).0 q in
     let z : e - p ≡ length (encode w.0) = omega (arith, w.1.ends) in
@@ -164,7 +163,7 @@ char_back s p e q =
       ends = (char_taken s p e q).ends;
     }
 
-date_back : (s : List ℕ) (p e : ℕ) → date_time_at s p ≡ F.End e → Bare s C.DateTime p e
+date_back : (s : List ℕ) (p e : ℕ) → date_time_at s p ≡ Ok e → Bare s C.DateTime p e
 date_back s p e q =
     let w = judged_taken J.moment R.BadValue s p 8 e (sym (date_judged s p) ∙ q) in
     let z : e - p ≡ 8 = omega arith in
@@ -174,7 +173,7 @@ date_back s p e q =
       ends = w.ends;
     }
 
-bare_back : (τ : Terms) (s : List ℕ) (c : PrimitiveCode) (p e : ℕ) → has_prefix c ≡ false → value_at τ.setting s c p ≡ F.End e → Bare s c p e
+bare_back : (τ : Terms) (s : List ℕ) (c : PrimitiveCode) (p e : ℕ) → has_prefix c ≡ false → value_at τ.setting s c p ≡ Ok e → Bare s c p e
 unfolding value_at
 bare_back τ s C.Boolean p e f q = boolean_back s p e q
 bare_back τ s C.Byte p e f q = number_back τ s C.Byte p e (omega arith) refl q
@@ -192,7 +191,7 @@ bare_back τ s C.UInt16 p e f q = number_back τ s C.UInt16 p e (omega arith) re
 bare_back τ s C.UInt32 p e f q = number_back τ s C.UInt32 p e (omega arith) refl q
 bare_back τ s C.UInt64 p e f q = number_back τ s C.UInt64 p e (omega arith) refl q
 
-bare_span : (τ : Terms) (s : List ℕ) (c : PrimitiveCode) (p e : ℕ) → has_prefix c ≡ false → value_at τ.setting s c p ≡ F.End e → value_span s c p ≡ record { from = p; to = e }
+bare_span : (τ : Terms) (s : List ℕ) (c : PrimitiveCode) (p e : ℕ) → has_prefix c ≡ false → value_at τ.setting s c p ≡ Ok e → value_span s c p ≡ record { from = p; to = e }
 unfolding value_span
 bare_span τ s c p e f q =
     let w = bare_back τ s c p e f q in
@@ -203,7 +202,7 @@ bare_span τ s c p e f q =
 abbrev Told : Terms → List ℕ → PrimitiveCode → ℕ → ℕ → Type 0
 Told τ s c p e = Value τ c (value_in s c p) × Stand s (bytes_in (value_in s c p)) p e × ((value_span s c p).to ≡ e)
 
-bare_told : (τ : Terms) (s : List ℕ) (c : PrimitiveCode) (p e : ℕ) → has_prefix c ≡ false → value_at τ.setting s c p ≡ F.End e → Told τ s c p e
+bare_told : (τ : Terms) (s : List ℕ) (c : PrimitiveCode) (p e : ℕ) → has_prefix c ≡ false → value_at τ.setting s c p ≡ Ok e → Told τ s c p e
 unfolding prefix_of
 bare_told τ s c p e f q =
     let w = bare_back τ s c p e f q in
@@ -212,7 +211,7 @@ bare_told τ s c p e f q =
     rw (bare_span τ s c p e f q, z)
     (record { content = w.content; prefix = rw f refl }, stand_part (omega arith) m.1, refl)
 
-decimal_back : (τ : Terms) (s : List ℕ) (p e : ℕ) → Bytes s → decimal_at τ.setting s p ≡ F.End e → Told τ s C.Decimal p e
+decimal_back : (τ : Terms) (s : List ℕ) (p e : ℕ) → Bytes s → decimal_at τ.setting s p ≡ Ok e → Told τ s C.Decimal p e
 unfolding value_span
 decimal_back τ s p e b q =
     let x = decimal_told τ.setting s p e q in
@@ -223,7 +222,7 @@ decimal_back τ s p e b q =
     record { content = exact ((decimal_exactly (part s a (e - a))).0 y.good) y.short; prefix = y.width } in
     rw (counted_span τ decimal R.BadValue s p e n a x.2) (g, y.stands, refl)
 
-prefixed_told : (τ : Terms) (s : List ℕ) (c : PrimitiveCode) (p e : ℕ) → Bytes s → has_prefix c ≡ true → value_at τ.setting s c p ≡ F.End e → Told τ s c p e
+prefixed_told : (τ : Terms) (s : List ℕ) (c : PrimitiveCode) (p e : ℕ) → Bytes s → has_prefix c ≡ true → value_at τ.setting s c p ≡ Ok e → Told τ s c p e
 unfolding value_at
 prefixed_told τ s C.Boolean p e b f q = apart f
 prefixed_told τ s C.Byte p e b f q = apart f
@@ -241,7 +240,7 @@ prefixed_told τ s C.UInt16 p e b f q = apart f
 prefixed_told τ s C.UInt32 p e b f q = apart f
 prefixed_told τ s C.UInt64 p e b f q = apart f
 
-pub value_back : (τ : Terms) (s : List ℕ) (c : PrimitiveCode) (p e : ℕ) → Bytes s → value_at τ.setting s c p ≡ F.End e
+pub value_back : (τ : Terms) (s : List ℕ) (c : PrimitiveCode) (p e : ℕ) → Bytes s → value_at τ.setting s c p ≡ Ok e
     → Value τ c (value_in s c p) × Stand s (bytes_in (value_in s c p)) p e × ((value_span s c p).to ≡ e)
 value_back τ s c p e b q = either (has_prefix c) (λ f. prefixed_told τ s c p e b f q) (λ f. bare_told τ s c p e f q)
 

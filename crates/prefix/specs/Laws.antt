@@ -1,6 +1,6 @@
 -- Laws of the reader's definition: one for each way that it ends, the bound of its number, and where it ends.
 use Prim.Native.Nat.{ℕ, zero, suc, ◌+◌, ◌*◌, ◌-◌, ◌%◌, ◌≤◌, ◌<◌, ◌^◌}
-use Rattle.std.specs.Prelude.{◌≡◌, Bool, true, false, List, length, get_or, leb, ltb}
+use Rattle.std.specs.Prelude.{◌≡◌, Bool, true, false, List, length, get_or, leb, ltb, Result, Ok, Err}
 use Rattle.std.proofs.Math.Path.{refl}
 use native.Mathlib.Omega.{arith}
 use Rattle.std.proofs.Common.{pow-suc}
@@ -10,37 +10,35 @@ use Rattle.format.specs.declared.Refusal.{Refusal}
 use Rattle.format.specs.declared.Refusal.TheVariants as R
 use Rattle.format.specs.declared.Setting.{Setting}
 use Rattle.format.specs.declared.Setting.TheVariants as S
-use Rattle.format.specs.declared.Prefix.{Prefix}
-use Rattle.format.specs.declared.Prefix.TheVariants as P
 use Rattle.format.specs.Bytes.{pick}
 use Rattle.format.specs.Prefix.{prefix_in, later_least, prefix_at, onto}
 use Rattle.fields.specs.Judged.{picked}
 
 -- ---- the ways that the groups end
 module _ (least later : ℕ) (s : List ℕ) (p : ℕ) where
-  pub short : (k : ℕ) → length s ≤ p → prefix_in k least later s p ≡ P.Fault R.CutShort
+  pub short : (k : ℕ) → length s ≤ p → prefix_in k least later s p ≡ Err R.CutShort
   unfolding prefix_in
   short zero h = simp le-ltb
   short (suc k) h = simp le-ltb
 
   module _ (i : p < length s) where
-    pub low : (k : ℕ) → get_or s p 0 < least → prefix_in k least later s p ≡ P.Fault R.BadLength
+    pub low : (k : ℕ) → get_or s p 0 < least → prefix_in k least later s p ≡ Err R.BadLength
     unfolding prefix_in
     low zero h = simp (lt-ltb, lt-leb)
     low (suc k) h = simp (lt-ltb, lt-leb)
 
     module _ (l : least ≤ get_or s p 0) where
-      pub fifth_high : (k : ℕ) → k ≡ 0 → 8 ≤ get_or s p 0 → prefix_in k least later s p ≡ P.Fault R.BadLength
+      pub fifth_high : (k : ℕ) → k ≡ 0 → 8 ≤ get_or s p 0 → prefix_in k least later s p ≡ Err R.BadLength
       unfolding prefix_in
       fifth_high zero e h = simp (lt-ltb, le-leb, le-ltb)
       fifth_high (suc k) e h = absurd (omega arith)
 
-      pub fifth : (k : ℕ) → k ≡ 0 → get_or s p 0 < 8 → prefix_in k least later s p ≡ P.Length (get_or s p 0) (p + 1)
+      pub fifth : (k : ℕ) → k ≡ 0 → get_or s p 0 < 8 → prefix_in k least later s p ≡ Ok (get_or s p 0, p + 1)
       unfolding prefix_in
       fifth zero e h = simp (lt-ltb, le-leb)
       fifth (suc k) e h = absurd (omega arith)
 
-      pub last : (k : ℕ) → 0 < k → get_or s p 0 < 128 → prefix_in k least later s p ≡ P.Length (get_or s p 0) (p + 1)
+      pub last : (k : ℕ) → 0 < k → get_or s p 0 < 128 → prefix_in k least later s p ≡ Ok (get_or s p 0, p + 1)
       unfolding prefix_in
       last zero e h = absurd (omega arith)
       last (suc k) e h = simp (lt-ltb, le-leb)
@@ -56,13 +54,13 @@ module _ (least later : ℕ) (s : List ℕ) (p : ℕ) where
 -- ---- a property of every number that is read
 
 -- Q holds of the number and the place after it, where the answer has them
-abbrev pub Holds : (ℕ → ℕ → Type 0) → Prefix → Type 0
-Holds Q (P.Length n e) = Q n e
-Holds Q (P.Fault f) = Unit {0}
+abbrev pub Holds : (ℕ → ℕ → Type 0) → Result (ℕ × ℕ) Refusal → Type 0
+Holds Q (Ok (n, e)) = Q n e
+Holds Q (Err f) = Unit {0}
 
-holds_onto : (A B : ℕ → ℕ → Type 0) (g : ℕ) (r : Prefix) → ((m e : ℕ) → A m e → B (g + 128 * m) e) → Holds A r → Holds B (onto g r)
-holds_onto A B g (P.Length m e) f a = f m e a
-holds_onto A B g (P.Fault x) f a = tt
+holds_onto : (A B : ℕ → ℕ → Type 0) (g : ℕ) (r : Result (ℕ × ℕ) Refusal) → ((m e : ℕ) → A m e → B (g + 128 * m) e) → Holds A r → Holds B (onto g r)
+holds_onto A B g (Ok (m, e)) f a = f m e a
+holds_onto A B g (Err x) f a = tt
 
 -- Q speaks of k, least, the place, the number and the place after it. It holds for a last group:
 abbrev pub One : List ℕ → (ℕ → ℕ → ℕ → ℕ → ℕ → Type 0) → Type 0
@@ -117,12 +115,12 @@ bounded k least later s p = every later s Q one on k least p
     on k least p m e i l h b = rw pow-suc (omega arith)
 
 -- the number is below m, where there is one
-abbrev pub Below : ℕ → Prefix → Type 0
+abbrev pub Below : ℕ → Result (ℕ × ℕ) Refusal → Type 0
 Below m = Holds (λ n e. n < m)
 
-below_mono : (a b : ℕ) (r : Prefix) → a ≤ b → Below a r → Below b r
-below_mono a b (P.Length n next) h l = omega arith
-below_mono a b (P.Fault f) h l = tt
+below_mono : (a b : ℕ) (r : Result (ℕ × ℕ) Refusal) → a ≤ b → Below a r → Below b r
+below_mono a b (Ok (n, next)) h l = omega arith
+below_mono a b (Err f) h l = tt
 
 -- what follows a first group leaves room for it in a u32
 pub small : (k least later : ℕ) (s : List ℕ) (p : ℕ) → k ≤ 3 → Below 16777216 (prefix_in k least later s p)
@@ -138,19 +136,19 @@ within k least later s p =
 -- ---- what is read with a greater least group is read with a smaller one, alike
 
 -- the same number and the same place, where the first answer has them
-abbrev Keeps : Prefix → Prefix → Type 0
-Keeps (P.Length n e) r = r ≡ P.Length n e
-Keeps (P.Fault f) r = Unit {0}
+abbrev Keeps : Result (ℕ × ℕ) Refusal → Result (ℕ × ℕ) Refusal → Type 0
+Keeps (Ok (n, e)) r = r ≡ Ok (n, e)
+Keeps (Err f) r = Unit {0}
 
-keeps_onto : (g : ℕ) (a b : Prefix) → Keeps a b → Keeps (onto g a) (onto g b)
-keeps_onto g (P.Length n e) b h = rw h
-keeps_onto g (P.Fault f) b h = tt
+keeps_onto : (g : ℕ) (a b : Result (ℕ × ℕ) Refusal) → Keeps a b → Keeps (onto g a) (onto g b)
+keeps_onto g (Ok (n, e)) b h = rw h
+keeps_onto g (Err f) b h = tt
 
-keeps_narrow : (t u : Bool) (a b : Prefix) (f g : Refusal) → (t ≡ true → (u ≡ true) × Keeps a b) → Keeps (pick t a (P.Fault f)) (pick u b (P.Fault g))
+keeps_narrow : (t u : Bool) (a b : Result (ℕ × ℕ) Refusal) (f g : Refusal) → (t ≡ true → (u ≡ true) × Keeps a b) → Keeps (pick t a (Err f)) (pick u b (Err g))
 keeps_narrow true u a b f g h = let w = h refl in rw w.0 w.1
 keeps_narrow false u a b f g h = tt
 
-keeps_either : (t : Bool) (a b c d : Prefix) → Keeps a b → Keeps c d → Keeps (pick t a c) (pick t b d)
+keeps_either : (t : Bool) (a b c d : Result (ℕ × ℕ) Refusal) → Keeps a b → Keeps c d → Keeps (pick t a c) (pick t b d)
 keeps_either true a b c d x y = x
 keeps_either false a b c d x y = y
 
@@ -170,7 +168,7 @@ module _ (later lower : ℕ) (s : List ℕ) (l : lower ≤ later) where
         keeps_narrow (leb least (get_or s p 0)) (leb low (get_or s p 0)) _ _ R.BadLength R.BadLength
             (λ t. (
               leb_falls least low (get_or s p 0) h t,
-              keeps_either (ltb (get_or s p 0) 8) (P.Length (get_or s p 0) (p + 1)) (P.Length (get_or s p 0) (p + 1)) (P.Fault R.BadLength) (P.Fault R.BadLength) refl tt,
+              keeps_either (ltb (get_or s p 0) 8) (Ok (get_or s p 0, p + 1)) (Ok (get_or s p 0, p + 1)) (Err R.BadLength) (Err R.BadLength) refl tt,
             )),
       ))
   falls (suc k) least low p h =
@@ -180,13 +178,13 @@ module _ (later lower : ℕ) (s : List ℕ) (l : lower ≤ later) where
         keeps_narrow (leb least (get_or s p 0)) (leb low (get_or s p 0)) _ _ R.BadLength R.BadLength
             (λ t. (
               leb_falls least low (get_or s p 0) h t,
-              keeps_either (ltb (get_or s p 0) 128) (P.Length (get_or s p 0) (p + 1)) (P.Length (get_or s p 0) (p + 1)) _ _ refl
+              keeps_either (ltb (get_or s p 0) 128) (Ok (get_or s p 0, p + 1)) (Ok (get_or s p 0, p + 1)) _ _ refl
                   (keeps_onto (get_or s p 0 % 128) (prefix_in k later later s (p + 1)) (prefix_in k lower lower s (p + 1)) (falls k later lower (p + 1) l)),
             )),
       ))
 
 -- ---- for a caller that has matched on the answer
-module _ (σ : Setting) (s : List ℕ) (p n e : ℕ) (q : prefix_at σ s p ≡ P.Length n e) where
+module _ (σ : Setting) (s : List ℕ) (p n e : ℕ) (q : prefix_at σ s p ≡ Ok (n, e)) where
   pub moves : (p < e) × (e ≤ length s) × (e ≤ p + 5)
   moves = rw q at (within 4 0 (later_least σ) s p)
 
@@ -199,6 +197,6 @@ later_most S.Strict = omega arith
 later_most S.Lenient = omega arith
 
 -- what is read under either setting, lenient reads alike
-pub lenient_alike : (σ : Setting) (s : List ℕ) (p n e : ℕ) → prefix_at σ s p ≡ P.Length n e → prefix_at S.Lenient s p ≡ P.Length n e
+pub lenient_alike : (σ : Setting) (s : List ℕ) (p n e : ℕ) → prefix_at σ s p ≡ Ok (n, e) → prefix_at S.Lenient s p ≡ Ok (n, e)
 lenient_alike S.Strict s p n e q = rw q at (falls 1 0 s (omega arith) 4 0 0 p (omega arith))
 lenient_alike S.Lenient s p n e q = q

@@ -1,29 +1,27 @@
 -- When a prefix is refused: with 2 or with 7; in lenient with 7 only for a fifth byte over 7; and where strict does not answer 7, lenient answers the same.
 use Prim.Native.Nat.{ℕ, zero, suc, ◌+◌, ◌-◌, ◌*◌, ◌%◌, ◌≤◌, ◌<◌}
-use Rattle.std.specs.Prelude.{◌≡◌, refl, ◌↔◌, ◌⊎◌, List, length, get_or, leb, ltb}
+use Rattle.std.specs.Prelude.{◌≡◌, refl, ◌↔◌, ◌⊎◌, List, length, get_or, leb, ltb, Result, Ok, Err}
 use Rattle.std.proofs.Common.{sym, ◌∙◌, inl, inr, arith}
 use Rattle.std.proofs.Math.Decide.{dec_lt}
 use Rattle.format.specs.declared.Refusal.{Refusal}
 use Rattle.format.specs.declared.Refusal.TheVariants as R
 use Rattle.format.specs.declared.Setting.{Setting}
 use Rattle.format.specs.declared.Setting.TheVariants as S
-use Rattle.format.specs.declared.Prefix.{Prefix}
-use Rattle.format.specs.declared.Prefix.TheVariants as P
 use Rattle.format.specs.Prefix.{prefix_in, later_least, prefix_at, onto}
 use Rattle.fields.specs.Judged.{picked}
 use Rattle.prefix.specs.Laws.{short, low, fifth_high, fifth, last, more}
 
 -- ---- answers told apart
-no_fault : (n e : ℕ) (f : Refusal) → P.Length n e ≡ P.Fault f → ⊥
+no_fault : (n e : ℕ) (f : Refusal) → ◌≡◌ {A = Result (ℕ × ℕ) Refusal} (Ok (n, e)) (Err f) → ⊥
 no_fault n e f q = let z : ◌≡◌ {A = ℕ} 0 1 = cc in omega arith
 
-no_seven : P.Fault R.CutShort ≡ P.Fault R.BadLength → ⊥
+no_seven : ◌≡◌ {A = Result (ℕ × ℕ) Refusal} (Err R.CutShort) (Err R.BadLength) → ⊥
 no_seven q = let z : ◌≡◌ {A = ℕ} 0 1 = cc in omega arith
 
 -- groups are refused as those after the first are
-onto_fault : (g : ℕ) (r : Prefix) (f : Refusal) → onto g r ≡ P.Fault f → r ≡ P.Fault f
-onto_fault g (P.Length n e) f q = absurd (no_fault (g + 128 * n) e f q)
-onto_fault g (P.Fault x) f q = q
+onto_fault : (g : ℕ) (r : Result (ℕ × ℕ) Refusal) (f : Refusal) → onto g r ≡ Err f → r ≡ Err f
+onto_fault g (Ok (n, e)) f q = absurd (no_fault (g + 128 * n) e f q)
+onto_fault g (Err x) f q = q
 
 -- ---- 7 in lenient
 
@@ -50,7 +48,7 @@ module _ (s : List ℕ) where
       go q a b (yes y) = w.first q (omega arith) (omega arith)
       go q a b (no y) = let d : q ≡ p = omega arith in rw d h
 
-  seven_over : (k p : ℕ) → prefix_in k 0 0 s p ≡ P.Fault R.BadLength → Over k p
+  seven_over : (k p : ℕ) → prefix_in k 0 0 s p ≡ Err R.BadLength → Over k p
   seven_over zero p q = go (dec_lt p (length s)) (dec_lt (get_or s p 0) 8)
     where
       go : Dec (p < length s) → Dec (get_or s p 0 < 8) → Over 0 p
@@ -59,7 +57,7 @@ module _ (s : List ℕ) where
       go (no i) h = absurd (no_seven (sym (short 0 0 s p 0 (omega arith)) ∙ q))
   seven_over (suc k) p q = go (seven_over k (p + 1)) (dec_lt p (length s)) (dec_lt (get_or s p 0) 128)
     where
-      go : (prefix_in k 0 0 s (p + 1) ≡ P.Fault R.BadLength → Over k (p + 1)) → Dec (p < length s) → Dec (get_or s p 0 < 128) → Over (suc k) p
+      go : (prefix_in k 0 0 s (p + 1) ≡ Err R.BadLength → Over k (p + 1)) → Dec (p < length s) → Dec (get_or s p 0 < 128) → Over (suc k) p
       go again (yes i) (yes h) = absurd (no_fault _ _ _ (sym (last 0 0 s p i (omega arith) (suc k) (omega arith) h) ∙ q))
       go again (yes i) (no h) =
           let d : suc k - 1 ≡ k = omega arith in
@@ -67,7 +65,7 @@ module _ (s : List ℕ) where
           over_more k p (omega arith) (again (onto_fault (get_or s p 0 % 128) _ R.BadLength (sym m ∙ q)))
       go again (no i) h = absurd (no_seven (sym (short 0 0 s p (suc k) (omega arith)) ∙ q))
 
-  over_seven : (k p : ℕ) → Over k p → prefix_in k 0 0 s p ≡ P.Fault R.BadLength
+  over_seven : (k p : ℕ) → Over k p → prefix_in k 0 0 s p ≡ Err R.BadLength
   over_seven zero p w = fifth_high 0 0 s p (omega (arith, w.there)) (omega arith) 0 refl (w.over p (omega arith))
   over_seven (suc k) p w =
       let d : suc k - 1 ≡ k = omega arith in
@@ -75,7 +73,7 @@ module _ (s : List ℕ) where
       rw (more 0 0 s p (omega (arith, w.there)) (omega arith) (suc k) (omega arith) (w.first p (omega arith) (omega arith)), d, r)
 
 -- for every stream and place: lenient answers 7 exactly for a fifth byte over 7
-pub lenient_seven : (s : List ℕ) (p : ℕ) → (prefix_at S.Lenient s p ≡ P.Fault R.BadLength) ↔ FifthOver s p
+pub lenient_seven : (s : List ℕ) (p : ℕ) → (prefix_at S.Lenient s p ≡ Err R.BadLength) ↔ FifthOver s p
 lenient_seven s p = (λ q. there (seven_over s 4 p q), λ w. over_seven s 4 p (back w))
   where
     there : Over s 4 p → FifthOver s p
@@ -89,19 +87,19 @@ lenient_seven s p = (λ q. there (seven_over s 4 p q), λ w. over_seven s 4 p (b
 
 -- ---- 2 or 7, and no other refusal
 
-abbrev Known : Prefix → Type 0
-Known r = (f : Refusal) → r ≡ P.Fault f → (f ≡ R.CutShort) ⊎ (f ≡ R.BadLength)
+abbrev Known : Result (ℕ × ℕ) Refusal → Type 0
+Known r = (f : Refusal) → r ≡ Err f → (f ≡ R.CutShort) ⊎ (f ≡ R.BadLength)
 
-same_fault : (f g : Refusal) → P.Fault f ≡ P.Fault g → g ≡ f
+same_fault : (f g : Refusal) → ◌≡◌ {A = Result (ℕ × ℕ) Refusal} (Err f) (Err g) → g ≡ f
 same_fault f g q = cc
 
-known_short : Known (P.Fault R.CutShort)
+known_short : Known (Err R.CutShort)
 known_short f q = inl (same_fault R.CutShort f q)
 
-known_bad : Known (P.Fault R.BadLength)
+known_bad : Known (Err R.BadLength)
 known_bad f q = inr (same_fault R.BadLength f q)
 
-known_length : (n e : ℕ) → Known (P.Length n e)
+known_length : (n e : ℕ) → Known (Ok (n, e))
 known_length n e f q = absurd (no_fault n e f q)
 
 module _ (later : ℕ) (s : List ℕ) where
@@ -123,16 +121,16 @@ module _ (later : ℕ) (s : List ℕ) where
       (λ i. known_short)
 
 -- for every setting, stream and place: what is refused is cut short or has a bad length
-pub two_or_seven : (σ : Setting) (s : List ℕ) (p : ℕ) (f : Refusal) → prefix_at σ s p ≡ P.Fault f → (f ≡ R.CutShort) ⊎ (f ≡ R.BadLength)
+pub two_or_seven : (σ : Setting) (s : List ℕ) (p : ℕ) (f : Refusal) → prefix_at σ s p ≡ Err f → (f ≡ R.CutShort) ⊎ (f ≡ R.BadLength)
 two_or_seven σ s p = known (later_least σ) s 4 0 p
 
 -- ---- where strict does not answer 7, lenient answers the same
 
 -- the first answer is 7, or the second is the first
-abbrev Alike : Prefix → Prefix → Type 0
-Alike a b = (a ≡ P.Fault R.BadLength) ⊎ (b ≡ a)
+abbrev Alike : Result (ℕ × ℕ) Refusal → Result (ℕ × ℕ) Refusal → Type 0
+Alike a b = (a ≡ Err R.BadLength) ⊎ (b ≡ a)
 
-alike_onto : (g : ℕ) (a b : Prefix) → Alike a b → Alike (onto g a) (onto g b)
+alike_onto : (g : ℕ) (a b : Result (ℕ × ℕ) Refusal) → Alike a b → Alike (onto g a) (onto g b)
 alike_onto g a b (inl e) = inl (rw e refl)
 alike_onto g a b (inr e) = inr (rw e refl)
 
@@ -162,12 +160,12 @@ module _ (later lower : ℕ) (s : List ℕ) (l : lower ≤ later) where
           (alike_onto (get_or s p 0 % 128) _ _ again)
 
 -- for every stream and place: strict answers 7, or lenient answers what strict does
-pub strict_or_alike : (s : List ℕ) (p : ℕ) → (prefix_at S.Strict s p ≡ P.Fault R.BadLength) ⊎ (prefix_at S.Lenient s p ≡ prefix_at S.Strict s p)
+pub strict_or_alike : (s : List ℕ) (p : ℕ) → (prefix_at S.Strict s p ≡ Err R.BadLength) ⊎ (prefix_at S.Lenient s p ≡ prefix_at S.Strict s p)
 strict_or_alike s p = reads_alike 1 0 s (omega arith) 4 0 0 p (omega arith)
 
-pub strict_alike : (s : List ℕ) (p : ℕ) → (prefix_at S.Strict s p ≡ P.Fault R.BadLength → ⊥) → prefix_at S.Lenient s p ≡ prefix_at S.Strict s p
+pub strict_alike : (s : List ℕ) (p : ℕ) → (prefix_at S.Strict s p ≡ Err R.BadLength → ⊥) → prefix_at S.Lenient s p ≡ prefix_at S.Strict s p
 strict_alike s p n = go (strict_or_alike s p)
   where
-    go : (prefix_at S.Strict s p ≡ P.Fault R.BadLength) ⊎ (prefix_at S.Lenient s p ≡ prefix_at S.Strict s p) → prefix_at S.Lenient s p ≡ prefix_at S.Strict s p
+    go : (prefix_at S.Strict s p ≡ Err R.BadLength) ⊎ (prefix_at S.Lenient s p ≡ prefix_at S.Strict s p) → prefix_at S.Lenient s p ≡ prefix_at S.Strict s p
     go (inl e) = absurd (n e)
     go (inr e) = e

@@ -1,12 +1,11 @@
 -- Prefixes of any width: a number in a width that the grammar allows is read, what is read is a number in such a width, and the shortest
 -- width is one of them and the strict one.
-use Rattle.std.specs.Prelude.{ℕ, zero, suc, ◌+◌, ◌-◌, ◌*◌, ◌/◌, ◌%◌, ◌^◌, ◌≤◌, ◌<◌, ◌≡◌, refl, List, [], ◌∷◌, ◌++◌, length, get_or, drop}
+use Rattle.std.specs.Prelude.{ℕ, zero, suc, ◌+◌, ◌-◌, ◌*◌, ◌/◌, ◌%◌, ◌^◌, ◌≤◌, ◌<◌, ◌≡◌, refl, List, [], ◌∷◌, ◌++◌, length, get_or, drop, Ok}
 use Rattle.std.proofs.Common.{sym, ap, ap₂, ◌∙◌, arith, pow-suc, add-one, drop-cons}
 use Rattle.std.proofs.Math.Nat.{pow-le-pow_right}
 use Rattle.std.proofs.Math.Decide.{dec_lt}
 use Rattle.format.specs.declared.Setting.{Setting}
 use Rattle.format.specs.declared.Setting.TheVariants as S
-use Rattle.format.specs.declared.Prefix.TheVariants as P
 use Rattle.format.specs.Prefix.{prefix_in, later_least, prefix_at, groups_of, prefix_bytes, groups_in, prefix_of}
 use Rattle.format.specs.Grammar.{Width}
 use Rattle.prefix.specs.Laws.{One, On, every, moves, bound, fifth, last, more, later_most}
@@ -82,7 +81,7 @@ floor_width σ k n h b f = record { some = omega arith; most = omega arith; hold
 -- ---- what is written in a width is read: j bytes may follow the first, k do
 module _ (later : ℕ) (s rest : List ℕ) (small : later ≤ 1) where
   read_in : (k j least n p : ℕ) → least ≤ 1 → k ≤ j → n < 128 ^ suc k → n < 8 * 128 ^ j → Floor least later k n → drop p s ≡ groups_in k n ++ rest
-      → prefix_in j least later s p ≡ P.Length n (p + suc k)
+      → prefix_in j least later s p ≡ Ok (n, p + suc k)
   read_in zero zero least n p l r b c f d =
       let h = head_at s p n rest (d ∙ rw (in_last n)) in
       rw (fifth least later s p h.inside (rw h.byte (f.first refl)) 0 refl (rw h.byte (omega arith)), h.byte)
@@ -102,10 +101,10 @@ module _ (later : ℕ) (s rest : List ℕ) (small : later ≤ 1) where
         e,
         i,
       )
-      (ap₂ P.Length (omega arith) (omega arith))
+      (ap₂ (λ (x y : ℕ). Ok (x, y)) (omega arith) (omega arith))
 
 pub width_written : (σ : Setting) (w n : ℕ) (s rest : List ℕ) (p : ℕ) → Width σ w n → n < 2147483648 → drop p s ≡ prefix_of w n ++ rest
-    → prefix_at σ s p ≡ P.Length n (p + w)
+    → prefix_at σ s p ≡ Ok (n, p + w)
 width_written σ zero n s rest p w h d = absurd (omega (arith, w.some))
 width_written σ (suc k) n s rest p w h d =
     read_in (later_least σ) s rest (later_most σ) k 4 0 n p (omega arith) (omega (arith, w.most)) w.holds (omega arith) (width_floor σ k n w)
@@ -153,7 +152,7 @@ module _ (later : ℕ) (s : List ℕ) (byte : (i : ℕ) → get_or s i 0 < 256) 
         bytes = rw (drop-cons s p 0 i, ← add-one p, in_more t.follow n, a, b) (ap (λ (r : List ℕ). get_or s p 0 ∷ r) t.bytes);
       }
 
-pub width_read : (σ : Setting) (s : List ℕ) → ((i : ℕ) → get_or s i 0 < 256) → (p n e : ℕ) → prefix_at σ s p ≡ P.Length n e → WidthRead σ s p n e
+pub width_read : (σ : Setting) (s : List ℕ) → ((i : ℕ) → get_or s i 0 < 256) → (p n e : ℕ) → prefix_at σ s p ≡ Ok (n, e) → WidthRead σ s p n e
 width_read σ s byte p n e q =
     let r = later_least σ in
     let t : Took r s byte 4 0 p n e = rw q at (every r s (Took r s byte) (took_one r s byte) (took_on r s byte) 4 0 p) in

@@ -1,51 +1,49 @@
 // The length prefix of a text: reading it, its length, and writing it.
 #![tactic(auto)]
 
-ghost use Rattle.std.specs.Prelude.{◌≡◌, ◌+◌, ◌≤◌, ◌<◌, ◌%◌, ◌^◌, length};
+ghost use Rattle.std.specs.Prelude.{◌≡◌, ◌+◌, ◌≤◌, ◌<◌, ◌%◌, ◌^◌, length, Ok};
 ghost use Rattle.format.specs.Bytes.{laid, Written};
 ghost use Rattle.format.specs.Prefix.{prefix_in, later_least, prefix_at, onto, groups_of, prefix_bytes};
 ghost use Rattle.prefix.specs.Laws.{Below};
 
-use format::{Prefix, Refusal, Setting};
+use format::{Refusal, Setting};
 
 // ---- reading
 
 // A last group.
-fn last_group(b: u8, next: usize) -> Prefix
-    ensures { result ≡ Prefix.Length b next }
+fn last_group(b: u8, next: usize) -> Result<(u32, usize), Refusal>
+    ensures { result ≡ Ok (b, next) }
 {
-    Prefix::Length(b as u32, next)
+    Ok((b as u32, next))
 }
 
 // A group that more follow, with what those say.
-fn onto_group(b: u8, rest: Prefix) -> Prefix
+fn onto_group(b: u8, rest: Result<(u32, usize), Refusal>) -> Result<(u32, usize), Refusal>
     requires { Below 16777216 rest }
     ensures { result ≡ onto (b % 128) rest }
 {
-    match rest {
-        Prefix::Length(n, next) => Prefix::Length(((b % 128) as u32) + 128 * n, next),
-        Prefix::Fault(f) => Prefix::Fault(f),
-    }
+    let (n, next) = rest?;
+    Ok((((b % 128) as u32) + 128 * n, next))
 }
 
 // The groups from `at`: at most `k` bytes may follow the first, which is at least `least` if it is the last; a later last one is at
 // least `later`.
-fn groups(s: &[u8], at: usize, k: u8, least: u8, later: u8) -> Prefix
+fn groups(s: &[u8], at: usize, k: u8, least: u8, later: u8) -> Result<(u32, usize), Refusal>
     requires k_bound { k ≤ 4 }
     requires least_bound { least ≤ 1 }
     requires later_bound { later ≤ 1 }
     ensures { result ≡ prefix_in k least later s.now at }
 {
     if s.len() <= at {
-        return Prefix::Fault(Refusal::CutShort);
+        return Err(Refusal::CutShort);
     }
     let b = s[at];
     if b < least {
-        return Prefix::Fault(Refusal::BadLength);
+        return Err(Refusal::BadLength);
     }
     if k == 0 {
         if 8 <= b {
-            return Prefix::Fault(Refusal::BadLength);
+            return Err(Refusal::BadLength);
         }
         return last_group(b, at + 1);
     }
@@ -67,7 +65,7 @@ fn later_least(setting: Setting) -> u8
 
 // The length prefix at a place. A prefix that the stream ends in is cut short, unless a byte before the end already shows that
 // its length is bad.
-pub fn prefix_at(s: &[u8], at: usize, setting: Setting) -> Prefix
+pub fn prefix_at(s: &[u8], at: usize, setting: Setting) -> Result<(u32, usize), Refusal>
     ensures { result ≡ prefix_at setting s.now at }
 {
     if at < s.len() {

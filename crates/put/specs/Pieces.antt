@@ -1,6 +1,7 @@
 -- What each writer puts out: one law for each way that it ends.
 use Prim.Native.Nat.{ℕ, suc, ◌+◌, ◌-◌, ◌*◌, ◌/◌, ◌%◌, ◌≤◌, ◌<◌}
-use Rattle.std.specs.Prelude.{◌≡◌, take, drop, set, leb}
+use Rattle.std.specs.Prelude.{◌≡◌, take, drop, set, leb, Result, Ok, Err}
+use Rattle.format.specs.declared.Refusal.{Refusal}
 use Rattle.std.specs.Int.{to_le_bytes}
 use Rattle.std.proofs.Math.Path.{refl, ap}
 use Rattle.std.proofs.Common.{sym, ◌∙◌, w32, length-drop, drop_of_length-le, take_all, length-take-le}
@@ -12,8 +13,6 @@ use Rattle.std.proofs.Math.Seq.{take-nil, take-length}
 use Rattle.std.proofs.lemmas.List.Edits.{sets-eq}
 use borrow.Author.Tests.{ne_eqb, le-leb, lt-leb}
 use Rattle.format.specs.declared.Setting.TheVariants as S
-use Rattle.format.specs.declared.Prefix.TheVariants as P
-use Rattle.format.specs.declared.Prefix.{Prefix}
 use Rattle.format.specs.declared.Span.{Span}
 use Rattle.format.specs.Bytes.{laid}
 use Rattle.format.specs.Numbers.{le_bytes}
@@ -133,12 +132,12 @@ module _ (s : List ℕ) (p : ℕ) where
   unfolding span_at
   span_small = go (prefix_at S.Lenient s p) refl
     where
-      go : (r : Prefix) → prefix_at S.Lenient s p ≡ r → (span_from s p r).to - (span_from s p r).from < 2147483648
-      go (P.Length n next) q =
+      go : (r : Result (ℕ × ℕ) Refusal) → prefix_at S.Lenient s p ≡ r → (span_from s p r).to - (span_from s p r).from < 2147483648
+      go (Ok (n, next)) q =
           picked (λ (x : Span). x.to - x.from < 2147483648) (leb (next + n) (length s))
           (λ t. let b = bound S.Lenient s p n next q in omega arith)
           (λ t. omega arith)
-      go (P.Fault f) q = omega arith
+      go (Err f) q = omega arith
 
   pub text_is : (x : Span) → x ≡ span_at s p → text_out s p ≡ prefix_bytes (x.to - x.from) ++ between s x.from x.to
   unfolding text_out

@@ -1,6 +1,7 @@
 -- What holds between two steps: the place is within the stream, each row took a byte or more, the rows are within the table's room, and no more
 -- than 64 objects are open. A step keeps it and moves on.
-use Rattle.std.specs.Prelude.{ℕ, ◌+◌, ◌≤◌, ◌<◌, ◌≡◌, ◌||◌, List, [], ◌∷◌, ◌++◌, get_or, ltb}
+use Rattle.std.specs.Prelude.{ℕ, ◌+◌, ◌≤◌, ◌<◌, ◌≡◌, ◌||◌, List, [], ◌∷◌, ◌++◌, get_or, ltb, Option, Some, None, Result, Ok, Err}
+use Rattle.format.specs.declared.Refusal.{Refusal}
 use Rattle.std.proofs.Math.Path.{refl}
 use native.Mathlib.Omega.{arith}
 use Rattle.std.proofs.Math.ListN.{length, length-append}
@@ -12,17 +13,9 @@ use Rattle.format.specs.declared.PrimitiveCode.{PrimitiveCode}
 use Rattle.format.specs.declared.SlotType.{SlotType}
 use Rattle.format.specs.declared.SlotType.TheVariants as S
 use Rattle.format.specs.declared.Typed.{Typed}
-use Rattle.format.specs.declared.Field.{Field}
-use Rattle.format.specs.declared.Field.TheVariants as F
 use Rattle.format.specs.declared.Where.{Where}
 use Rattle.format.specs.declared.Where.TheVariants as W
-use Rattle.format.specs.declared.Kind.{Kind}
-use Rattle.format.specs.declared.Kind.TheVariants as K
 use Rattle.format.specs.declared.Head.{Head}
-use Rattle.format.specs.declared.Heading.{Heading}
-use Rattle.format.specs.declared.Heading.TheVariants as H
-use Rattle.format.specs.declared.Passed.{Passed}
-use Rattle.format.specs.declared.Passed.TheVariants as O
 use Rattle.format.specs.declared.Row.{Row}
 use Rattle.format.specs.declared.Frame.{Frame}
 use Rattle.format.specs.Values.{value_at}
@@ -86,9 +79,9 @@ module _ (τ : Terms) (s : List ℕ) (room : ℕ) (st : State) (w : Fine s room 
         add_fine (row_in st kind h) (opened st.stack (length st.rows + 1) h t) a b (omega arith))
         (λ d. tt))
 
-    over_fine : (p : Passed) → NextFine s room st.at (run_over room st kind h p)
-    over_fine (O.Over t) = slots_fine h.count t
-    over_fine O.Crossed = tt
+    over_fine : (p : Option Typed) → NextFine s room st.at (run_over room st kind h p)
+    over_fine (Some t) = slots_fine h.count t
+    over_fine None = tt
 
     run_fine : NextFine s room st.at (null_run τ.book s room st kind h)
     unfolding null_run
@@ -106,32 +99,32 @@ module _ (τ : Terms) (s : List ℕ) (room : ℕ) (st : State) (w : Fine s room 
         (omega arith, omega arith))
         (λ t. tt)
 
-  act_fine : (kind : ℕ) (x : Heading) → EndsIn st.at (length s) x → NextFine s room st.at (act τ.book s room st kind x)
+  act_fine : (kind : ℕ) (x : Result Head Refusal) → EndsIn st.at (length s) x → NextFine s room st.at (act τ.book s room st kind x)
   unfolding act
-  act_fine kind (H.Fields h) e =
+  act_fine kind (Ok h) e =
       picked (NextFine s room st.at) (is_object kind) (λ t. object_fine kind h e.0 e.1 (moved τ.book s st.stack.cur.typed))
       (λ t. picked (NextFine s room st.at) (eqb kind 13 || eqb kind 14) (λ u. run_fine kind h e.0 e.1)
       (λ u. picked (NextFine s room st.at) (eqb kind 12) (λ v. add_fine (row_apart st kind h) st.stack e.0 e.1 w.shallow)
       (λ v. picked (NextFine s room st.at) (eqb kind 11) (λ x. end_fine kind h e.0 e.1)
       (λ x. slots_fine kind h e.0 e.1 1 (moved τ.book s st.stack.cur.typed)))))
-  act_fine kind (H.Bad f) e = tt
+  act_fine kind (Err f) e = tt
 
-  kind_fine : (k : Kind) → st.at < length s → NextFine s room st.at (on_kind τ s room st k)
-  kind_fine (K.Taken k) i = act_fine k (heading_at τ s st.rows k st.at) (heading_ends τ s st.rows k st.at i)
-  kind_fine (K.Wrong f) i = tt
+  kind_fine : (k : Result ℕ Refusal) → st.at < length s → NextFine s room st.at (on_kind τ s room st k)
+  kind_fine (Ok k) i = act_fine k (heading_at τ s st.rows k st.at) (heading_ends τ s st.rows k st.at i)
+  kind_fine (Err f) i = tt
 
   pub record_fine : (v : Where) → NextFine s room st.at (record_step τ s room st v)
   unfolding record_step kind_at
   record_fine v =
-      picked (λ (k : Kind). NextFine s room st.at (on_kind τ s room st k)) (ltb st.at (length s))
+      picked (λ (k : Result ℕ Refusal). NextFine s room st.at (on_kind τ s room st k)) (ltb st.at (length s))
       (λ t. kind_fine (kind_of v (get_or s st.at 0)) (ltb-true st.at (length s) t))
       (λ t. tt)
 
-  value_fine : (c : PrimitiveCode) (v : Field) → value_at τ.setting s c st.at ≡ v → NextFine s room st.at (on_value τ.book s room st c v)
-  value_fine c (F.End end) e =
+  value_fine : (c : PrimitiveCode) (v : Result ℕ Refusal) → value_at τ.setting s c st.at ≡ v → NextFine s room st.at (on_value τ.book s room st c v)
+  value_fine c (Ok end) e =
       let m = value_moves τ.setting s c st.at end e in
       slots_fine 32 (value_head c end) m.0 m.1 1 (moved τ.book s st.stack.cur.typed)
-  value_fine c (F.Fault f) e = tt
+  value_fine c (Err f) e = tt
 
   slot_fine : (t : SlotType) → NextFine s room st.at (by_slot τ s room st t)
   unfolding value_step

@@ -1,5 +1,6 @@
 -- The loop over the steps is `run`: what is left to run gives what the whole gives.
-use Rattle.std.specs.Prelude.{ℕ, zero, suc, pred, ◌+◌, ◌/◌, ◌≤◌, ◌<◌, ◌≡◌, refl, List, length}
+use Rattle.std.specs.Prelude.{ℕ, zero, suc, pred, ◌+◌, ◌/◌, ◌≤◌, ◌<◌, ◌≡◌, refl, List, length, Err, Result, Ok}
+use Rattle.format.specs.declared.Refused.{Refused}
 use Rattle.std.proofs.Common.{sym, ap, subst, ◌∙◌, arith, le-ltb}
 use Rattle.std.proofs.lemmas.Bool.{lt-leb}
 use Rattle.format.specs.Terms.{Terms}
@@ -10,7 +11,6 @@ use Rattle.format.specs.declared.PrimitiveCode.{PrimitiveCode}
 use Rattle.format.specs.declared.PrimitiveCode.TheVariants as C
 use Rattle.format.specs.declared.SlotType.{SlotType}
 use Rattle.format.specs.declared.SlotType.TheVariants as S
-use Rattle.format.specs.declared.Field.TheVariants as F
 use Rattle.format.specs.declared.Where.{Where}
 use Rattle.format.specs.declared.Where.TheVariants as W
 use Rattle.format.specs.declared.Reader.{Reader}
@@ -22,14 +22,14 @@ use Rattle.prefix.specs.Laws.{short}
 use Rattle.num.specs.Read.{u64_short}
 use Rattle.table.specs.Rows.{length_rows_of}
 use Rattle.frames.specs.Laws.{length_saved}
-use Rattle.adding.specs.declared.Step.{Step}
-use Rattle.adding.specs.declared.Step.TheVariants as Q
+use Rattle.adding.specs.declared.Progress.{Progress}
+use Rattle.adding.specs.declared.Progress.TheVariants as Q
 use Rattle.adding.specs.Held.{state_of, after, Held}
 use Rattle.reader.specs.Fine.{Fine, NextFine, step_fine}
 
 -- ---- past the end a step is cut short, which is what no fuel says
 
-value_past : (τ : Terms) (s : List ℕ) (p : ℕ) → length s ≤ p → (c : PrimitiveCode) → value_at τ.setting s c p ≡ F.Fault R.CutShort
+value_past : (τ : Terms) (s : List ℕ) (p : ℕ) → length s ≤ p → (c : PrimitiveCode) → value_at τ.setting s c p ≡ Err R.CutShort
 unfolding value_at bytes_at boolean_at char_at decimal_at date_time_at
 value_past τ s p h C.Boolean = rw (le-ltb p (length s) h)
 value_past τ s p h C.Byte = rw (lt-leb (p + 1) (length s) (omega arith))
@@ -93,7 +93,7 @@ pub record Runs (τ : Terms) (s : List ℕ) (room : ℕ) (whole : Outcome) (t f 
   pub enough : length s ≤ m.at + fuel
   pub same : run τ fuel s room (state_of t f m) ≡ whole
 
-module _ (τ : Terms) {s t f : List ℕ} {room : ℕ} {whole : Outcome} {m : Reader} (i : Runs τ s room whole t f m) (u g : List ℕ) (q : Step) (e : after u g q ≡ step τ s room (state_of t f m)) where
+module _ (τ : Terms) {s t f : List ℕ} {room : ℕ} {whole : Outcome} {m : Reader} (i : Runs τ s room whole t f m) (u g : List ℕ) (q : Result Progress Refused) (e : after u g q ≡ step τ s room (state_of t f m)) where
   -- what a step's answer says of the whole run
   told : whole ≡ onward s (run τ (pred i.fuel) s room) (after u g q)
   told = sym i.same ∙ run_open τ i.fuel s room (state_of t f m) i.enough ∙ ap (onward s (run τ (pred i.fuel) s room)) (sym e)
@@ -101,13 +101,13 @@ module _ (τ : Terms) {s t f : List ℕ} {room : ℕ} {whole : Outcome} {m : Rea
   after_fine : NextFine s room m.at (after u g q)
   after_fine = subst (λ (x : Next). NextFine s room m.at x) (sym e) (step_fine τ s room (state_of t f m) i.fine)
 
-  went : (n : Reader) → q ≡ Q.Go n → NextFine s room m.at (go (state_of u g n))
-  went n k = subst (λ (x : Step). NextFine s room m.at (after u g x)) k after_fine
+  went : (n : Reader) → q ≡ Ok (Q.Go n) → NextFine s room m.at (go (state_of u g n))
+  went n k = subst (λ (x : Result Progress Refused). NextFine s room m.at (after u g x)) k after_fine
 
-  pub moves_on : (n : Reader) → q ≡ Q.Go n → (m.at < n.at) × (n.at ≤ length s)
+  pub moves_on : (n : Reader) → q ≡ Ok (Q.Go n) → (m.at < n.at) × (n.at ≤ length s)
   moves_on n k = let w = went n k in (w.1, w.0.inside)
 
-  pub gone : (n : Reader) → q ≡ Q.Go n → length g ≡ 384 → Runs τ s room whole u g n
+  pub gone : (n : Reader) → q ≡ Ok (Q.Go n) → length g ≡ 384 → Runs τ s room whole u g n
   gone n k l =
       let w = went n k in
       let a = w.1 in
@@ -117,22 +117,22 @@ module _ (τ : Terms) {s t f : List ℕ} {room : ℕ} {whole : Outcome} {m : Rea
         fine = w.0;
         fuel = pred i.fuel;
         enough = omega arith;
-        same = sym (told ∙ ap (λ (x : Step). onward s (run τ (pred i.fuel) s room) (after u g x)) k);
+        same = sym (told ∙ ap (λ (x : Result Progress Refused). onward s (run τ (pred i.fuel) s room) (after u g x)) k);
       }
 
-  pub ends : (n p : ℕ) → q ≡ Q.Ended n p → finish s (rows_of n u) p ≡ whole
-  ends n p k = sym (told ∙ ap (λ (x : Step). onward s (run τ (pred i.fuel) s room) (after u g x)) k)
+  pub ends : (n p : ℕ) → q ≡ Ok (Q.Ended n p) → finish s (rows_of n u) p ≡ whole
+  ends n p k = sym (told ∙ ap (λ (x : Result Progress Refused). onward s (run τ (pred i.fuel) s room) (after u g x)) k)
 
-  pub ends_roomy : (n p : ℕ) → q ≡ Q.Ended n p → (n ≤ room) × (n ≤ length s)
+  pub ends_roomy : (n p : ℕ) → q ≡ Ok (Q.Ended n p) → (n ≤ room) × (n ≤ length s)
   ends_roomy n p k =
-      let w : NextFine s room m.at (ended (rows_of n u) p) = subst (λ (x : Step). NextFine s room m.at (after u g x)) k after_fine in
+      let w : NextFine s room m.at (ended (rows_of n u) p) = subst (λ (x : Result Progress Refused). NextFine s room m.at (after u g x)) k after_fine in
       let l : length (rows_of n u) ≡ n = length_rows_of n u in
       let a = w.0 in
       let b = w.1 in
       (omega arith, omega arith)
 
-  pub refuses : (r : Refusal) (p : ℕ) → q ≡ Q.Refuse r p → refused r p ≡ whole
-  refuses r p k = sym (told ∙ ap (λ (x : Step). onward s (run τ (pred i.fuel) s room) (after u g x)) k)
+  pub refuses : (r : Refusal) (p : ℕ) → q ≡ Err (record { refusal = r; place = p }) → refused r p ≡ whole
+  refuses r p k = sym (told ∙ ap (λ (x : Result Progress Refused). onward s (run τ (pred i.fuel) s room) (after u g x)) k)
 
 -- a table keeps its length, and so its room
 pub same_room : (τ : Terms) (t t₀ s : List ℕ) (st : State) (x : Next) → length t ≡ length t₀ → x ≡ step τ s (room_of t) st → x ≡ step τ s (room_of t₀) st

@@ -1,7 +1,7 @@
 -- What the machine accepts, the grammar allows (01, What may stand where; The table; Replies): the rows of a stream that is accepted show a reading
 -- of it, and fit the table.
 use Prim.Native.Nat.{ℕ, zero, suc, ◌+◌, ◌-◌, ◌≤◌}
-use Rattle.std.specs.Prelude.{◌≡◌, false, get_or, ltb}
+use Rattle.std.specs.Prelude.{◌≡◌, false, get_or, ltb, Result, Ok, Err}
 use Rattle.std.proofs.Math.Path.{refl, ap, subst}
 use Rattle.std.proofs.Common.{sym, ◌∙◌}
 use Rattle.std.proofs.Math.Bool.{true}
@@ -15,11 +15,7 @@ use Rattle.format.specs.declared.Refusal.{Refusal}
 use Rattle.format.specs.declared.Refusal.TheVariants as R
 use Rattle.format.specs.declared.SlotType.{SlotType}
 use Rattle.format.specs.declared.Where.TheVariants as W
-use Rattle.format.specs.declared.Kind.{Kind}
-use Rattle.format.specs.declared.Kind.TheVariants as K
 use Rattle.format.specs.declared.Head.{Head}
-use Rattle.format.specs.declared.Heading.{Heading}
-use Rattle.format.specs.declared.Heading.TheVariants as H
 use Rattle.format.specs.declared.Row.{Row}
 use Rattle.format.specs.declared.Frame.{Frame}
 use Rattle.format.specs.Rows.{blank, object_row, find_from, is_lost, linked}
@@ -109,7 +105,7 @@ module _ (τ : Terms) (s : List ℕ) (byte : Bytes s) (room : ℕ) (rows : List 
   abbrev Begins : Next → Type 0
   Begins x = begin τ s room x ≡ accepted rows → Began
 
-  header_good : (h : Head) → Back τ s [] 0 0 h → Begins (act τ.book s room start 0 (H.Fields h))
+  header_good : (h : Head) → Back τ s [] 0 0 h → Begins (act τ.book s room start 0 (Ok h))
   unfolding act add filled close
   header_good h d =
       picked Begins (ltb 0 room)
@@ -120,17 +116,17 @@ module _ (τ : Terms) (s : List ℕ) (byte : Bytes s) (room : ℕ) (rows : List 
       })
       (λ t e. no_accept R.NoRoom 0 rows e)
 
-  header_heading : kind_at s W.Start 0 ≡ K.Taken 0 → (x : Heading) → heading_at τ s [] 0 0 ≡ x → Begins (act τ.book s room start 0 x)
+  header_heading : kind_at s W.Start 0 ≡ Ok 0 → (x : Result Head Refusal) → heading_at τ s [] 0 0 ≡ x → Begins (act τ.book s room start 0 x)
   unfolding act
-  header_heading q (H.Fields h) e = header_good h (record_told τ s [] W.Start 0 0 h byte q e)
-  header_heading q (H.Bad r) e = λ z. no_accept r 0 rows z
+  header_heading q (Ok h) e = header_good h (record_told τ s [] W.Start 0 0 h byte q e)
+  header_heading q (Err r) e = λ z. no_accept r 0 rows z
 
-  header_kind : (x : Kind) → kind_at s W.Start 0 ≡ x → Begins (on_kind τ s room start x)
+  header_kind : (x : Result ℕ Refusal) → kind_at s W.Start 0 ≡ x → Begins (on_kind τ s room start x)
   unfolding allowed
-  header_kind (K.Taken k) q =
+  header_kind (Ok k) q =
       let z : k ≡ 0 = eqb-true k 0 (kind_byte s W.Start 0 k q).fits in
-      subst (λ (k : ℕ). kind_at s W.Start 0 ≡ K.Taken k → Begins (on_kind τ s room start (K.Taken k))) (sym z) (λ q. header_heading q (heading_at τ s [] 0 0) refl) q
-  header_kind (K.Wrong r) q = λ z. no_accept r 0 rows z
+      subst (λ (k : ℕ). kind_at s W.Start 0 ≡ Ok k → Begins (on_kind τ s room start (Ok k))) (sym z) (λ q. header_heading q (heading_at τ s [] 0 0) refl) q
+  header_kind (Err r) q = λ z. no_accept r 0 rows z
 
   header_began : Begins (record_step τ s room start W.Start)
   unfolding record_step

@@ -1,13 +1,12 @@
 -- The type bytes of a class never stand at the start of a stream (01, Records), so the slots of an object of a class are walked, and those of an
 -- array are alike and not primitive.
-use Rattle.std.specs.Prelude.{ℕ, zero, suc, ◌+◌, ◌-◌, ◌<◌, ◌≡◌, refl, Bool, true, false, List, [], ◌∷◌, ◌++◌, length, get_or, replicate, eqb}
+use Rattle.std.specs.Prelude.{ℕ, zero, suc, ◌+◌, ◌-◌, ◌<◌, ◌≡◌, refl, Bool, true, false, List, [], ◌∷◌, ◌++◌, length, get_or, replicate, eqb, Ok}
 use Rattle.std.proofs.Common.{sym, ap, ◌∙◌, subst, arith}
 use borrow.Author.Tests.{eqb-false}
 use Rattle.format.specs.Terms.{Terms}
 use Rattle.format.specs.declared.SlotType.{SlotType}
 use Rattle.format.specs.declared.Typed.{Typed}
 use Rattle.format.specs.declared.Head.{Head}
-use Rattle.format.specs.declared.Heading.TheVariants as H
 use Rattle.format.specs.declared.Row.{Row}
 use Rattle.format.specs.Numbers.{u32_at, negative}
 use Rattle.format.specs.Values.{times}
@@ -113,7 +112,7 @@ module _ (τ : Terms) (s : List ℕ) (rows : List Row) (at : ℕ) (h : Head) whe
   plain_first : (k : ℕ) → is_class k ≡ false → h.slots ≡ 0 → First k h
   plain_first k c e = (λ t. absurd (let f : true ≡ false = sym t ∙ c in let z : ◌≡◌ {A = ℕ} 0 1 = cc in omega arith), λ l. absurd (omega arith))
 
-  class_first_lem : (k : ℕ) (own : Bool) → heading_at τ s rows k at ≡ class_at τ.setting s rows own at → heading_at τ s rows k at ≡ H.Fields h → First k h
+  class_first_lem : (k : ℕ) (own : Bool) → heading_at τ s rows k at ≡ class_at τ.setting s rows own at → heading_at τ s rows k at ≡ Ok h → First k h
   class_first_lem k own e f =
       let w = subst (Said (λ (h : Head). (0 < h.link) × Walked h)) (sym e ∙ f) (class_walked τ s rows at own) in
       (λ t. w.0, λ l. walked_free h w.1)
@@ -125,7 +124,7 @@ module _ (τ : Terms) (s : List ℕ) (rows : List Row) (at : ℕ) (h : Head) whe
   array_class (of_any a b c d e) = refl
   array_class (of_values a b c) = refl
 
-  first_of : (k : ℕ) (r : Rec) (id count class : ℕ) (ts : List SlotType) {es : List Entry} → AllLater rows → heading_at τ s rows k at ≡ H.Fields h
+  first_of : (k : ℕ) (r : Rec) (id count class : ℕ) (ts : List SlotType) {es : List Entry} → AllLater rows → heading_at τ s rows k at ≡ Ok h
       → h.slots ≡ length ts → slots_from τ.book s h.first h.slots ≡ ts → Good τ es k r id count class ts → First k h
   first_of k r id count class ts w e l q (is_header a b) = plain_first 0 refl l
   first_of k r id count class ts w e l q (is_class_by_id a b c) =
@@ -146,5 +145,5 @@ module _ (τ : Terms) (s : List ℕ) (rows : List Row) (at : ℕ) (h : Head) whe
     λ x z. array_first τ h.first.slot (slots_from τ.book s (moved τ.book s h.first) (h.slots - 1)) b (sym (slots_next τ.book s h.first h.slots x) ∙ q),
   )
 
-  pub heading_first : (k : ℕ) → AllLater rows → heading_at τ s rows k at ≡ H.Fields h → Back τ s rows k at h → First k h
+  pub heading_first : (k : ℕ) → AllLater rows → heading_at τ s rows k at ≡ Ok h → Back τ s rows k at h → First k h
   heading_first k w e b = first_of k b.rec b.id b.count b.class b.types w e (told_slots b.told) b.told.slots_are b.good

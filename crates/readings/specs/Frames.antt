@@ -1,7 +1,7 @@
 -- The open objects and the types of their slots, in the words of the grammar (01, What may stand where): what may stand next, and the slots that are
 -- left after it.
 use Prim.Native.Nat.{ℕ, zero, suc, ◌+◌, ◌-◌, ◌≤◌, ◌<◌}
-use Rattle.std.specs.Prelude.{◌≡◌, Bool, true, false, ◌||◌, List, ◌∷◌, take, eqb}
+use Rattle.std.specs.Prelude.{◌≡◌, Bool, true, false, ◌||◌, List, ◌∷◌, take, eqb, Option, Some}
 use Rattle.std.proofs.Math.Path.{refl, ap}
 use Rattle.std.proofs.Common.{sym, ◌∙◌, eqb-true, eq-eqb, ne_eqb}
 use native.Mathlib.Omega.{arith}
@@ -13,8 +13,6 @@ use Rattle.format.specs.declared.SlotType.TheVariants as S
 use Rattle.format.specs.declared.Typed.{Typed}
 use Rattle.format.specs.declared.Where.{Where}
 use Rattle.format.specs.declared.Where.TheVariants as W
-use Rattle.format.specs.declared.Passed.{Passed}
-use Rattle.format.specs.declared.Passed.TheVariants as O
 use Rattle.format.specs.declared.Head.{Head}
 use Rattle.format.specs.declared.Frame.{Frame}
 use Rattle.format.specs.Types.{moved, is_primitive, passed, passed_of}
@@ -77,8 +75,8 @@ module _ (β s : List ℕ) (f : Frame) where
 
 module _ (β s : List ℕ) where
   -- what passes n of the m slots whose first has type t
-  abbrev Passes : Typed → ℕ → ℕ → Passed → Type 0
-  Passes t n m p = (u : Typed) × (p ≡ O.Over u) × (slots_from β s u (m - n) ≡ drop n (slots_from β s t m))
+  abbrev Passes : Typed → ℕ → ℕ → Option Typed → Type 0
+  Passes t n m p = (u : Typed) × (p ≡ Some u) × (slots_from β s u (m - n) ≡ drop n (slots_from β s t m))
 
   alike_drop : (t : Typed) (n m : ℕ) → n ≤ m → moved β s t ≡ t → slots_from β s t (m - n) ≡ drop n (slots_from β s t m)
   unfolding slots_from
@@ -134,7 +132,7 @@ module _ (β s : List ℕ) where
   pub record Passing (f : Frame) (n : ℕ) (us : List SlotType) : Type 0 where
     pub type : Typed
     pub fits : n ≤ f.left
-    pub over : passed_of β s f.typed n ≡ O.Over type
+    pub over : passed_of β s f.typed n ≡ Some type
     pub rest : slots_from β s type (f.left - n) ≡ us
 
   pub run_law : (f : Frame) (n : ℕ) (ts us : List SlotType) → slots_from β s f.typed f.left ≡ ts → n ≤ length ts → all_take (take n ts) ≡ true → us ≡ drop n ts → Passing f n us

@@ -1,6 +1,8 @@
 -- What one step says (01, What may stand where): if the rows that come in the end show what the grammar asks from after the step on, they show it
 -- from before the step on, with the record or value that the step took. Each choice of a step in its turn.
-use Rattle.std.specs.Prelude.{ℕ, suc, ◌+◌, ◌-◌, ◌≤◌, ◌<◌, ◌≡◌, Bool, true, false, ◌||◌, ltb, eqb}
+use Rattle.std.specs.Prelude.{ℕ, suc, ◌+◌, ◌-◌, ◌≤◌, ◌<◌, ◌≡◌, Bool, true, false, ◌||◌, ltb, eqb, Option, Some, None, Result, Ok, Err}
+use Rattle.format.specs.declared.Refusal.{Refusal}
+use Rattle.format.specs.declared.Typed.{Typed}
 use Rattle.std.proofs.Math.Path.{refl, ap, subst}
 use Rattle.std.proofs.Common.{sym, ◌∙◌, drop_of_length-le}
 use mathlib.Core.List.{List, [], ◌∷◌, ◌++◌}
@@ -11,12 +13,8 @@ use Rattle.format.specs.Terms.{Terms}
 use Rattle.format.specs.declared.PrimitiveCode.{PrimitiveCode}
 use Rattle.format.specs.declared.SlotType.{SlotType}
 use Rattle.format.specs.declared.SlotType.TheVariants as S
-use Rattle.format.specs.declared.Field.{Field}
-use Rattle.format.specs.declared.Field.TheVariants as F
 use Rattle.format.specs.declared.Where.{Where}
 use Rattle.format.specs.declared.Head.{Head}
-use Rattle.format.specs.declared.Passed.{Passed}
-use Rattle.format.specs.declared.Passed.TheVariants as O
 use Rattle.format.specs.declared.Row.{Row}
 use Rattle.format.specs.declared.Frame.{Frame}
 use Rattle.format.specs.Values.{value_at}
@@ -147,8 +145,8 @@ module _ (τ : Terms) (s : List ℕ) (room at : ℕ) (rows : List Row) (f : Fram
       picked (NextSaid τ room s (with_open (g ∷ gs))) (ltb f.left h.count) (λ t. tt)
       (λ t. over (ltb-false f.left h.count t) (passed_of τ.book s f.typed h.count) refl)
     where
-      over : h.count ≤ f.left → (x : Passed) → passed_of τ.book s f.typed h.count ≡ x → NextSaid τ room s (with_open (g ∷ gs)) (run_over room (with_open (g ∷ gs)) k h x)
-      over l (O.Over u) q =
+      over : h.count ≤ f.left → (x : Option Typed) → passed_of τ.book s f.typed h.count ≡ x → NextSaid τ room s (with_open (g ∷ gs)) (run_over room (with_open (g ∷ gs)) k h x)
+      over l (Some u) q =
           let n = run_over_lem τ.book s f.typed u h.count f.left b.shaped.based.0.free q l in
           let c = d.told.count_is in
           let m = subst (λ (x : ℕ). Ran τ.book s f.typed u x f.left) c n in
@@ -158,7 +156,7 @@ module _ (τ : Terms) (s : List ℕ) (room at : ℕ) (rows : List Row) (f : Fram
           run_rest τ s f at (length rows) rs is g gs u d.good e p b.shaped.tight b.shaped.based.0 (subst (λ (x : ℕ). x ≤ f.left) c l) m
           (subst (λ (x : ℕ). Rest τ s (filled_by f x u) (g ∷ gs) (after at (length rows) (env_of τ.book s rows) d.rec rs is)) c
           (rest_close τ s (filled_by f h.count u) (g ∷ gs) (after at (length rows) (env_of τ.book s rows) d.rec rs is) r))))
-      over l O.Crossed q = tt
+      over l None q = tt
 
   pub end_said : (gs : List Frame) → Between (with_open gs) → (h : Head) (d : Back τ s rows 11 at h) → allowed (where_in gs (where_of f.typed.slot)) 11 ≡ true
       → NextSaid τ room s (with_open gs) (ending room (with_open gs) h)
@@ -197,8 +195,8 @@ module _ (τ : Terms) (s : List ℕ) (room at : ℕ) (rows : List Row) (f : Fram
           → bare (row_in (with_open (g ∷ gs)) 32 (value_head c end)) ≡ row_of 32 at (value c v) 0 f.owner (f.count - f.left) 0 0
       value_row v z = rw z
 
-      by_value : (x : Field) → value_at τ.setting s c at ≡ x → NextSaid τ room s (with_open (g ∷ gs)) (on_value τ.book s room (with_open (g ∷ gs)) c x)
-      by_value (F.End end) q =
+      by_value : (x : Result ℕ Refusal) → value_at τ.setting s c at ≡ x → NextSaid τ room s (with_open (g ∷ gs)) (on_value τ.book s room (with_open (g ∷ gs)) c x)
+      by_value (Ok end) q =
           let v = value_in s c at in
           let m = member_told τ s c at end byte q in
           let row = row_in (with_open (g ∷ gs)) 32 (value_head c end) in
@@ -212,4 +210,4 @@ module _ (τ : Terms) (s : List ℕ) (room at : ℕ) (rows : List Row) (f : Fram
           fill_one τ s f g gs b.shaped.based.0 b.shaped.tight c₀ c₁ (λ us c₂ x.
           subst (λ (t : SlotType). Slots τ (64 - suc (length gs)) f.owner (f.count - f.left) (t ∷ us) c₀ c₂) (sym e) (member_value m.0 refl x))
           (rest_close τ s (spent τ.book s f) (g ∷ gs) c₁ r)))
-      by_value (F.Fault x) q = tt
+      by_value (Err x) q = tt

@@ -1,10 +1,9 @@
 -- Open objects (01, What may stand where) as the grammar sees them: the types of the slots that are left, a null run over them, and what always
 -- holds of the objects around a place.
-use Rattle.std.specs.Prelude.{ℕ, zero, suc, ◌+◌, ◌-◌, ◌≤◌, ◌<◌, ◌≡◌, refl, Bool, true, false, List, [], ◌∷◌, length, get_or, take, drop, eqb, ltb}
+use Rattle.std.specs.Prelude.{ℕ, zero, suc, ◌+◌, ◌-◌, ◌≤◌, ◌<◌, ◌≡◌, refl, Bool, true, false, List, [], ◌∷◌, length, get_or, take, drop, eqb, ltb, Some, None}
 use Rattle.std.proofs.Common.{sym, ap, ◌∙◌, arith, eqb-true}
 use Rattle.std.proofs.lemmas.Bool.{eqb-false}
 use Rattle.format.specs.declared.Typed.{Typed}
-use Rattle.format.specs.declared.Passed.TheVariants as O
 use Rattle.format.specs.declared.Frame.{Frame}
 use Rattle.format.specs.Bytes.{pick}
 use Rattle.format.specs.Types.{typed_at, past, after_info, next_booked, moved, is_primitive, passed, passed_of}
@@ -63,10 +62,10 @@ pub record Ran (β s : List ℕ) (t u : Typed) (n m : ℕ) : Type 0 where
   pub rest : slots_from β s u (m - n) ≡ drop n (slots_from β s t m)
   pub free : Free u
 
-over_same : (t u : Typed) → O.Over t ≡ O.Over u → t ≡ u
+over_same : (t u : Typed) → Some t ≡ Some u → t ≡ u
 over_same t u e = cc
 
-ran : (β s : List ℕ) (t u : Typed) (n m : ℕ) → Free t → passed β s t n ≡ O.Over u → n ≤ m → Ran β s t u n m
+ran : (β s : List ℕ) (t u : Typed) (n m : ℕ) → Free t → passed β s t n ≡ Some u → n ≤ m → Ran β s t u n m
 unfolding passed slots_from
 ran β s t u zero m f e h =
     let z : m - 0 ≡ m = omega arith in
@@ -75,7 +74,7 @@ ran β s t u zero m f e h =
 ran β s t u (suc n) zero f e h = absurd (omega arith)
 ran β s t u (suc n) (suc m) f e h = go (is_primitive t.slot) refl e (λ q. ran β s (moved β s t) u n m (free_moved β s t f) q (omega arith))
   where
-    go : (b : Bool) → is_primitive t.slot ≡ b → pick b O.Crossed (passed β s (moved β s t) n) ≡ O.Over u → (passed β s (moved β s t) n ≡ O.Over u → Ran β s (moved β s t) u n m)
+    go : (b : Bool) → is_primitive t.slot ≡ b → pick b None (passed β s (moved β s t) n) ≡ Some u → (passed β s (moved β s t) n ≡ Some u → Ran β s (moved β s t) u n m)
         → Ran β s t u (suc n) (suc m)
     go true q e k = absurd (let z : ◌≡◌ {A = ℕ} 0 1 = cc in omega arith)
     go false q e k =
@@ -84,12 +83,12 @@ ran β s t u (suc n) (suc m) f e h = go (is_primitive t.slot) refl e (λ q. ran 
         record { none = rw ((takes_exactly t.slot).0 q) w.none; rest = rw d w.rest; free = w.free }
 
 -- a run over slots that are alike, walked
-walked_alike : (β s : List ℕ) (t : Typed) (n : ℕ) → moved β s t ≡ t → is_primitive t.slot ≡ false → passed β s t n ≡ O.Over t
+walked_alike : (β s : List ℕ) (t : Typed) (n : ℕ) → moved β s t ≡ t → is_primitive t.slot ≡ false → passed β s t n ≡ Some t
 unfolding passed
 walked_alike β s t zero e p = refl
 walked_alike β s t (suc n) e p = rw (p, e) (walked_alike β s t n e p)
 
-pub run_over_lem : (β s : List ℕ) (t u : Typed) (n m : ℕ) → Free t → passed_of β s t n ≡ O.Over u → n ≤ m → Ran β s t u n m
+pub run_over_lem : (β s : List ℕ) (t u : Typed) (n m : ℕ) → Free t → passed_of β s t n ≡ Some u → n ≤ m → Ran β s t u n m
 run_over_lem β s t u n m f e h = go (eqb t.types 0) refl
   where
     go : (b : Bool) → eqb t.types 0 ≡ b → Ran β s t u n m

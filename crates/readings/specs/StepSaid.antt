@@ -1,16 +1,13 @@
 -- What a whole step says (01, What may stand where), along its own choices: a member value, or a kind byte and the record of that kind.
-use Rattle.std.specs.Prelude.{ℕ, ◌≡◌, refl, true, false, ◌||◌, List}
+use Rattle.std.specs.Prelude.{ℕ, ◌≡◌, refl, true, false, ◌||◌, List, Result, Ok, Err}
+use Rattle.format.specs.declared.Refusal.{Refusal}
 use Rattle.std.proofs.Common.{sym, ap, ◌∙◌, eqb-true}
 use Rattle.std.proofs.Math.Path.{subst}
 use Rattle.std.proofs.Math.Dec.{eqb}
 use Rattle.format.specs.Terms.{Terms}
 use Rattle.format.specs.declared.SlotType.{SlotType}
 use Rattle.format.specs.declared.SlotType.TheVariants as S
-use Rattle.format.specs.declared.Kind.{Kind}
-use Rattle.format.specs.declared.Kind.TheVariants as K
 use Rattle.format.specs.declared.Head.{Head}
-use Rattle.format.specs.declared.Heading.{Heading}
-use Rattle.format.specs.declared.Heading.TheVariants as H
 use Rattle.format.specs.declared.Row.{Row}
 use Rattle.format.specs.declared.Frame.{Frame}
 use Rattle.format.specs.Types.{is_primitive}
@@ -43,7 +40,7 @@ module _ (τ : Terms) (s : List ℕ) (byte : Bytes s) (room at : ℕ) (rows : Li
   as_kind k n h e d = subst (λ (m : ℕ). Back τ s rows m at h) (eqb-true k n e) d
 
   good_said : is_primitive next ≡ false → (k : ℕ) (h : Head) → Back τ s rows k at h → First k h → allowed (where_in gs (where_of next)) k ≡ true
-      → P (act τ.book s room st k (H.Fields h))
+      → P (act τ.book s room st k (Ok h))
   unfolding act
   good_said p k h d first w =
       picked P (is_object k) (λ o. object_said τ s room at rows f gs b k h d first w p o)
@@ -54,17 +51,17 @@ module _ (τ : Terms) (s : List ℕ) (byte : Bytes s) (room at : ℕ) (rows : Li
       (λ e. end_said τ s room at rows f gs b h (as_kind k 11 h e d) (subst (λ (m : ℕ). allowed (where_in gs (where_of next)) m ≡ true) (eqb-true k 11 e) w))
       (λ e. plain_said τ s room at rows f gs b k h d first w p o n l e))))
 
-  act_said : is_primitive next ≡ false → (k : ℕ) → kind_at s (where_in gs (where_of next)) at ≡ K.Taken k → (x : Heading) → heading_at τ s rows k at ≡ x
+  act_said : is_primitive next ≡ false → (k : ℕ) → kind_at s (where_in gs (where_of next)) at ≡ Ok k → (x : Result Head Refusal) → heading_at τ s rows k at ≡ x
       → P (act τ.book s room st k x)
   unfolding act
-  act_said p k q (H.Fields h) e =
+  act_said p k q (Ok h) e =
       let d = record_told τ s rows (where_in gs (where_of next)) at k h byte q e in
       good_said p k h d (heading_first τ s rows at h k b.later e d) (kind_byte s (where_in gs (where_of next)) at k q).fits
-  act_said p k q (H.Bad r) e = tt
+  act_said p k q (Err r) e = tt
 
-  kind_said : is_primitive next ≡ false → (x : Kind) → kind_at s (where_in gs (where_of next)) at ≡ x → P (on_kind τ s room st x)
-  kind_said p (K.Taken k) q = act_said p k q (heading_at τ s rows k at) refl
-  kind_said p (K.Wrong r) q = tt
+  kind_said : is_primitive next ≡ false → (x : Result ℕ Refusal) → kind_at s (where_in gs (where_of next)) at ≡ x → P (on_kind τ s room st x)
+  kind_said p (Ok k) q = act_said p k q (heading_at τ s rows k at) refl
+  kind_said p (Err r) q = tt
 
   record_said : (t : SlotType) → next ≡ t → is_primitive t ≡ false → P (record_step τ s room st (where_in gs (where_of t)))
   unfolding record_step

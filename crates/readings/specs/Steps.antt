@@ -1,6 +1,6 @@
 -- What a step of the machine does where a record or a member value stands that the grammar takes (01, What may stand where; Records): one law for an
 -- object without slots, an object with slots, a record that fills one slot, a null run, a library, a member value, the end record and the header.
-use Rattle.std.specs.Prelude.{ℕ, ◌+◌, ◌≤◌, ◌<◌, ◌≡◌, Bool, true, false, ◌||◌, eqb}
+use Rattle.std.specs.Prelude.{ℕ, ◌+◌, ◌≤◌, ◌<◌, ◌≡◌, Bool, true, false, ◌||◌, eqb, Some, Ok}
 use Rattle.std.proofs.Math.Path.{refl, ap}
 use Rattle.std.proofs.Common.{sym, subst, ◌∙◌, arith}
 use mathlib.Core.List.{List, [], ◌∷◌, ◌++◌}
@@ -13,10 +13,7 @@ use Rattle.format.specs.declared.SlotType.TheVariants as S
 use Rattle.format.specs.declared.Typed.{Typed}
 use Rattle.format.specs.declared.Where.{Where}
 use Rattle.format.specs.declared.Where.TheVariants as W
-use Rattle.format.specs.declared.Kind.TheVariants as K
-use Rattle.format.specs.declared.Passed.TheVariants as O
 use Rattle.format.specs.declared.Head.{Head}
-use Rattle.format.specs.declared.Heading.TheVariants as H
 use Rattle.format.specs.declared.Row.{Row}
 use Rattle.format.specs.Types.{alike, moved, is_primitive, passed_of}
 use Rattle.format.specs.Rows.{is_object}
@@ -57,7 +54,7 @@ pub record Allows (o : Open) (k : ℕ) : Type 0 where
 -- the fields that are read of the record r, which stands from at to e
 pub record Taken (τ : Terms) (s : List ℕ) (rows : List Row) (at e k : ℕ) (r : Rec) (id count class : ℕ) (ts : List SlotType) : Type 0 where
   pub head : Head
-  pub fields : heading_at τ s rows k at ≡ H.Fields head
+  pub fields : heading_at τ s rows k at ≡ Ok head
   pub told : Told τ.book s k at head r id count class ts
   pub known : is_kind k ≡ true
   pub free : not_taken k ≡ false
@@ -70,7 +67,7 @@ record_taken τ s rows at e k r id count class ts g w =
     let x = record_read τ s rows at e k r id count class ts g w in
     let q = good_kind τ g in
     let n : x.head.end ≡ e = told_end x.told ∙ sym (stand_size w) in
-    let m : EndsIn at (length s) (H.Fields x.head) = subst (EndsIn at (length s)) x.taken (heading_ends τ s rows k at x.told.inside) in
+    let m : EndsIn at (length s) (Ok x.head) = subst (EndsIn at (length s)) x.taken (heading_ends τ s rows k at x.told.inside) in
     record { head = x.head; fields = x.taken; told = x.told; known = q.0; free = q.1; ends = n; onward = subst (λ (p : ℕ). at < p) n m.0 }
 
 -- ---- the kinds whose record fills one slot and is no object
@@ -125,14 +122,14 @@ module _ (τ : Terms) (s : List ℕ) (room at : ℕ) (rows : List Row) (o : Open
       ∙ adds (row_in (state_at at rows o) 32 (value_head c e)) (filled o 1 (moved τ.book s o.cur.typed)) e h refl
 
   module _ (e k : ℕ) (r : Rec) (id count class : ℕ) (ts : List SlotType) (w : Taken τ s rows at e k r id count class ts) where
-    record_acts : (v : Where) → allowed v k ≡ true → record_step τ s room (state_at at rows o) v ≡ act τ.book s room (state_at at rows o) k (H.Fields w.head)
+    record_acts : (v : Where) → allowed v k ≡ true → record_step τ s room (state_at at rows o) v ≡ act τ.book s room (state_at at rows o) k (Ok w.head)
     unfolding record_step
     record_acts v a =
-        let q : kind_at s v at ≡ K.Taken k = kind_there s v at w.told.inside ∙ (ap (kind_of v) w.told.kind_byte ∙ kind_taken k v w.known w.free a) in
+        let q : kind_at s v at ≡ Ok k = kind_there s v at w.told.inside ∙ (ap (kind_of v) w.told.kind_byte ∙ kind_taken k v w.known w.free a) in
         ap (on_kind τ s room (state_at at rows o)) q ∙ ap (act τ.book s room (state_at at rows o) k) w.fields
 
     slot_acts : (t : SlotType) → is_primitive t ≡ false → allowed (where_in o.below (where_of t)) k ≡ true
-        → by_slot τ s room (state_at at rows o) t ≡ act τ.book s room (state_at at rows o) k (H.Fields w.head)
+        → by_slot τ s room (state_at at rows o) t ≡ act τ.book s room (state_at at rows o) k (Ok w.head)
     slot_acts (S.Primitive c) n a = absurd (let z : ◌≡◌ {A = ℕ} 0 1 = cc in omega arith)
     slot_acts S.Text n a = record_acts _ a
     slot_acts S.Object n a = record_acts _ a
@@ -142,7 +139,7 @@ module _ (τ : Terms) (s : List ℕ) (room at : ℕ) (rows : List Row) (o : Open
     slot_acts S.StringArray n a = record_acts _ a
     slot_acts (S.PrimitiveArray c) n a = record_acts _ a
 
-    step_acts : Allows o k → step τ s room (state_at at rows o) ≡ act τ.book s room (state_at at rows o) k (H.Fields w.head)
+    step_acts : Allows o k → step τ s room (state_at at rows o) ≡ act τ.book s room (state_at at rows o) k (Ok w.head)
     unfolding step
     step_acts a = slot_acts o.cur.typed.slot a.by_record a.fits
 
@@ -168,7 +165,7 @@ module _ (τ : Terms) (s : List ℕ) (room at : ℕ) (rows : List Row) (o : Open
         none [] z = refl
         none (t ∷ ts) z = absurd (omega arith)
 
-    act_fills : Plain k → length rows < room → act τ.book s room (state_at at rows o) k (H.Fields w.head)
+    act_fills : Plain k → length rows < room → act τ.book s room (state_at at rows o) k (Ok w.head)
         ≡ go (state_at e (rows ++ (row_in (state_at at rows o) k w.head ∷ [])) (filled o 1 (moved τ.book s o.cur.typed)))
     unfolding act
     act_fills p h =
@@ -181,12 +178,12 @@ module _ (τ : Terms) (s : List ℕ) (room at : ℕ) (rows : List Row) (o : Open
     fills_goes a f h = step_acts a ∙ act_fills (fills_plain k f) h
 
     -- a null run, over slots that are passed
-    pub run_goes : Allows o k → is_run k ≡ true → length rows < room → count ≤ o.cur.left → (t : Typed) → passed_of τ.book s o.cur.typed count ≡ O.Over t
+    pub run_goes : Allows o k → is_run k ≡ true → length rows < room → count ≤ o.cur.left → (t : Typed) → passed_of τ.book s o.cur.typed count ≡ Some t
         → step τ s room (state_at at rows o) ≡ go (state_at e (rows ++ (row_in (state_at at rows o) k w.head ∷ [])) (filled o count t))
     unfolding act null_run
     run_goes a f h l t p =
         let c : w.head.count ≡ count = w.told.count_is in
-        let q : passed_of τ.book s o.cur.typed w.head.count ≡ O.Over t = ap (passed_of τ.book s o.cur.typed) c ∙ p in
+        let q : passed_of τ.book s o.cur.typed w.head.count ≡ Some t = ap (passed_of τ.book s o.cur.typed) c ∙ p in
         step_acts a
         ∙ rw (run_no_object k f, f, le-ltb o.cur.left w.head.count (omega arith), q)
         (adds (row_in (state_at at rows o) k w.head) (filled o w.head.count t) e h w.ends
@@ -198,7 +195,7 @@ module _ (τ : Terms) (s : List ℕ) (room at : ℕ) (rows : List Row) (o : Open
     unfolding act
     library_goes a f h = step_acts a ∙ by_kind k f
       where
-        by_kind : (k : ℕ) → k ≡ 12 → act τ.book s room (state_at at rows o) k (H.Fields w.head) ≡ go (state_at e (rows ++ (row_apart (state_at at rows o) k w.head ∷ [])) o)
+        by_kind : (k : ℕ) → k ≡ 12 → act τ.book s room (state_at at rows o) k (Ok w.head) ≡ go (state_at e (rows ++ (row_apart (state_at at rows o) k w.head ∷ [])) o)
         by_kind k f = rw f (adds (row_apart (state_at at rows o) 12 w.head) o e h w.ends)
 
     -- the end record
@@ -207,7 +204,7 @@ module _ (τ : Terms) (s : List ℕ) (room at : ℕ) (rows : List Row) (o : Open
     unfolding act ending
     end_goes a f h = step_acts a ∙ by_kind k f
       where
-        by_kind : (k : ℕ) → k ≡ 11 → act τ.book s room (state_at at rows o) k (H.Fields w.head) ≡ ended (rows ++ (row_in (state_at at rows o) k w.head ∷ [])) e
+        by_kind : (k : ℕ) → k ≡ 11 → act τ.book s room (state_at at rows o) k (Ok w.head) ≡ ended (rows ++ (row_in (state_at at rows o) k w.head ∷ [])) e
         by_kind k f =
             rw (f, lt-ltb (length rows) room h) (ap (λ (p : ℕ). ended (rows ++ (row_in (state_at at rows o) 11 w.head ∷ [])) p) w.ends)
 

@@ -1,14 +1,12 @@
 -- What the public jobs and the comparing one reply: the number, the place and the value of a reply, and the reply of the text view.
-use Rattle.std.specs.Prelude.{ℕ, ◌-◌, ◌≡◌}
+use Rattle.std.specs.Prelude.{ℕ, ◌-◌, ◌≡◌, Result, Ok, Err}
+use Rattle.format.specs.declared.Span.{Span}
+use Rattle.format.specs.declared.Refused.{Refused}
+use Rattle.format.specs.declared.Untidied.{Untidied}
+use Rattle.format.specs.declared.Untidied.TheVariants as C
 use Rattle.std.proofs.Common.{sym, ap, subst, ◌∙◌}
 use Rattle.format.specs.declared.Refusal.{Refusal}
 use Rattle.format.specs.declared.Refusal.TheVariants as R
-use Rattle.format.specs.declared.ReadAnswer.{ReadAnswer}
-use Rattle.format.specs.declared.ReadAnswer.TheVariants as A
-use Rattle.format.specs.declared.TidyAnswer.{TidyAnswer}
-use Rattle.format.specs.declared.TidyAnswer.TheVariants as C
-use Rattle.format.specs.declared.Text.{Text}
-use Rattle.format.specs.declared.Text.TheVariants as T
 use Rattle.format.specs.Replies.{number_of, Reply, reply, read_reply, tidy_reply}
 
 pub record Answered (r : Reply) (number place value : ℕ) : Type 0 where
@@ -23,23 +21,23 @@ answered x y n p v e h = subst (λ (z : Reply). Answered z n p v) e h
 -- ---- the text view
 
 -- where a text begins and how many bytes it has; both 0 where there is none
-abbrev pub text_reply : Text → Reply
-text_reply (T.Part from to) = reply 0 from (to - from)
-text_reply (T.Fault f) = reply (number_of R.NoSuchRow) 0 0
+abbrev pub text_reply : Result Span Refusal → Reply
+text_reply (Ok t) = reply 0 t.from (t.to - t.from)
+text_reply (Err f) = reply (number_of R.NoSuchRow) 0 0
 
 -- ---- one law for each reply whose number or value another function has
 
-pub read_refused : (a : ReadAnswer) (r : Refusal) (at k n p v : ℕ) → a ≡ A.Refused r at → k ≡ number_of r
+pub read_refused : (a : Result ℕ Refused) (r : Refusal) (at k n p v : ℕ) → a ≡ Err (record { refusal = r; place = at }) → k ≡ number_of r
     → Answered (reply k at 0) n p v
     → Answered (read_reply a) n p v
 read_refused a r at k n p v e w h = answered _ _ n p v (ap (λ (x : ℕ). reply x at 0) w ∙ ap read_reply (sym e)) h
 
-pub tidy_refused : (a : TidyAnswer) (r : Refusal) (at k n p v : ℕ) → a ≡ C.Refused r at → k ≡ number_of r
+pub tidy_refused : (a : Result ℕ Untidied) (r : Refusal) (at k n p v : ℕ) → a ≡ Err (C.Refused (record { refusal = r; place = at })) → k ≡ number_of r
     → Answered (reply k at 0) n p v
     → Answered (tidy_reply a) n p v
 tidy_refused a r at k n p v e w h = answered _ _ n p v (ap (λ (x : ℕ). reply x at 0) w ∙ ap tidy_reply (sym e)) h
 
-pub text_part : (t : Text) (from to k n p v : ℕ) → t ≡ T.Part from to → k ≡ to - from
+pub text_part : (t : Result Span Refusal) (from to k n p v : ℕ) → t ≡ Ok (record { from = from; to = to }) → k ≡ to - from
     → Answered (reply 0 from k) n p v
     → Answered (text_reply t) n p v
 text_part t from to k n p v e w h = answered _ _ n p v (ap (λ (x : ℕ). reply 0 from x) w ∙ ap text_reply (sym e)) h

@@ -1,5 +1,9 @@
 -- The comparing job from its parts: what a written copy says of its list and its output, and one law for each way that a function ends.
-use Rattle.std.specs.Prelude.{ℕ, ◌-◌, ◌/◌, ◌≤◌, ◌≡◌, refl, Bool, true, false, drop, leb, eqb}
+use Rattle.std.specs.Prelude.{ℕ, ◌-◌, ◌/◌, ◌≤◌, ◌≡◌, refl, Bool, true, false, drop, leb, eqb, Result, Ok, Err, MatchResult}
+use Rattle.format.specs.declared.Untidied.{Untidied}
+use Rattle.format.specs.declared.Uncompared.{Uncompared}
+use Rattle.format.specs.declared.Untidied.TheVariants as Q
+use Rattle.format.specs.declared.Uncompared.TheVariants as S
 use Rattle.std.proofs.Common.{sym, ap, ◌∙◌, arith, leb-true}
 use Rattle.std.proofs.Math.Path.{ap₂}
 use mathlib.Core.List.{List}
@@ -8,11 +12,7 @@ use Rattle.std.proofs.Math.Seq.{take-append_seam}
 use Rattle.format.specs.Terms.{Terms}
 use Rattle.format.specs.declared.Refusal.{Refusal}
 use Rattle.format.specs.declared.Refusal.TheVariants as R
-use Rattle.format.specs.declared.TidyAnswer.{TidyAnswer}
-use Rattle.format.specs.declared.TidyAnswer.TheVariants as Q
 use Rattle.format.specs.declared.Row.{Row}
-use Rattle.format.specs.declared.Sameness.{Sameness}
-use Rattle.format.specs.declared.Sameness.TheVariants as S
 use Rattle.format.specs.Bytes.{pick, same_bytes, laid}
 use Rattle.format.specs.Rows.{room_of}
 use Rattle.format.specs.Machine.{Outcome, accepted, refused, read_of}
@@ -32,17 +32,20 @@ use Rattle.sameness.specs.Laws.{compared_as, Against}
 
 -- ---- two copies
 
--- the answer z of `check::same` is the answer of the comparing
-pub told : (z x : Bool) (l m : List ℕ) → (z ≡ true → l ≡ m) × (l ≡ m → z ≡ true) → z ≡ x → pick x S.Same S.Different ≡ compared_as l m
-told z x l m w h =
-    let e : z ≡ same_bytes l m = bool_ext z (same_bytes l m) (λ i. true_same l m (w.0 i)) (λ i. w.1 (same_eq l m i)) in
-    ap (λ (y : Bool). pick y S.Same S.Different) (sym h ∙ e)
+-- whether they are the same list is the answer of the comparing
+pub told : (z : Bool) (l m : List ℕ) → (z ≡ true → l ≡ m) × (l ≡ m → z ≡ true) → Ok z ≡ compared_as l m
+told z l m w = ap Ok (bool_ext z (same_bytes l m) (λ i. true_same l m (w.0 i)) (λ i. w.1 (same_eq l m i)))
 
-is_same : (z : Bool) → pick z S.Same S.Different ≡ S.Same → z ≡ true
+is_same : (z : Bool) → ◌≡◌ {A = Result Bool Uncompared} (Ok z) (Ok true) → z ≡ true
 is_same true e = refl
 is_same false e = absurd (let z : ◌≡◌ {A = ℕ} 0 1 = cc in omega arith)
 
 -- ---- one tidying
+
+-- an answer that `map_err` hands on as `Ok` was `Ok` before
+pub kept : (r : Result ℕ Untidied) (n : ℕ) → MatchResult r (λ (x : ℕ). ◌≡◌ {A = Result ℕ Uncompared} (Ok n) (Ok x)) (λ (e : Untidied). ⊥) → r ≡ Ok n
+kept (Ok x) n q = let w : n ≡ x = cc in ap Ok (sym w)
+kept (Err e) n q = absurd q
 
 -- the list s with this book and this outcome has its tidy copy in an output that held d
 record Copy (β s d : List ℕ) (o : Outcome) : Type 0 where
@@ -50,10 +53,10 @@ record Copy (β s d : List ℕ) (o : Outcome) : Type 0 where
   pub reads : o ≡ accepted rows
   pub roomy : length (copied β s o) ≤ length d
   pub small : length (tidy_of (says β s rows)) ≤ 16777216
-  pub answer : tidy_answer β s d o ≡ Q.Written (length (copied β s o))
+  pub answer : tidy_answer β s d o ≡ Ok (length (copied β s o))
   pub output : tidy_output β s d o ≡ laid (copied β s o) d
 
-fitting : (f : Bool) (n : ℕ) → is_written (pick f (Q.Written n) (Q.OutFull n)) ≡ true → f ≡ true
+fitting : (f : Bool) (n : ℕ) → is_written (pick f (Ok n) (Err (Q.OutFull n))) ≡ true → f ≡ true
 fitting true n h = refl
 fitting false n h = apart h
 
@@ -68,12 +71,12 @@ copy_of β s d (accepted rows) h =
       reads = refl;
       roomy = leb-true (length c) (length d) b.0;
       small = leb-true (length c) 16777216 b.1;
-      answer = ap (λ (x : Bool). pick x (Q.Written (length c)) (Q.OutFull (length c))) f;
+      answer = ap (λ (x : Bool). pick x (Ok (length c)) (Err (Q.OutFull (length c)))) f;
       output = ap (λ (x : Bool). pick x (laid c d) d) f;
     }
 copy_of β s d (refused r p) h = apart h
 
-module _ (τ : Terms) (s t d u e : List ℕ) (p : TidyAnswer) (w : TidyPromise τ s t d p u e) (n : ℕ) (h : p ≡ Q.Written n) where
+module _ (τ : Terms) (s t d u e : List ℕ) (p : Result ℕ Untidied) (w : TidyPromise τ s t d p u e) (n : ℕ) (h : p ≡ Ok n) where
   copy_in : Copy τ.book s d (read_of τ s (room_of t))
   copy_in = copy_of τ.book s d (read_of τ s (room_of t)) (sym (ap is_written w.answer) ∙ ap is_written h)
 
@@ -92,21 +95,18 @@ module _ (τ : Terms) (s t d u e : List ℕ) (p : TidyAnswer) (w : TidyPromise �
 
 -- ---- the second list against a copy of the first
 
-module _ (τ : Terms) (copy b t d u f : List ℕ) (p : TidyAnswer) (w : TidyPromise τ b t d p u f) where
-  abbrev answers : TidyAnswer → Sameness
-  answers x = answer_of (Q.Written (length copy)) x (same_bytes copy (copied τ.book b (read_of τ b (room_of t))))
+module _ (τ : Terms) (copy b t d u f : List ℕ) (p : Result ℕ Untidied) (w : TidyPromise τ b t d p u f) where
+  abbrev answers : Result ℕ Untidied → Result Bool Uncompared
+  answers x = answer_of (Ok (length copy)) x (same_bytes copy (copied τ.book b (read_of τ b (room_of t))))
 
-  ends : (x : TidyAnswer) → p ≡ x → (q : Sameness) → q ≡ answers x → Against τ copy b t d u f q
+  ends : (x : Result ℕ Untidied) → p ≡ x → (q : Result Bool Uncompared) → q ≡ answers x → Against τ copy b t d u f q
   ends x h q e = record { answer = e ∙ ap answers (sym h ∙ w.answer); table = w.table; second = w.output }
 
-  pub second_written : (n : ℕ) → p ≡ Q.Written n → (q : Sameness) → q ≡ compared_as copy (take (n - 0) (drop 0 f)) → Against τ copy b t d u f q
-  second_written n h q e = ends (Q.Written n) h q (e ∙ ap (compared_as copy) (front τ b t d u f p w n h))
+  pub second_written : (n : ℕ) → p ≡ Ok n → (q : Result Bool Uncompared) → q ≡ compared_as copy (take (n - 0) (drop 0 f)) → Against τ copy b t d u f q
+  second_written n h q e = ends (Ok n) h q (e ∙ ap (compared_as copy) (front τ b t d u f p w n h))
 
-  pub second_refused : (r : Refusal) (x : ℕ) → p ≡ Q.Refused r x → Against τ copy b t d u f (S.SecondRefused r x)
-  second_refused r x h = ends (Q.Refused r x) h (S.SecondRefused r x) refl
-
-  pub second_full : (n : ℕ) → p ≡ Q.OutFull n → Against τ copy b t d u f (S.SecondFull n)
-  second_full n h = ends (Q.OutFull n) h (S.SecondFull n) refl
+  pub second_none : (why : Untidied) → p ≡ Err why → Against τ copy b t d u f (Err (S.Second why))
+  second_none why h = ends (Err why) h (Err (S.Second why)) refl
 
 -- ---- in numbers
 
@@ -136,30 +136,27 @@ number_not_0 R.NoSuchRow = refl
 number_not_0 R.BadBook = refl
 
 -- the reply of an answer is that of the tidying that ends it
-ended_by : (p q : TidyAnswer) (z : Bool) → same_reply (answer_of p q z) ≡ of_comparing (tidy_reply p) (tidy_reply q)
-ended_by (Q.Written m) (Q.Written n) true = refl
-ended_by (Q.Written m) (Q.Written n) false = refl
-ended_by (Q.Written m) (Q.Refused r x) z = sym (ap (λ (b : Bool). pick b (reply 0 0 0) (reply (number_of r) x 0)) (number_not_0 r))
-ended_by (Q.Written m) (Q.OutFull n) z = refl
-ended_by (Q.Refused r x) q z =
-    sym (ap (λ (b : Bool). pick b (pick (eqb (tidy_reply q).number 0) (reply 0 0 0) (tidy_reply q)) (reply (number_of r) x 0)) (number_not_0 r))
-ended_by (Q.OutFull m) q z = refl
+ended_by : (p q : Result ℕ Untidied) (z : Bool) → same_reply (answer_of p q z) ≡ of_comparing (tidy_reply p) (tidy_reply q)
+ended_by (Ok m) (Ok n) z = refl
+ended_by (Ok m) (Err (Q.Refused r)) z = sym (ap (λ (b : Bool). pick b (reply 0 0 0) (reply (number_of r.refusal) r.place 0)) (number_not_0 r.refusal))
+ended_by (Ok m) (Err (Q.OutFull n)) z = refl
+ended_by (Err (Q.Refused r)) q z =
+    sym (ap (λ (b : Bool). pick b (pick (eqb (tidy_reply q).number 0) (reply 0 0 0) (tidy_reply q)) (reply (number_of r.refusal) r.place 0)) (number_not_0 r.refusal))
+ended_by (Err (Q.OutFull m)) q z = refl
 
 -- ---- both lists
 
-both_written : (p q : TidyAnswer) (z : Bool) → is_compared (answer_of p q z) ≡ true → (is_written p ≡ true) × (is_written q ≡ true)
-both_written (Q.Written m) (Q.Written n) z h = (refl, refl)
-both_written (Q.Written m) (Q.Refused r x) z h = apart h
-both_written (Q.Written m) (Q.OutFull n) z h = apart h
-both_written (Q.Refused r x) q z h = apart h
-both_written (Q.OutFull m) q z h = apart h
+both_written : (p q : Result ℕ Untidied) (z : Bool) → is_compared (answer_of p q z) ≡ true → (is_written p ≡ true) × (is_written q ≡ true)
+both_written (Ok m) (Ok n) z h = (refl, refl)
+both_written (Ok m) (Err why) z h = apart h
+both_written (Err why) q z h = apart h
 
 module _ (τ υ : Terms) (a b t c d : List ℕ) where
   -- the answer by what came of the first list, where the second is tidied with a table of k words
-  abbrev answer_by : ℕ → TidyAnswer → Sameness
+  abbrev answer_by : ℕ → Result ℕ Untidied → Result Bool Uncompared
   answer_by k x = answer_of x (tidy_answer υ.book b d (read_of υ b (k / 8))) (same_bytes (copied τ.book a (read_of τ a (room_of t))) (copied υ.book b (read_of υ b (k / 8))))
 
-  abbrev Answer : Sameness → Type 0
+  abbrev Answer : Result Bool Uncompared → Type 0
   Answer q = q ≡ answer_by (length t) (tidy_answer τ.book a c (read_of τ a (room_of t)))
 
   -- and its reply
@@ -169,7 +166,7 @@ module _ (τ υ : Terms) (a b t c d : List ℕ) where
       ∙ ap₂ of_comparing (tidy_promised τ a t c _ _ _ refl refl refl).numbers (tidy_promised υ b t d _ _ _ refl refl refl).numbers
 
   -- an answer that compares is right about what the lists mean
-  right : Bytes τ.book → Bytes a → Bytes υ.book → Bytes b → (q : Sameness) → Answer q → is_compared q ≡ true → Exact τ υ a b (room_of t) q
+  right : Bytes τ.book → Bytes a → Bytes υ.book → Bytes b → (q : Result Bool Uncompared) → Answer q → is_compared q ≡ true → Exact τ υ a b (room_of t) q
   right booked byte other octet q e h =
       let o = read_of τ a (room_of t) in
       let r = read_of υ b (room_of t) in
@@ -183,7 +180,7 @@ module _ (τ υ : Terms) (a b t c d : List ℕ) where
       let mean = same_meant τ υ one.0 two.0 in
       let k = ap (copied τ.book a) x.reads in
       let l = ap (copied υ.book b) y.reads in
-      let z : q ≡ pick equal S.Same S.Different = e ∙ ap₂ (λ (i j : TidyAnswer). answer_of i j equal) x.answer y.answer in
+      let z : q ≡ Ok equal = e ∙ ap₂ (λ (i j : Result ℕ Untidied). answer_of i j equal) x.answer y.answer in
       record {
         rows = x.rows;
         others = y.rows;
@@ -193,18 +190,18 @@ module _ (τ υ : Terms) (a b t c d : List ℕ) where
         second_fits = two.1;
         exactly = (
           λ i. mean.0 (say.1 (sym k ∙ (same_eq (copied τ.book a o) (copied υ.book b r) (is_same equal (sym z ∙ i)) ∙ l))),
-          λ i. z ∙ ap (λ (j : Bool). pick j S.Same S.Different) (true_same (copied τ.book a o) (copied υ.book b r) (k ∙ (say.0 (mean.1 i) ∙ sym l))),
+          λ i. z ∙ ap (λ (j : Bool). Ok j) (true_same (copied τ.book a o) (copied υ.book b r) (k ∙ (say.0 (mean.1 i) ∙ sym l))),
         );
       }
 
-  module _ (u e : List ℕ) (p : TidyAnswer) (w : TidyPromise τ a t c p u e) where
-    abbrev table_by : ℕ → TidyAnswer → List ℕ
+  module _ (u e : List ℕ) (p : Result ℕ Untidied) (w : TidyPromise τ a t c p u e) where
+    abbrev table_by : ℕ → Result ℕ Untidied → List ℕ
     table_by k x = pick (is_written x) (tidy_table k υ.book b d (read_of υ b (k / 8))) (tidy_table (length t) τ.book a c (read_of τ a (room_of t)))
 
-    abbrev second_by : ℕ → TidyAnswer → List ℕ
+    abbrev second_by : ℕ → Result ℕ Untidied → List ℕ
     second_by k x = pick (is_written x) (tidy_output υ.book b d (read_of υ b (k / 8))) d
 
-    answered : (x : TidyAnswer) → p ≡ x → (v f : List ℕ) (q : Sameness) → q ≡ answer_by (length t) x
+    answered : (x : Result ℕ Untidied) → p ≡ x → (v f : List ℕ) (q : Result Bool Uncompared) → q ≡ answer_by (length t) x
         → (Answer q → is_compared q ≡ true → Exact τ υ a b (room_of t) q) → v ≡ table_by (length t) x → f ≡ second_by (length t) x → ComparePromise τ υ a b t c d q v e f
     answered x h v f q y g i j =
         let k : x ≡ tidy_answer τ.book a c (read_of τ a (room_of t)) = sym h ∙ w.answer in
@@ -219,21 +216,18 @@ module _ (τ υ : Terms) (a b t c d : List ℕ) where
         }
 
     -- the table is as long as it was, so the second reading has the same room
-    pub first_written : Bytes τ.book → Bytes a → Bytes υ.book → Bytes b → length u ≡ length t → (m : ℕ) → p ≡ Q.Written m → (v f : List ℕ) (q : Sameness)
+    pub first_written : Bytes τ.book → Bytes a → Bytes υ.book → Bytes b → length u ≡ length t → (m : ℕ) → p ≡ Ok m → (v f : List ℕ) (q : Result Bool Uncompared)
         → Against υ (take (m - 0) (drop 0 e)) b u d v f q → ComparePromise τ υ a b t c d q v e f
     first_written booked byte other octet l m h v f q g =
         let r = read_of υ b (room_of u) in
         let i = front τ a t c u e p w m h in
-        let n = ap Q.Written (sym (long τ a t c u e p w m h)) in
-        answered (Q.Written m) h v f q
+        let n = ap Ok (sym (long τ a t c u e p w m h)) in
+        answered (Ok m) h v f q
         (g.answer
-        ∙ (ap (λ (x : List ℕ). answer_of (Q.Written (length x)) (tidy_answer υ.book b d r) (same_bytes x (copied υ.book b r))) i
+        ∙ (ap (λ (x : List ℕ). answer_of (Ok (length x)) (tidy_answer υ.book b d r) (same_bytes x (copied υ.book b r))) i
         ∙ ap₂ answer_by l n))
-        (right booked byte other octet q) (g.table ∙ ap (λ (k : ℕ). table_by k (Q.Written m)) l) (g.second ∙ ap (λ (k : ℕ). second_by k (Q.Written m)) l)
+        (right booked byte other octet q) (g.table ∙ ap (λ (k : ℕ). table_by k (Ok m)) l) (g.second ∙ ap (λ (k : ℕ). second_by k (Ok m)) l)
 
     -- where the first list has no copy, the second is not tidied
-    pub first_refused : (r : Refusal) (x : ℕ) → p ≡ Q.Refused r x → ComparePromise τ υ a b t c d (S.FirstRefused r x) u e d
-    first_refused r x h = answered (Q.Refused r x) h u d (S.FirstRefused r x) refl (λ z i. apart i) w.table refl
-
-    pub first_full : (m : ℕ) → p ≡ Q.OutFull m → ComparePromise τ υ a b t c d (S.FirstFull m) u e d
-    first_full m h = answered (Q.OutFull m) h u d (S.FirstFull m) refl (λ z i. apart i) w.table refl
+    pub first_none : (why : Untidied) → p ≡ Err why → ComparePromise τ υ a b t c d (Err (S.First why)) u e d
+    first_none why h = answered (Err why) h u d (Err (S.First why)) refl (λ z i. apart i) w.table refl

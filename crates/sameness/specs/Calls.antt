@@ -1,12 +1,11 @@
 -- What a caller learns from the promise of the comparing job alone: Same is answered exactly where the lists mean the same, whichever readings are
 -- taken; and two lists whose readings and copies fit are compared.
-use Rattle.std.specs.Prelude.{ℕ, ◌≤◌, ◌≡◌, refl, ◌↔◌, Bool, true, false, List, length}
+use Rattle.std.specs.Prelude.{ℕ, ◌≤◌, ◌≡◌, refl, ◌↔◌, Bool, true, false, List, length, Result, Ok}
+use Rattle.format.specs.declared.Untidied.{Untidied}
+use Rattle.format.specs.declared.Uncompared.{Uncompared}
 use Rattle.std.proofs.Common.{sym, ap, ap₂, ◌∙◌, arith}
 use Rattle.format.specs.Terms.{Terms}
-use Rattle.format.specs.declared.TidyAnswer.{TidyAnswer}
 use Rattle.format.specs.declared.Row.{Row}
-use Rattle.format.specs.declared.Sameness.{Sameness}
-use Rattle.format.specs.declared.Sameness.TheVariants as S
 use Rattle.format.specs.Bytes.{pick, same_bytes}
 use Rattle.format.specs.Rows.{room_of}
 use Rattle.format.specs.Machine.{read_of}
@@ -18,9 +17,9 @@ use Rattle.demands.specs.Calls.{tidy_written}
 use Rattle.demands.specs.Exactly.{one_meaning, as_long}
 use Rattle.sameness.specs.Sameness.{copied, answer_of, is_compared, ComparePromise}
 
-module _ (τ υ : Terms) (a b t c d : List ℕ) (q : Sameness) (u e f : List ℕ) (p : ComparePromise τ υ a b t c d q u e f) where
+module _ (τ υ : Terms) (a b t c d : List ℕ) (q : Result Bool Uncompared) (u e f : List ℕ) (p : ComparePromise τ υ a b t c d q u e f) where
   -- of lists that were compared, by any readings of them
-  pub compared_exactly : is_compared q ≡ true → {rows others : List Row} (w : Reading τ a rows) (v : Reading υ b others) → (q ≡ S.Same) ↔ (meant_by w ≡ meant_by v)
+  pub compared_exactly : is_compared q ≡ true → {rows others : List Row} (w : Reading τ a rows) (v : Reading υ b others) → (q ≡ Ok true) ↔ (meant_by w ≡ meant_by v)
   compared_exactly h w v =
       let x = p.exact h in
       let i = one_meaning τ x.first w in
@@ -37,8 +36,4 @@ module _ (τ υ : Terms) (a b t c d : List ℕ) (q : Sameness) (u e f : List ℕ
       let x = (tidy_written τ a t c rows w i (omega arith) (omega arith) _ _ _ (tidy_promised τ a t c _ _ _ refl refl refl)).0 in
       let y = (tidy_written υ b t d others v j (omega arith) (omega arith) _ _ _ (tidy_promised υ b t d _ _ _ refl refl refl)).0 in
       let same : Bool = same_bytes (copied τ.book a (read_of τ a (room_of t))) (copied υ.book b (read_of υ b (room_of t))) in
-      ap is_compared (p.answer ∙ ap₂ (λ (x y : TidyAnswer). answer_of x y same) x y) ∙ either same
-    where
-      either : (z : Bool) → is_compared (pick z S.Same S.Different) ≡ true
-      either true = refl
-      either false = refl
+      ap is_compared (p.answer ∙ ap₂ (λ (x y : Result ℕ Untidied). answer_of x y same) x y)

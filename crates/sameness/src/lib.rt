@@ -3,20 +3,10 @@
 
 ghost use Rattle.std.specs.Prelude.{◌≡◌};
 ghost use Rattle.sameness.specs.Sameness.{ComparePromise};
-ghost use Rattle.sameness.specs.Laws.{Against, compared_as};
+ghost use Rattle.sameness.specs.Laws.{Against};
 ghost use Rattle.format.specs.Terms.{terms};
 
-use format::{Sameness, Setting, TidyAnswer};
-
-// Whether two copies are equal, as an answer.
-fn compared(copy: &[u8], other: &[u8]) -> Sameness
-    ensures { result ≡ compared_as copy.now other.now }
-{
-    if check::same(copy, other) {
-        return Sameness::Same;
-    }
-    Sameness::Different
-}
+use format::{Setting, Uncompared};
 
 // The first list has this copy: the second list is tidied, and the copies are compared.
 fn against(
@@ -26,15 +16,11 @@ fn against(
     table: &mut [u32],
     second: &mut [u8],
     setting: Setting,
-) -> Sameness
+) -> Result<bool, Uncompared>
     ensures { Against (terms setting book.now) copy.now b.now table.old second.old table.new second.new result }
 {
-    let q = tidy::tidy(b, book, table, second, setting);
-    match q {
-        TidyAnswer::Written(n) => compared(copy, &second[0..n]),
-        TidyAnswer::Refused(r, place) => Sameness::SecondRefused(r, place),
-        TidyAnswer::OutFull(n) => Sameness::SecondFull(n),
-    }
+    let n = tidy::tidy(b, book, table, second, setting).map_err(Uncompared::Second)?;
+    Ok(copy == &second[..n])
 }
 
 // Compares what the lists in `a` and `b` say, each read with its own book and setting. The tidy copies go to the front of `first` and `second`; the one table serves both readings.
@@ -48,13 +34,9 @@ pub fn say_the_same(
     second: &mut [u8],
     a_setting: Setting,
     b_setting: Setting,
-) -> Sameness
+) -> Result<bool, Uncompared>
     ensures { ComparePromise (terms a_setting a_book.now) (terms b_setting b_book.now) a.now b.now table.old first.old second.old result table.new first.new second.new }
 {
-    let p = tidy::tidy(a, a_book, table, first, a_setting);
-    match p {
-        TidyAnswer::Written(m) => against(&first[0..m], b, b_book, table, second, b_setting),
-        TidyAnswer::Refused(r, place) => Sameness::FirstRefused(r, place),
-        TidyAnswer::OutFull(m) => Sameness::FirstFull(m),
-    }
+    let m = tidy::tidy(a, a_book, table, first, a_setting).map_err(Uncompared::First)?;
+    against(&first[..m], b, b_book, table, second, b_setting)
 }

@@ -1,6 +1,6 @@
 -- A record that stands at a place says, by format's Says, what it says by itself: its fields, the details of its types, its members, and the
 -- record of each kind. Its bytes are those of the encoder, and nothing is asked of the stream after them.
-use Rattle.std.specs.Prelude.{ℕ, suc, ◌+◌, ◌-◌, ◌*◌, ◌≤◌, ◌<◌, ◌≡◌, true, false, ◌||◌, get_or, eqb}
+use Rattle.std.specs.Prelude.{ℕ, suc, ◌+◌, ◌-◌, ◌*◌, ◌≤◌, ◌<◌, ◌≡◌, true, false, ◌||◌, get_or, eqb, Some}
 use Rattle.std.proofs.Math.Path.{refl, sym, ap}
 use Rattle.std.proofs.Common.{subst, ◌∙◌, length-drop, drop-drop, take_at, drop_at, get_or-drop}
 use mathlib.Core.List.{List, [], ◌∷◌, ◌++◌, map, append_assoc}
@@ -9,7 +9,6 @@ use Rattle.std.proofs.Math.ListN.{length, drop, length-append}
 use borrow.Author.Tests.{lt-ltb, le-leb, ne_eqb}
 use Rattle.format.specs.Terms.{Terms}
 use Rattle.format.specs.declared.PrimitiveCode.{PrimitiveCode}
-use Rattle.format.specs.declared.Coded.TheVariants as D
 use Rattle.format.specs.declared.Setting.{Setting}
 use Rattle.format.specs.declared.Setting.TheVariants as Q
 use Rattle.format.specs.declared.Span.{Span}
@@ -192,7 +191,7 @@ module _ (τ : Terms) (s : List ℕ) (c : PrimitiveCode) where
 -- ---- codes
 
 module _ (s q : List ℕ) (c : PrimitiveCode) (p : ℕ) (d : drop p s ≡ code_number c ∷ q) where
-  code_is : primitive_of (get_or s p 0) ≡ D.Code c
+  code_is : primitive_of (get_or s p 0) ≡ Some c
   code_is = rw (byte_there s q (code_number c) p d) (primitive_number c)
 
   pub code_there : code_from s p ≡ c

@@ -1,6 +1,7 @@
 -- The product of the lengths in numbers that do not wrap: above the most slots every product answers alike.
 use Prim.Native.Nat.{ℕ, zero, suc, ◌-◌, ◌*◌, ◌≤◌, ◌<◌}
-use Rattle.std.specs.Prelude.{◌≡◌, Bool, List}
+use Rattle.std.specs.Prelude.{◌≡◌, Bool, List, Option, Some, None, Result, Ok, Err}
+use Rattle.format.specs.declared.Refusal.{Refusal}
 use Rattle.std.proofs.Math.Path.{refl}
 use Rattle.std.proofs.Common.{sym, ap, ◌∙◌, mul-le-mul}
 use Rattle.std.proofs.Math.Bool.{true, false}
@@ -8,10 +9,6 @@ use native.Mathlib.Omega.{arith}
 use Rattle.std.proofs.Math.Dec.{leb}
 use borrow.Author.Tests.{lt-leb, leb-true, leb-false}
 use Rattle.format.specs.declared.Refusal.TheVariants as R
-use Rattle.format.specs.declared.Number32.{Number32}
-use Rattle.format.specs.declared.Number32.TheVariants as N32
-use Rattle.format.specs.declared.Slots.{Slots}
-use Rattle.format.specs.declared.Slots.TheVariants as L
 use Rattle.format.specs.Bytes.{pick}
 use Rattle.format.specs.Numbers.{u32_at, negative}
 use Rattle.format.specs.Records.{on_length, lengths_at}
@@ -20,8 +17,8 @@ use Rattle.format.specs.Records.{on_length, lengths_at}
 unfoldable pub capped : ℕ → ℕ
 capped n = pick (leb n 2147483647) n 2147483648
 
-abbrev pub judged : ℕ → ℕ → Slots
-judged product at = pick (leb product 2147483647) (L.Product product at) (L.Fault R.BadCount)
+abbrev pub judged : ℕ → ℕ → Result (ℕ × ℕ) Refusal
+judged product at = pick (leb product 2147483647) (Ok (product, at)) (Err R.BadCount)
 
 pub capped_within : (n : ℕ) → capped n ≤ 2147483648
 unfolding capped
@@ -49,10 +46,10 @@ module _ (s : List ℕ) where
       each more zero next = let e : p * 0 ≡ q * 0 = omega arith in rw e
       each more (suc n) next = more n next
 
-      go : ((n next : ℕ) → lengths_at s k (p * suc n) next ≡ lengths_at s k (q * suc n) next) → (r : Number32)
+      go : ((n next : ℕ) → lengths_at s k (p * suc n) next ≡ lengths_at s k (q * suc n) next) → (r : Option (ℕ × ℕ))
           → on_length (λ n next. lengths_at s k (p * n) next) r ≡ on_length (λ n next. lengths_at s k (q * n) next) r
-      go more (N32.Value n next) = ap (λ (x : Slots). pick (negative n) (L.Fault R.BadCount) x) (each more n next)
-      go more N32.Short = refl
+      go more (Some (n, next)) = ap (λ (x : Result (ℕ × ℕ) Refusal). pick (negative n) (Err R.BadCount) x) (each more n next)
+      go more None = refl
 
   pub capped_alike : (k p at : ℕ) → lengths_at s k (capped p) at ≡ lengths_at s k p at
   unfolding capped
@@ -78,11 +75,11 @@ module _ (s : List ℕ) where
         go zero h = absurd (omega arith)
         go (suc k) h = let d : suc k - 1 ≡ k = omega arith in rw d
 
-    pub lengths_short : u32_at s at ≡ N32.Short → lengths_at s k p at ≡ L.Fault R.CutShort
+    pub lengths_short : u32_at s at ≡ None → lengths_at s k p at ≡ Err R.CutShort
     lengths_short e = step ∙ rw e
 
-    module _ (n next : ℕ) (e : u32_at s at ≡ N32.Value n next) where
-      pub lengths_bad : negative n ≡ true → lengths_at s k p at ≡ L.Fault R.BadCount
+    module _ (n next : ℕ) (e : u32_at s at ≡ Some (n, next)) where
+      pub lengths_bad : negative n ≡ true → lengths_at s k p at ≡ Err R.BadCount
       lengths_bad g = step ∙ rw (e, g)
 
       pub lengths_step : negative n ≡ false → lengths_at s k p at ≡ lengths_at s (k - 1) (capped (p * n)) next

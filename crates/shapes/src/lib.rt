@@ -5,7 +5,7 @@ ghost use Rattle.std.specs.Prelude.{◌*◌, ◌≤◌, ◌<◌, ◌≡◌};
 ghost use Rattle.format.specs.Records.{good_rank, lengths_at};
 ghost use Rattle.shapes.specs.Lengths.{capped, judged};
 
-use format::{Number32, Reader, Refusal, Slots};
+use format::{Reader, Refusal};
 
 // ---- kind 7: rank and lengths
 
@@ -22,31 +22,27 @@ fn times_length(product: u64, count: u32) -> u64
 }
 
 // The product is judged after the last length.
-fn judge(product: u64, at: usize) -> Slots
+fn judge(product: u64, at: usize) -> Result<(u32, usize), Refusal>
     ensures { result ≡ judged product at }
 {
     if product <= (Reader::MOST_SLOTS as u64) {
-        return Slots::Product(product as u32, at);
+        return Ok((product as u32, at));
     }
-    Slots::Fault(Refusal::BadCount)
+    Err(Refusal::BadCount)
 }
 
-pub fn lengths_at(s: &[u8], rank: u32, at: usize) -> Slots
+pub fn lengths_at(s: &[u8], rank: u32, at: usize) -> Result<(u32, usize), Refusal>
     ensures { result ≡ lengths_at s.now rank 1 at }
 {
-    let mut left = rank;
     let mut product: u64 = 1;
     let mut p = at;
-    while left > 0 {
-        let Number32::Value(count, next) = num::u32_at(s, p) else {
-            return Slots::Fault(Refusal::CutShort);
-        };
+    for _ in 0..rank {
+        let (count, next) = num::u32_at(s, p).ok_or(Refusal::CutShort)?;
         if num::is_negative(count) {
-            return Slots::Fault(Refusal::BadCount);
+            return Err(Refusal::BadCount);
         }
         product = times_length(product, count);
         p = next;
-        left -= 1;
     }
     judge(product, p)
 }

@@ -4,7 +4,7 @@
 ghost use Rattle.std.specs.Prelude.{◌≤◌, ◌<◌, ◌≡◌, length};
 ghost use Rattle.format.specs.Types.{slot_of, typed_at, past, after_text, after_info, book_typed, next_booked, moved, is_primitive, passed_of};
 
-use format::{Passed, SlotType, Typed};
+use format::{SlotType, Typed};
 
 // ---- the types of slots
 
@@ -111,36 +111,24 @@ pub fn move_on(s: &[u8], book: &[u8], t: Typed) -> Typed
 fn is_primitive(slot: SlotType) -> bool
     ensures { result ≡ is_primitive slot }
 {
-    match slot {
-        SlotType::Primitive(_) => true,
-        SlotType::Text => false,
-        SlotType::Object => false,
-        SlotType::SystemClass => false,
-        SlotType::Class => false,
-        SlotType::ObjectArray => false,
-        SlotType::StringArray => false,
-        SlotType::PrimitiveArray(_) => false,
-    }
+    matches!(slot, SlotType::Primitive(_))
 }
 
 // The type of the slot after a null run of n. The slots of an array are alike, and none of them is walked.
-pub fn pass(s: &[u8], book: &[u8], t: Typed, n: u32) -> Passed
+pub fn pass(s: &[u8], book: &[u8], t: Typed, n: u32) -> Option<Typed>
     requires { (length s.now ≤ 16777216) × (length book.now < 4294967296) }
     ensures { result ≡ passed_of book.now s.now t n }
 {
     let types = t.types;
     if types == 0 {
-        return Passed::Over(t);
+        return Some(t);
     }
     let mut u = t;
-    let mut left = n;
-    while left > 0 {
-        let slot = u.slot;
-        if is_primitive(slot) {
-            return Passed::Crossed;
+    for _ in 0..n {
+        if is_primitive(u.slot) {
+            return None;
         }
         u = move_on(s, book, u);
-        left -= 1;
     }
-    Passed::Over(u)
+    Some(u)
 }

@@ -1,12 +1,10 @@
 -- What was judged before stands where the total readers find it: strings, names, names in a row, and details.
-use Rattle.std.specs.Prelude.{ℕ, zero, suc, ◌+◌, ◌-◌, ◌≡◌, Bool, true, false, ◌||◌, List, length, eqb}
+use Rattle.std.specs.Prelude.{ℕ, zero, suc, ◌+◌, ◌-◌, ◌≡◌, Bool, true, false, ◌||◌, List, length, eqb, Ok}
 use Rattle.std.proofs.Common.{sym, ◌∙◌, lt-ltb, le-leb}
 use Rattle.std.proofs.Math.Path.{ap}
 use Rattle.format.specs.declared.Setting.{Setting}
 use Rattle.format.specs.declared.Refusal.TheVariants as R
-use Rattle.format.specs.declared.Text.TheVariants as T
 use Rattle.format.specs.declared.Span.{Span}
-use Rattle.format.specs.declared.Field.TheVariants as F
 use Rattle.format.specs.Bytes.{pick, part}
 use Rattle.format.specs.Text.{well_formed, text_at, string_at, span_at}
 use Rattle.format.specs.Values.{on_end, times}
@@ -22,7 +20,7 @@ use Rattle.spans.specs.Spans.{span_there}
 
 -- ---- strings
 
-module _ (σ : Setting) (s : List ℕ) (p a e : ℕ) (q : string_at σ s p ≡ T.Part a e) where
+module _ (σ : Setting) (s : List ℕ) (p a e : ℕ) (q : string_at σ s p ≡ Ok (record { from = a; to = e })) where
   pub string_span_lem : span_at s p ≡ record { from = a; to = e }
   unfolding text_at judged_at
   string_span_lem =
@@ -38,12 +36,12 @@ module _ (σ : Setting) (s : List ℕ) (p a e : ℕ) (q : string_at σ s p ≡ T
 
 -- ---- names
 
-pub name_after : (σ : Setting) (s : List ℕ) (p e : ℕ) → name_at σ s p ≡ F.End e → after_text s p ≡ e
+pub name_after : (σ : Setting) (s : List ℕ) (p e : ℕ) → name_at σ s p ≡ Ok e → after_text s p ≡ e
 name_after σ s p e q =
     let w = name_told σ s p e q in
     string_after σ s p w.0 e w.1
 
-pub names_after : (σ : Setting) (s : List ℕ) (n p e : ℕ) → times (name_at σ s) n p ≡ F.End e → after_texts s n p ≡ e
+pub names_after : (σ : Setting) (s : List ℕ) (n p e : ℕ) → times (name_at σ s) n p ≡ Ok e → after_texts s n p ≡ e
 unfolding times after_texts
 names_after σ s zero p e q = cc
 names_after σ s (suc n) p e q =
@@ -53,27 +51,27 @@ names_after σ s (suc n) p e q =
 -- ---- details
 
 module _ (s : List ℕ) (p e : ℕ) where
-  code_after : code_at s p ≡ F.End e → past (length s) p ≡ e
+  code_after : code_at s p ≡ Ok e → past (length s) p ≡ e
   code_after q =
       let w = code_told s p e q in
       rw (lt-ltb p (length s) w.2) (sym w.3)
 
-  library_after : library_id_at s p ≡ F.End e → after_number s p ≡ e
+  library_after : library_id_at s p ≡ Ok e → after_number s p ≡ e
   library_after q =
       let w = library_told s p e q in
       let u = u32_says s p w.0 e w.1 in
       rw (le-leb (p + 4) (length s) u.within) (sym u.next)
 
-pub info_after : (σ : Setting) (s : List ℕ) (type p e : ℕ) → info_at σ s type p ≡ F.End e → after_info s type p ≡ e
+pub info_after : (σ : Setting) (s : List ℕ) (type p e : ℕ) → info_at σ s type p ≡ Ok e → after_info s type p ≡ e
 unfolding info_at after_info
 info_after σ s type p e q = go (eqb type 0 || eqb type 7) (eqb type 3) (eqb type 4) q
   where
-    class : on_end (library_id_at s) (name_at σ s p) ≡ F.End e → after_number s (after_text s p) ≡ e
+    class : on_end (library_id_at s) (name_at σ s p) ≡ Ok e → after_number s (after_text s p) ≡ e
     class q =
         let x = through (library_id_at s) (name_at σ s p) e q in
         rw (name_after σ s p x.0 x.1) (library_after s x.0 e x.2)
 
-    go : (x y z : Bool) → pick x (code_at s p) (pick y (name_at σ s p) (pick z (on_end (library_id_at s) (name_at σ s p)) (F.End p))) ≡ F.End e
+    go : (x y z : Bool) → pick x (code_at s p) (pick y (name_at σ s p) (pick z (on_end (library_id_at s) (name_at σ s p)) (Ok p))) ≡ Ok e
         → pick x (past (length s) p) (pick y (after_text s p) (pick z (after_number s (after_text s p)) p)) ≡ e
     go true y z q = code_after s p e q
     go false true z q = name_after σ s p e q

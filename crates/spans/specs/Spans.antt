@@ -1,13 +1,11 @@
 -- Places after strings, numbers and details: one law for each way that the definitions go, and that they stay within the stream.
 use Prim.Native.Nat.{ℕ, zero, suc, ◌+◌, ◌-◌, ◌≤◌, ◌<◌}
-use Rattle.std.specs.Prelude.{◌≡◌, refl, Bool, true, false, ◌||◌, List, length, ltb, leb}
+use Rattle.std.specs.Prelude.{◌≡◌, refl, Bool, true, false, ◌||◌, List, length, ltb, leb, Result, Ok, Err}
 use Rattle.std.proofs.Common.{arith}
 use Rattle.std.proofs.Math.Dec.{eqb}
 use borrow.Author.Tests.{eq-eqb, ne_eqb, ltb-true, leb-true, le-leb, lt-leb}
 use Rattle.format.specs.declared.Refusal.{Refusal}
 use Rattle.format.specs.declared.Setting.TheVariants as Q
-use Rattle.format.specs.declared.Prefix.{Prefix}
-use Rattle.format.specs.declared.Prefix.TheVariants as P
 use Rattle.format.specs.declared.Span.{Span}
 use Rattle.format.specs.Bytes.{pick}
 use Rattle.format.specs.Prefix.{prefix_at}
@@ -20,7 +18,7 @@ use Rattle.prefix.specs.Laws.{moves}
 -- ---- spans
 
 module _ (s : List ℕ) (p : ℕ) where
-  module _ (n next : ℕ) (q : prefix_at Q.Lenient s p ≡ P.Length n next) where
+  module _ (n next : ℕ) (q : prefix_at Q.Lenient s p ≡ Ok (n, next)) where
     pub span_there : next + n ≤ length s → span_at s p ≡ record { from = next; to = next + n }
     unfolding span_at
     span_there h = rw (q, le-leb (next + n) (length s) h)
@@ -29,7 +27,7 @@ module _ (s : List ℕ) (p : ℕ) where
     unfolding span_at
     span_cut h = rw (q, lt-leb (next + n) (length s) h)
 
-  pub span_none : (f : Refusal) → prefix_at Q.Lenient s p ≡ P.Fault f → span_at s p ≡ record { from = p; to = p }
+  pub span_none : (f : Refusal) → prefix_at Q.Lenient s p ≡ Err f → span_at s p ≡ record { from = p; to = p }
   unfolding span_at
   span_none f q = rw q
 
@@ -46,15 +44,15 @@ span_within s p = go (prefix_at Q.Lenient s p) refl
     stays : Within s p (record { from = p; to = p })
     stays = record { starts = omega arith; rises = omega arith; ends = λ m h g. h }
 
-    go : (r : Prefix) → prefix_at Q.Lenient s p ≡ r → Within s p (span_from s p r)
-    go (P.Length n next) q =
+    go : (r : Result (ℕ × ℕ) Refusal) → prefix_at Q.Lenient s p ≡ r → Within s p (span_from s p r)
+    go (Ok (n, next)) q =
         picked (Within s p) (leb (next + n) (length s))
         (λ t.
         let w = moves Q.Lenient s p n next q in
         let l = leb-true (next + n) (length s) t in
         record { starts = omega arith; rises = omega arith; ends = λ m h g. omega arith })
         (λ t. stays)
-    go (P.Fault f) q = stays
+    go (Err f) q = stays
 
 -- ---- the place after one string
 

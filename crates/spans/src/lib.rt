@@ -7,21 +7,21 @@ ghost use Rattle.format.specs.Text.{span_at};
 ghost use Rattle.format.specs.Types.{past, after_text, after_number, after_info};
 ghost use Rattle.format.specs.Says.{after_texts};
 
-use format::{Prefix, Setting, Span};
+use format::{Setting, Span};
 
 // Where the text of the string at a place begins and ends.
 pub fn span_at(s: &[u8], at: usize) -> Span
     ensures { result ≡ span_at s.now at }
 {
     match prefix::prefix_at(s, at, Setting::Lenient) {
-        Prefix::Length(n, next) => {
+        Ok((n, next)) => {
             let to = next + (n as usize);
             if to <= s.len() {
                 return Span { from: next, to };
             }
             Span { from: at, to: at }
         }
-        Prefix::Fault(_) => Span { from: at, to: at },
+        Err(_) => Span { from: at, to: at },
     }
 }
 

@@ -1,6 +1,7 @@
 -- What good fields of array records say, field by field: kinds 7, 15, 16 and 17.
 use Prim.Native.Nat.{ℕ, zero, suc, ◌+◌, ◌*◌, ◌≤◌}
-use Rattle.std.specs.Prelude.{◌≡◌, Bool, List, length, get_or, ltb, leb, eqb}
+use Rattle.std.specs.Prelude.{◌≡◌, Bool, List, length, get_or, ltb, leb, eqb, Option, Some, None, Result, Ok, Err}
+use Rattle.format.specs.declared.Refusal.{Refusal}
 use Rattle.std.proofs.Math.Path.{refl, ap, subst}
 use Rattle.std.proofs.Common.{sym, ◌∙◌, ne_eqb}
 use Rattle.std.proofs.Math.Bool.{true, false}
@@ -8,14 +9,7 @@ use native.Mathlib.Omega.{arith}
 use Rattle.format.specs.Terms.{Terms}
 use Rattle.format.specs.declared.SlotType.{SlotType}
 use Rattle.format.specs.declared.SlotType.TheVariants as S
-use Rattle.format.specs.declared.Number32.{Number32}
-use Rattle.format.specs.declared.Number32.TheVariants as N32
-use Rattle.format.specs.declared.Field.TheVariants as F
-use Rattle.format.specs.declared.Slots.{Slots}
-use Rattle.format.specs.declared.Slots.TheVariants as L
 use Rattle.format.specs.declared.Head.{Head}
-use Rattle.format.specs.declared.Heading.{Heading}
-use Rattle.format.specs.declared.Heading.TheVariants as H
 use Rattle.format.specs.declared.Row.{Row}
 use Rattle.format.specs.Bytes.{pick}
 use Rattle.format.specs.Numbers.{u32_at, negative}
@@ -35,25 +29,25 @@ use Rattle.standing.specs.Fields.{Of, of_number_lem, of_field, row_said}
 
 -- 16 and 17: slots, which records fill
 pub record Slotted (s : List ℕ) (at count end : ℕ) : Type 0 where
-  pub count_at : u32_at s (at + 5) ≡ N32.Value count (at + 9)
+  pub count_at : u32_at s (at + 5) ≡ Some (count, at + 9)
   pub ends : end ≡ at + 9
 
 -- 15: a code, and the items
 pub record Primitives (τ : Terms) (s : List ℕ) (at count end : ℕ) : Type 0 where
-  pub count_at : u32_at s (at + 5) ≡ N32.Value count (at + 9)
-  pub code_at_holds : code_at s (at + 9) ≡ F.End (at + 10)
+  pub count_at : u32_at s (at + 5) ≡ Some (count, at + 9)
+  pub code_at_holds : code_at s (at + 9) ≡ Ok (at + 10)
   pub items : at + 10 ≤ end
-  pub items_at_holds : items_at τ.setting s (coded (primitive_of (get_or s (at + 9) 0))) count (at + 10) ≡ F.End end
+  pub items_at_holds : items_at τ.setting s (coded (primitive_of (get_or s (at + 9) 0))) count (at + 10) ≡ Ok end
 
 module _ (τ : Terms) (s : List ℕ) (at : ℕ) where
   -- the length, by the place of the record
-  count_there : (id p n q : ℕ) → u32_at s (at + 1) ≡ N32.Value id p → u32_at s p ≡ N32.Value n q → (u32_at s (at + 5) ≡ N32.Value n (at + 9)) × (q ≡ at + 9)
+  count_there : (id p n q : ℕ) → u32_at s (at + 1) ≡ Some (id, p) → u32_at s p ≡ Some (n, q) → (u32_at s (at + 5) ≡ Some (n, at + 9)) × (q ≡ at + 9)
   count_there id p n q a b =
       let c = number_moves s (at + 1) id p a in
       let d = number_moves s p n q b in
       let e : p ≡ at + 5 = omega arith in
       let f : q ≡ at + 9 = omega arith in
-      (subst (λ (p : ℕ). u32_at s p ≡ N32.Value n (at + 9)) e (b ∙ ap (N32.Value n) f), f)
+      (subst (λ (p : ℕ). u32_at s p ≡ Some (n, at + 9)) e (b ∙ ap (λ (x : ℕ). Some (n, x)) f), f)
 
   module _ (rows : List Row) where
     of_slots : (slot : SlotType) → Of (λ h. Slotted s at h.count h.end) (slot_array_at s rows slot at)
@@ -85,11 +79,11 @@ module _ (τ : Terms) (s : List ℕ) (at : ℕ) where
         let l : x ≡ at + 10 = omega arith in
         record {
           count_at = e.0;
-          code_at_holds = subst (λ (q : ℕ). code_at s q ≡ F.End (at + 10)) k (f ∙ ap F.End l);
+          code_at_holds = subst (λ (q : ℕ). code_at s q ≡ Ok (at + 10)) k (f ∙ ap Ok l);
           items = omega arith;
           items_at_holds =
-              subst (λ (q : ℕ). items_at τ.setting s (coded (primitive_of (get_or s q 0))) n (at + 10) ≡ F.End end) k
-              (subst (λ (x : ℕ). items_at τ.setting s code n x ≡ F.End end) l g);
+              subst (λ (q : ℕ). items_at τ.setting s (coded (primitive_of (get_or s q 0))) n (at + 10) ≡ Ok end) k
+              (subst (λ (x : ℕ). items_at τ.setting s code n x ≡ Ok end) l g);
         })))))
         (λ b. tt))
 
@@ -97,7 +91,7 @@ module _ (τ : Terms) (s : List ℕ) (at : ℕ) where
 
 -- where items end whose type's detail ends at `at`: primitive items after as many values, others where they begin
 abbrev Ended : Terms → List ℕ → SlotType → ℕ → Head → Type 0
-Ended τ s (S.Primitive c) at h = items_at τ.setting s c h.count at ≡ F.End h.end
+Ended τ s (S.Primitive c) at h = items_at τ.setting s c h.count at ≡ Ok h.end
 Ended τ s S.Text at h = h.end ≡ at
 Ended τ s S.Object at h = h.end ≡ at
 Ended τ s S.SystemClass at h = h.end ≡ at
@@ -109,17 +103,17 @@ Ended τ s (S.PrimitiveArray c) at h = h.end ≡ at
 pub record Array (τ : Terms) (s : List ℕ) (rows : List Row) (at count end : ℕ) : Type 0 where
   pub rank : ℕ
   pub info_end : ℕ
-  pub rank_at_holds : u32_at s (at + 6) ≡ N32.Value rank (at + 10)
-  pub type_at : type_byte_at s (at + 10 + 4 * rank) ≡ F.End (at + 10 + 4 * rank + 1)
-  pub info_at_holds : info_known τ.setting s rows (get_or s (at + 10 + 4 * rank) 0) (at + 10 + 4 * rank + 1) ≡ F.End info_end
+  pub rank_at_holds : u32_at s (at + 6) ≡ Some (rank, at + 10)
+  pub type_at : type_byte_at s (at + 10 + 4 * rank) ≡ Ok (at + 10 + 4 * rank + 1)
+  pub info_at_holds : info_known τ.setting s rows (get_or s (at + 10 + 4 * rank) 0) (at + 10 + 4 * rank + 1) ≡ Ok info_end
   pub items : info_end ≤ end
-  pub items_at_holds : get_or s (at + 10 + 4 * rank) 0 ≡ 0 → items_at τ.setting s (coded (primitive_of (get_or s (at + 10 + 4 * rank + 1) 0))) count info_end ≡ F.End end
+  pub items_at_holds : get_or s (at + 10 + 4 * rank) 0 ≡ 0 → items_at τ.setting s (coded (primitive_of (get_or s (at + 10 + 4 * rank + 1) 0))) count info_end ≡ Ok end
   pub no_items : (get_or s (at + 10 + 4 * rank) 0 ≡ 0 → ⊥) → end ≡ info_end
 
 -- lengths that are taken end at this place
-abbrev EndAt : ℕ → Slots → Type 0
-EndAt e (L.Product n end) = end ≡ e
-EndAt e (L.Fault f) = Unit {0}
+abbrev EndAt : ℕ → Result (ℕ × ℕ) Refusal → Type 0
+EndAt e (Ok (n, end)) = end ≡ e
+EndAt e (Err f) = Unit {0}
 
 module _ (τ : Terms) (s : List ℕ) where
   -- four bytes a length
@@ -128,16 +122,16 @@ module _ (τ : Terms) (s : List ℕ) where
   lengths_end zero product at e h = picked (EndAt e) (leb product 2147483647) (λ t. omega arith) (λ t. tt)
   lengths_end (suc k) product at e h = go (u32_at s at) refl (λ n next i. lengths_end k (product * n) next e i)
     where
-      go : (r : Number32) → u32_at s at ≡ r → ((n next : ℕ) → next + 4 * k ≡ e → EndAt e (lengths_at s k (product * n) next))
+      go : (r : Option (ℕ × ℕ)) → u32_at s at ≡ r → ((n next : ℕ) → next + 4 * k ≡ e → EndAt e (lengths_at s k (product * n) next))
           → EndAt e (on_length (λ n next. lengths_at s k (product * n) next) r)
-      go (N32.Value n next) q more =
+      go (Some (n, next)) q more =
           let m = number_moves s at n next q in
           picked (EndAt e) (negative n) (λ t. tt) (λ t. more n next (omega arith))
-      go N32.Short q more = tt
+      go None q more = tt
 
-  of_lengths : (P : Head → Type 0) (k : ℕ → ℕ → Heading) (r : Slots) (e : ℕ) → EndAt e r → ((n : ℕ) → Of P (k n e)) → Of P (on_slots k r)
-  of_lengths P k (L.Product n end) e q f = subst (λ (e : ℕ). Of P (k n e)) (sym q) (f n)
-  of_lengths P k (L.Fault x) e q f = tt
+  of_lengths : (P : Head → Type 0) (k : ℕ → ℕ → Result Head Refusal) (r : Result (ℕ × ℕ) Refusal) (e : ℕ) → EndAt e r → ((n : ℕ) → Of P (k n e)) → Of P (on_slots k r)
+  of_lengths P k (Ok (n, end)) e q f = subst (λ (e : ℕ). Of P (k n e)) (sym q) (f n)
+  of_lengths P k (Err x) e q f = tt
 
   items_ended : (slot : SlotType) (id n infos at : ℕ) → Of (Ended τ s slot at) (items_of τ.setting s id n infos at slot)
   items_ended (S.Primitive c) id n infos at = of_field (Ended τ s (S.Primitive c) at) _ (items_at τ.setting s c n at) (λ end a. a)
@@ -162,7 +156,7 @@ module _ (τ : Terms) (s : List ℕ) where
 
   -- only items of type 0 are primitive
   module _ (type code at : ℕ) (h : Head) where
-    ended_items : Ended τ s (slot_of type code) at h → type ≡ 0 → items_at τ.setting s (coded (primitive_of code)) h.count at ≡ F.End h.end
+    ended_items : Ended τ s (slot_of type code) at h → type ≡ 0 → items_at τ.setting s (coded (primitive_of code)) h.count at ≡ Ok h.end
     unfolding slot_of
     ended_items e z = subst (λ (t : ℕ). Ended τ s (slot_of t code) at h) z e
 
@@ -186,7 +180,7 @@ module _ (τ : Terms) (s : List ℕ) where
     ArrayOf h = Array τ s rows at h.count h.end
 
     -- after the lengths
-    of_items : (rank id n : ℕ) → u32_at s (at + 6) ≡ N32.Value rank (at + 10) → Of ArrayOf (item_type_at τ.setting s rows id n (at + 10 + 4 * rank))
+    of_items : (rank id n : ℕ) → u32_at s (at + 6) ≡ Some (rank, at + 10) → Of ArrayOf (item_type_at τ.setting s rows id n (at + 10 + 4 * rank))
     unfolding item_type_at typed_at
     of_items rank id n r =
         let types : ℕ = at + 10 + 4 * rank in
@@ -202,16 +196,16 @@ module _ (τ : Terms) (s : List ℕ) where
           rank = rank;
           info_end = end;
           rank_at_holds = r;
-          type_at = a ∙ ap F.End e;
-          info_at_holds = subst (λ (p : ℕ). info_known τ.setting s rows (get_or s types 0) p ≡ F.End end) e b;
+          type_at = a ∙ ap Ok e;
+          info_at_holds = subst (λ (p : ℕ). info_known τ.setting s rows (get_or s types 0) p ≡ Ok end) e b;
           items = ended_after slot end h v.1 l;
-          items_at_holds = λ z. subst (λ (p : ℕ). items_at τ.setting s (coded (primitive_of (get_or s p 0))) h.count end ≡ F.End h.end) e (there z);
+          items_at_holds = λ z. subst (λ (p : ℕ). items_at τ.setting s (coded (primitive_of (get_or s p 0))) h.count end ≡ Ok h.end) e (there z);
           no_items = λ z. ended_none (get_or s types 0) (get_or s infos 0) end h l z;
         }) (items_ended slot id n infos end)))
       where
-        of_more : (slot : SlotType) (e : ℕ) (x : Heading) → ((h : Head) → Ended τ s slot e h → ArrayOf h) → Of (Ended τ s slot e) x → Of ArrayOf x
-        of_more slot e (H.Fields h) f q = f h q
-        of_more slot e (H.Bad x) f q = tt
+        of_more : (slot : SlotType) (e : ℕ) (x : Result Head Refusal) → ((h : Head) → Ended τ s slot e h → ArrayOf h) → Of (Ended τ s slot e) x → Of ArrayOf x
+        of_more slot e (Ok h) f q = f h q
+        of_more slot e (Err x) f q = tt
 
     of_rank : (id type p : ℕ) → p ≡ at + 6 → Of ArrayOf (rank_at τ.setting s rows id type p)
     unfolding rank_at
@@ -220,7 +214,7 @@ module _ (τ : Terms) (s : List ℕ) where
         picked (Of ArrayOf) (good_rank type rank) (λ b.
         let m = number_moves s p rank q a in
         let f : q ≡ at + 10 = omega arith in
-        let r : u32_at s (at + 6) ≡ N32.Value rank (at + 10) = subst (λ (p : ℕ). u32_at s p ≡ N32.Value rank (at + 10)) e (a ∙ ap (N32.Value rank) f) in
+        let r : u32_at s (at + 6) ≡ Some (rank, at + 10) = subst (λ (p : ℕ). u32_at s p ≡ Some (rank, at + 10)) e (a ∙ ap (λ (x : ℕ). Some (rank, x)) f) in
         let l : q + 4 * rank ≡ at + 10 + 4 * rank = omega arith in
         of_lengths ArrayOf (item_type_at τ.setting s rows id) (lengths_at s rank 1 q) (at + 10 + 4 * rank) (lengths_end rank 1 q _ l) (λ n. of_items rank id n r))
         (λ b. tt))

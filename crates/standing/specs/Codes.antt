@@ -1,6 +1,6 @@
 -- The code by which a member value was read is that of the member of its class whose slot it fills.
 use Prim.Native.Nat.{ℕ, zero, suc, ◌+◌, ◌-◌, ◌≤◌, ◌<◌}
-use Rattle.std.specs.Prelude.{◌≡◌, Bool, true, false, List, take, eqb}
+use Rattle.std.specs.Prelude.{◌≡◌, Bool, true, false, List, take, eqb, Ok}
 use Rattle.std.proofs.Math.Path.{refl, ap, ap₂}
 use Rattle.std.proofs.Common.{sym, subst, ◌∙◌, arith}
 use Rattle.std.proofs.Math.ListN.{length, get_or}
@@ -10,7 +10,6 @@ use Rattle.format.specs.Terms.{Terms}
 use Rattle.format.specs.declared.PrimitiveCode.{PrimitiveCode}
 use Rattle.format.specs.declared.SlotType.{SlotType}
 use Rattle.format.specs.declared.SlotType.TheVariants as S
-use Rattle.format.specs.declared.Field.TheVariants as F
 use Rattle.format.specs.declared.Row.{Row}
 use Rattle.format.specs.Bytes.{pick}
 use Rattle.format.specs.Values.{value_at}
@@ -100,7 +99,7 @@ module _ (τ : Terms) (s : List ℕ) (rows : List Row) where
 -- the code of the member value in row i
 pub record ValueCode (τ : Terms) (s : List ℕ) (raw : List Row) (i : ℕ) : Type 0 where
   pub code : PrimitiveCode
-  pub reads : value_at τ.setting s code (get_or raw i blank).offset ≡ F.End (get_or raw i blank).end
+  pub reads : value_at τ.setting s code (get_or raw i blank).offset ≡ Ok (get_or raw i blank).end
   pub link_is : (get_or raw i blank).link ≡ code_number code
   pub said : value_code τ.book s (linked raw) (get_or (linked raw) i blank) ≡ code
   -- the same by rows with any links

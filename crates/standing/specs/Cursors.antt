@@ -1,7 +1,8 @@
 -- An open object's cursor stands where its class says: the type of the slot to fill is that of the class's member of this number. So a member value
 -- was read by the code of the slot that it fills.
 use Prim.Native.Nat.{ℕ, zero, suc, ◌+◌, ◌-◌, ◌≤◌, ◌<◌}
-use Rattle.std.specs.Prelude.{◌≡◌, Bool, ◌||◌, take, ltb, leb}
+use Rattle.std.specs.Prelude.{◌≡◌, Bool, ◌||◌, take, ltb, leb, Option, Some, None, Result, Ok, Err}
+use Rattle.format.specs.declared.Refusal.{Refusal}
 use Rattle.std.proofs.Math.Path.{refl, sym, ap}
 use Rattle.std.proofs.Common.{subst, ◌∙◌}
 use Rattle.std.proofs.Math.Bool.{true, false}
@@ -16,19 +17,9 @@ use Rattle.format.specs.declared.PrimitiveCode.{PrimitiveCode}
 use Rattle.format.specs.declared.SlotType.{SlotType}
 use Rattle.format.specs.declared.SlotType.TheVariants as S
 use Rattle.format.specs.declared.Typed.{Typed}
-use Rattle.format.specs.declared.Field.{Field}
-use Rattle.format.specs.declared.Field.TheVariants as F
-use Rattle.format.specs.declared.Slots.{Slots}
-use Rattle.format.specs.declared.Slots.TheVariants as L
 use Rattle.format.specs.declared.Where.{Where}
 use Rattle.format.specs.declared.Where.TheVariants as W
-use Rattle.format.specs.declared.Kind.{Kind}
-use Rattle.format.specs.declared.Kind.TheVariants as K
 use Rattle.format.specs.declared.Head.{Head}
-use Rattle.format.specs.declared.Heading.{Heading}
-use Rattle.format.specs.declared.Heading.TheVariants as H
-use Rattle.format.specs.declared.Passed.{Passed}
-use Rattle.format.specs.declared.Passed.TheVariants as O
 use Rattle.format.specs.declared.Row.{Row}
 use Rattle.format.specs.declared.Frame.{Frame}
 use Rattle.format.specs.Bytes.{pick}
@@ -92,27 +83,27 @@ module _ (β s : List ℕ) where
   even_by zero t e = refl
   even_by (suc k) t e = ap (moved_by β s k) (even_moved t e) ∙ even_by k t e
 
-  over_same : {t u : Typed} → O.Over t ≡ O.Over u → t ≡ u
+  over_same : {t u : Typed} → Some t ≡ Some u → t ≡ u
   over_same e = cc
 
-  crossed : {A : Type 0} {u : Typed} → O.Crossed ≡ O.Over u → A
+  crossed : {A : Type 0} {u : Typed} → None ≡ Some u → A
   crossed e = absurd (let z : ◌≡◌ {A = ℕ} 0 1 = cc in omega arith)
 
-  passed_by_lem : (k : ℕ) (t u : Typed) → passed β s t k ≡ O.Over u → u ≡ moved_by β s k t
+  passed_by_lem : (k : ℕ) (t u : Typed) → passed β s t k ≡ Some u → u ≡ moved_by β s k t
   unfolding passed moved_by
   passed_by_lem zero t u e = sym (over_same e)
   passed_by_lem (suc k) t u e = go (is_primitive t.slot) (passed_by_lem k (moved β s t) u) e
     where
-      go : (b : Bool) → (passed β s (moved β s t) k ≡ O.Over u → u ≡ moved_by β s k (moved β s t)) → pick b O.Crossed (passed β s (moved β s t) k) ≡ O.Over u
+      go : (b : Bool) → (passed β s (moved β s t) k ≡ Some u → u ≡ moved_by β s k (moved β s t)) → pick b None (passed β s (moved β s t) k) ≡ Some u
           → u ≡ moved_by β s k (moved β s t)
       go true next e = crossed e
       go false next e = next e
 
-  over_by : (k : ℕ) (t u : Typed) → passed_of β s t k ≡ O.Over u → u ≡ moved_by β s k t
+  over_by : (k : ℕ) (t u : Typed) → passed_of β s t k ≡ Some u → u ≡ moved_by β s k t
   unfolding passed_of
   over_by k t u = go (eqb t.types 0) refl
     where
-      go : (b : Bool) → eqb t.types 0 ≡ b → passed_by b β s t k ≡ O.Over u → u ≡ moved_by β s k t
+      go : (b : Bool) → eqb t.types 0 ≡ b → passed_by b β s t k ≡ Some u → u ≡ moved_by β s k t
       go true q e = sym (over_same e) ∙ sym (even_by k t (eqb-true t.types 0 q))
       go false q e = passed_by_lem k t u e
 
@@ -259,9 +250,9 @@ module _ (τ : Terms) (s : List ℕ) (rows : List Row) (at : ℕ) where
   of_slot S.StringArray id n infos p = (refl, refl)
   of_slot (S.PrimitiveArray c) id n infos p = (refl, refl)
 
-  on_slots_lem : (k : ℕ → ℕ → Heading) (r : Slots) → ((n e : ℕ) → Of EvenHead (k n e)) → Of EvenHead (on_slots k r)
-  on_slots_lem k (L.Product n e) f = f n e
-  on_slots_lem k (L.Fault x) f = tt
+  on_slots_lem : (k : ℕ → ℕ → Result Head Refusal) (r : Result (ℕ × ℕ) Refusal) → ((n e : ℕ) → Of EvenHead (k n e)) → Of EvenHead (on_slots k r)
+  on_slots_lem k (Ok (n, e)) f = f n e
+  on_slots_lem k (Err x) f = tt
 
   type_even : (id n types : ℕ) → Of EvenHead (item_type_at τ.setting s rows id n types)
   unfolding item_type_at
@@ -293,8 +284,8 @@ pub record TypesIn (τ : Terms) (s : List ℕ) (r : Row) : Type 0 where
   pub some : 0 < r.link
   pub inside : r.link + r.count ≤ length s
   pub name_end : ℕ
-  pub named : name_at τ.setting s (r.offset + 5) ≡ F.End name_end
-  pub names : times (name_at τ.setting s) r.count (name_end + 4) ≡ F.End r.link
+  pub named : name_at τ.setting s (r.offset + 5) ≡ Ok name_end
+  pub names : times (name_at τ.setting s) r.count (name_end + 4) ≡ Ok r.link
 
 -- the type bytes of a class whose fields are good are there
 types_inside : (τ : Terms) (s : List ℕ) (rows : List Row) (own : Bool) (at : ℕ) (h : Head) → Class τ s rows own at h → h.link + h.count ≤ length s
@@ -321,10 +312,10 @@ module _ (τ : Terms) {s : List ℕ} {before : List Row} {r : Row} where
         some = omega (arith, b.0, a.0);
         inside = omega arith;
         name_end = c.counts;
-        named = subst (λ (p : ℕ). name_at τ.setting s p ≡ F.End c.counts) places.0 c.name_at_holds;
+        named = subst (λ (p : ℕ). name_at τ.setting s p ≡ Ok c.counts) places.0 c.name_at_holds;
         names =
-            subst (λ (p : ℕ). times (name_at τ.setting s) r.count p ≡ F.End r.link) places.1
-            (subst (λ (k : ℕ). times (name_at τ.setting s) k c.names ≡ F.End r.link) m (c.names_at ∙ ap F.End (sym l)));
+            subst (λ (p : ℕ). times (name_at τ.setting s) r.count p ≡ Ok r.link) places.1
+            (subst (λ (k : ℕ). times (name_at τ.setting s) k c.names ≡ Ok r.link) m (c.names_at ∙ ap Ok (sym l)));
       }
 
   pub types_in : Stood τ s before r → is_class r.kind ≡ true → TypesIn τ s r
@@ -345,8 +336,8 @@ module _ (τ : Terms) {s : List ℕ} {before : List Row} {r : Row} where
 no_object : {A : Type 0} (k n : ℕ) → k ≡ n → is_object n ≡ false → is_object k ≡ true → A
 no_object k n e f t = absurd (let q : true ≡ false = sym t ∙ (ap is_object e ∙ f) in let z : ◌≡◌ {A = ℕ} 0 1 = cc in omega arith)
 
-module _ (τ : Terms) (s : List ℕ) (rows : List Row) (each : (i : ℕ) → i < length rows → Stood τ s (take i rows) (get_or rows i blank)) (k at : ℕ) (h : Head) (e : heading_at τ s rows k at ≡ H.Fields h) where
-  even_of : (x : Heading) → heading_at τ s rows k at ≡ x → Of (EvenHead τ s rows at) x → Starts τ.book s rows k h
+module _ (τ : Terms) (s : List ℕ) (rows : List Row) (each : (i : ℕ) → i < length rows → Stood τ s (take i rows) (get_or rows i blank)) (k at : ℕ) (h : Head) (e : heading_at τ s rows k at ≡ Ok h) where
+  even_of : (x : Result Head Refusal) → heading_at τ s rows k at ≡ x → Of (EvenHead τ s rows at) x → Starts τ.book s rows k h
   even_of x q w = alike_slots (of_fields (EvenHead τ s rows at) x h (sym q ∙ e) w)
 
   class_of : (own : Bool) → is_class k ≡ true → heading_at τ s rows k at ≡ class_at τ.setting s rows own at → Starts τ.book s rows k h
@@ -441,7 +432,7 @@ module _ (β s : List ℕ) (st : State) (kind : ℕ) (h : Head) where
 -- the row of a member value, after these rows: its code is that of the slot that it fills
 pub record FromSlot (τ : Terms) (s : List ℕ) (before : List Row) (r : Row) : Type 0 where
   pub code : PrimitiveCode
-  pub reads : value_at τ.setting s code r.offset ≡ F.End r.end
+  pub reads : value_at τ.setting s code r.offset ≡ Ok r.end
   pub link_is : r.link ≡ code_number code
   pub class_row_holds : ℕ
   pub of_class_holds : OfClass before r.owner class_row_holds
@@ -509,15 +500,15 @@ module _ (τ : Terms) (s : List ℕ) (room : ℕ) (st : State) (w : Gathered τ 
         picked (NextCursors τ s) (ltb st.stack.cur.left h.count) (λ t. tt)
         (λ t. over (ltb-false st.stack.cur.left h.count t) (passed_of τ.book s st.stack.cur.typed h.count) refl)
       where
-        over : h.count ≤ st.stack.cur.left → (p : Passed) → passed_of τ.book s st.stack.cur.typed h.count ≡ p → NextCursors τ s (run_over room st kind h p)
-        over l (O.Over t) q = fill_cursors (row_in st kind h) h.count t (λ e. absurd (n e)) (over_by τ.book s h.count st.stack.cur.typed t q) (λ x. l)
-        over l O.Crossed q = tt
+        over : h.count ≤ st.stack.cur.left → (p : Option Typed) → passed_of τ.book s st.stack.cur.typed h.count ≡ p → NextCursors τ s (run_over room st kind h p)
+        over l (Some t) q = fill_cursors (row_in st kind h) h.count t (λ e. absurd (n e)) (over_by τ.book s h.count st.stack.cur.typed t q) (λ x. l)
+        over l None q = tt
 
     end_cursors : NextCursors τ s (ending room st h)
     unfolding ending
     end_cursors = picked (NextCursors τ s) (ltb (length st.rows) room) (λ t. each_row (row_in st 11 h) (λ q. absurd (omega arith))) (λ t. tt)
 
-    good_cursors : (kind ≡ 32 → ⊥) → (is_object kind ≡ true → Starts τ.book s st.rows kind h) → NextCursors τ s (act τ.book s room st kind (H.Fields h))
+    good_cursors : (kind ≡ 32 → ⊥) → (is_object kind ≡ true → Starts τ.book s st.rows kind h) → NextCursors τ s (act τ.book s room st kind (Ok h))
     unfolding act
     good_cursors n x =
         picked (NextCursors τ s) (is_object kind) (λ t. object_cursors t (x t))
@@ -529,17 +520,17 @@ module _ (τ : Terms) (s : List ℕ) (room : ℕ) (st : State) (w : Gathered τ 
   stood i h = (w.each i h).0.said
 
   module _ (place : Where) where
-    act_cursors : (kind : ℕ) → kind_at s place st.at ≡ K.Taken kind → (x : Heading) → heading_at τ s st.rows kind st.at ≡ x → NextCursors τ s (act τ.book s room st kind x)
+    act_cursors : (kind : ℕ) → kind_at s place st.at ≡ Ok kind → (x : Result Head Refusal) → heading_at τ s st.rows kind st.at ≡ x → NextCursors τ s (act τ.book s room st kind x)
     unfolding act
-    act_cursors kind q (H.Fields h) e =
+    act_cursors kind q (Ok h) e =
         let b = kind_byte s place st.at kind q in
         let l = taken_low kind b.known b.free in
         good_cursors kind h (λ z. omega arith) (starts τ s st.rows stood kind st.at h e (allowed_known kind place b.fits))
-    act_cursors kind q (H.Bad f) e = tt
+    act_cursors kind q (Err f) e = tt
 
-    kind_cursors : (k : Kind) → kind_at s place st.at ≡ k → NextCursors τ s (on_kind τ s room st k)
-    kind_cursors (K.Taken k) q = act_cursors k q (heading_at τ s st.rows k st.at) refl
-    kind_cursors (K.Wrong f) q = tt
+    kind_cursors : (k : Result ℕ Refusal) → kind_at s place st.at ≡ k → NextCursors τ s (on_kind τ s room st k)
+    kind_cursors (Ok k) q = act_cursors k q (heading_at τ s st.rows k st.at) refl
+    kind_cursors (Err f) q = tt
 
     pub record_cursors : NextCursors τ s (record_step τ s room st place)
     unfolding record_step
@@ -550,7 +541,7 @@ module _ (τ : Terms) (s : List ℕ) (room : ℕ) (st : State) (w : Gathered τ 
     not_even : {A : Type 0} → Even st.stack.cur.typed → A
     not_even x = absurd (let e : true ≡ false = ap is_primitive (sym q) ∙ x.1 in let z : ◌≡◌ {A = ℕ} 0 1 = cc in omega arith)
 
-    from_slot : (end : ℕ) → value_at τ.setting s c st.at ≡ F.End end → FromSlot τ s st.rows (row_in st 32 (value_head c end))
+    from_slot : (end : ℕ) → value_at τ.setting s c st.at ≡ Ok end → FromSlot τ s st.rows (row_in st 32 (value_head c end))
     from_slot end e = go st.stack.below v.stack
       where
         at_cursor : Cursor τ.book s st.rows st.stack.cur → 0 < st.stack.cur.left → FromSlot τ s st.rows (row_in st 32 (value_head c end))
@@ -569,9 +560,9 @@ module _ (τ : Terms) (s : List ℕ) (room : ℕ) (st : State) (w : Gathered τ 
         go [] x = not_even x
         go (g ∷ gs) x = at_cursor x.0 x.1
 
-    value_cursors : (x : Field) → value_at τ.setting s c st.at ≡ x → NextCursors τ s (on_value τ.book s room st c x)
-    value_cursors (F.End end) e = fill_cursors (row_in st 32 (value_head c end)) 1 _ (λ z. from_slot end e) next_type (λ l. omega arith)
-    value_cursors (F.Fault f) e = tt
+    value_cursors : (x : Result ℕ Refusal) → value_at τ.setting s c st.at ≡ x → NextCursors τ s (on_value τ.book s room st c x)
+    value_cursors (Ok end) e = fill_cursors (row_in st 32 (value_head c end)) 1 _ (λ z. from_slot end e) next_type (λ l. omega arith)
+    value_cursors (Err f) e = tt
 
   slot_cursors : (t : SlotType) → st.stack.cur.typed.slot ≡ t → NextCursors τ s (by_slot τ s room st t)
   unfolding value_step

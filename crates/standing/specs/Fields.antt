@@ -1,15 +1,10 @@
 -- What good fields of a record say, and those of class records field by field: kinds 4 and 5, and kind 1.
-use Rattle.std.specs.Prelude.{ℕ, ◌+◌, ◌-◌, ◌≤◌, ◌<◌, ◌≡◌, refl, Bool, true, false, List, length, get_or, eqb}
+use Rattle.std.specs.Prelude.{ℕ, ◌+◌, ◌-◌, ◌≤◌, ◌<◌, ◌≡◌, refl, Bool, true, false, List, length, get_or, eqb, Option, Some, None, Result, Ok, Err}
+use Rattle.format.specs.declared.Refusal.{Refusal}
 use Rattle.std.proofs.Common.{sym, subst, ◌∙◌, arith}
 use borrow.Author.Tests.{eqb-false}
 use Rattle.format.specs.Terms.{Terms}
-use Rattle.format.specs.declared.Number32.{Number32}
-use Rattle.format.specs.declared.Number32.TheVariants as N32
-use Rattle.format.specs.declared.Field.{Field}
-use Rattle.format.specs.declared.Field.TheVariants as F
 use Rattle.format.specs.declared.Head.{Head}
-use Rattle.format.specs.declared.Heading.{Heading}
-use Rattle.format.specs.declared.Heading.TheVariants as H
 use Rattle.format.specs.declared.Row.{Row}
 use Rattle.format.specs.Numbers.{u32_at, negative}
 use Rattle.format.specs.Values.{times}
@@ -30,15 +25,15 @@ pub record Class (τ : Terms) (s : List ℕ) (rows : List Row) (own : Bool) (at 
   pub names : ℕ
   pub infos : ℕ
   pub after : ℕ
-  pub id_at : u32_at s (at + 1) ≡ N32.Value h.id name
+  pub id_at : u32_at s (at + 1) ≡ Some (h.id, name)
   pub free : good_class_id rows h.id ≡ true
-  pub name_at_holds : name_at τ.setting s name ≡ F.End counts
-  pub count_at : u32_at s counts ≡ N32.Value h.count names
+  pub name_at_holds : name_at τ.setting s name ≡ Ok counts
+  pub count_at : u32_at s counts ≡ Some (h.count, names)
   pub count_good : negative h.count ≡ false
-  pub names_at : times (name_at τ.setting s) h.count names ≡ F.End h.link
-  pub types_at_holds : times (type_byte_at s) h.count h.link ≡ F.End infos
-  pub infos_at_holds : infos_at τ.setting s rows h.count h.link infos ≡ F.End after
-  pub after_at : after_infos own s rows after ≡ F.End h.end
+  pub names_at : times (name_at τ.setting s) h.count names ≡ Ok h.link
+  pub types_at_holds : times (type_byte_at s) h.count h.link ≡ Ok infos
+  pub infos_at_holds : infos_at τ.setting s rows h.count h.link infos ≡ Ok after
+  pub after_at : after_infos own s rows after ≡ Ok h.end
   pub slots_are : h.slots ≡ h.count
   pub first_is : h.first ≡ typed_at s h.link infos
 
@@ -46,9 +41,9 @@ pub record Class (τ : Terms) (s : List ℕ) (rows : List Row) (own : Bool) (at 
 pub record ClassById (β s : List ℕ) (rows : List Row) (at : ℕ) (h : Head) : Type 0 where
   pub metadata : ℕ
   pub class : ℕ
-  pub id_at : u32_at s (at + 1) ≡ N32.Value h.id metadata
+  pub id_at : u32_at s (at + 1) ≡ Some (h.id, metadata)
   pub free : good_class_id rows h.id ≡ true
-  pub class_at_holds : u32_at s metadata ≡ N32.Value class h.end
+  pub class_at_holds : u32_at s metadata ≡ Some (class, h.end)
   pub finds : h.link ≡ class_row class rows
   pub some : 0 < h.link
   pub same_count : h.count ≡ (get_or rows (h.link - 1) blank).count
@@ -56,21 +51,21 @@ pub record ClassById (β s : List ℕ) (rows : List Row) (at : ℕ) (h : Head) :
   pub first_is : h.first ≡ first_type β s (get_or rows (h.link - 1) blank)
 
 -- what holds of good fields, through numbers, fields and choices
-abbrev pub Of : (Head → Type 0) → Heading → Type 0
-Of P (H.Fields h) = P h
-Of P (H.Bad f) = Unit {0}
+abbrev pub Of : (Head → Type 0) → Result Head Refusal → Type 0
+Of P (Ok h) = P h
+Of P (Err f) = Unit {0}
 
 module _ (P : Head → Type 0) where
-  pub of_number_lem : (k : ℕ → ℕ → Heading) (r : Number32) → ((v e : ℕ) → r ≡ N32.Value v e → Of P (k v e)) → Of P (on_number k r)
-  of_number_lem k (N32.Value v e) f = f v e refl
-  of_number_lem k N32.Short f = tt
+  pub of_number_lem : (k : ℕ → ℕ → Result Head Refusal) (r : Option (ℕ × ℕ)) → ((v e : ℕ) → r ≡ Some (v, e) → Of P (k v e)) → Of P (on_number k r)
+  of_number_lem k (Some (v, e)) f = f v e refl
+  of_number_lem k None f = tt
 
-  pub of_field : (k : ℕ → Heading) (r : Field) → ((e : ℕ) → r ≡ F.End e → Of P (k e)) → Of P (on_field k r)
-  of_field k (F.End e) f = f e refl
-  of_field k (F.Fault x) f = tt
+  pub of_field : (k : ℕ → Result Head Refusal) (r : Result ℕ Refusal) → ((e : ℕ) → r ≡ Ok e → Of P (k e)) → Of P (on_field k r)
+  of_field k (Ok e) f = f e refl
+  of_field k (Err x) f = tt
 
-  pub of_fields : (x : Heading) (h : Head) → x ≡ H.Fields h → Of P x → P h
-  of_fields x h e w = subst (λ (x : Heading). Of P x) e w
+  pub of_fields : (x : Result Head Refusal) (h : Head) → x ≡ Ok h → Of P x → P h
+  of_fields x h e w = subst (λ (x : Result Head Refusal). Of P x) e w
 
 module _ (τ : Terms) (s : List ℕ) (rows : List Row) (at : ℕ) where
   module _ (own : Bool) where
@@ -107,7 +102,7 @@ module _ (τ : Terms) (s : List ℕ) (rows : List Row) (at : ℕ) where
         }))))))))
         (λ b. tt))
 
-    pub class_said : (h : Head) → class_at τ.setting s rows own at ≡ H.Fields h → Class τ s rows own at h
+    pub class_said : (h : Head) → class_at τ.setting s rows own at ≡ Ok h → Class τ s rows own at h
     class_said h e = of_fields (Class τ s rows own at) _ h e of_class_holds
 
   of_class_by_id : Of (ClassById τ.book s rows at) (class_by_id_at τ.book s rows at)
@@ -133,14 +128,14 @@ module _ (τ : Terms) (s : List ℕ) (rows : List Row) (at : ℕ) where
       })))
       (λ b. tt))
 
-  pub class_by_id_said : (h : Head) → class_by_id_at τ.book s rows at ≡ H.Fields h → ClassById τ.book s rows at h
+  pub class_by_id_said : (h : Head) → class_by_id_at τ.book s rows at ≡ Ok h → ClassById τ.book s rows at h
   class_by_id_said h e = of_fields (ClassById τ.book s rows at) _ h e of_class_by_id
 
 -- ---- rows
 
 module _ (τ : Terms) {s : List ℕ} {before : List Row} {r : Row} (w : Recorded τ s before r) where
   -- what good fields of the row's kind say of its count and its end
-  pub row_said : (P : ℕ → ℕ → Type 0) (x : Heading) → heading_at τ s before r.kind r.offset ≡ x → Of (λ h. P h.count h.end) x
+  pub row_said : (P : ℕ → ℕ → Type 0) (x : Result Head Refusal) → heading_at τ s before r.kind r.offset ≡ x → Of (λ h. P h.count h.end) x
       → P r.count r.end
   row_said P x e v =
       let h = w.head in
@@ -176,6 +171,6 @@ class_room τ s rows own at h w =
     let g = after_moves own w.after_at in
     omega arith
   where
-    after_moves : (own : Bool) → after_infos own s rows w.after ≡ F.End h.end → w.after ≤ h.end
+    after_moves : (own : Bool) → after_infos own s rows w.after ≡ Ok h.end → w.after ≤ h.end
     after_moves true q = let m = own_library_moves s rows w.after h.end q in omega arith
     after_moves false q = let z : w.after ≡ h.end = cc in omega arith

@@ -1,5 +1,5 @@
 -- What good fields of records that hold no slots say, field by field: kinds 6, 8, 11, 12, and the nulls 10, 13 and 14.
-use Rattle.std.specs.Prelude.{ℕ, ◌+◌, ◌<◌, refl, Bool, ◌&&◌, not, List, length, get_or, ltb, eqb}
+use Rattle.std.specs.Prelude.{ℕ, ◌+◌, ◌<◌, refl, Bool, ◌&&◌, not, List, length, get_or, ltb, eqb, Result, Ok}
 use Rattle.std.proofs.Math.Path.{◌≡◌, ap, subst}
 use Rattle.std.proofs.Common.{◌∙◌, leb-false}
 use Rattle.std.proofs.Math.Bool.{true, false}
@@ -7,9 +7,7 @@ use native.Mathlib.Omega.{arith}
 use Rattle.format.specs.Terms.{Terms}
 use Rattle.format.specs.declared.Refusal.{Refusal}
 use Rattle.format.specs.declared.Refusal.TheVariants as R
-use Rattle.format.specs.declared.Field.TheVariants as F
 use Rattle.format.specs.declared.Head.{Head}
-use Rattle.format.specs.declared.Heading.{Heading}
 use Rattle.format.specs.declared.Row.{Row}
 use Rattle.format.specs.Numbers.{u32_at, negative}
 use Rattle.format.specs.Values.{value_at}
@@ -33,7 +31,7 @@ Few h = h.count < 2147483648
 module _ (τ : Terms) (s : List ℕ) (at : ℕ) where
   -- 6 and 12: a text after the number
   abbrev Named : Head → Type 0
-  Named h = name_at τ.setting s (at + 5) ≡ F.End h.end
+  Named h = name_at τ.setting s (at + 5) ≡ Ok h.end
 
   of_named : (test : ℕ → Bool) (refusal : Refusal) → Of Named (on_judged test refusal (named_at τ.setting s) (u32_at s (at + 1)))
   unfolding on_judged named_at
@@ -43,13 +41,13 @@ module _ (τ : Terms) (s : List ℕ) (at : ℕ) where
       of_field Named _ (name_at τ.setting s p) (λ end c.
       let m = number_moves s (at + 1) id p a in
       let e : p ≡ at + 5 = omega arith in
-      subst (λ (p : ℕ). name_at τ.setting s p ≡ F.End end) e c))
+      subst (λ (p : ℕ). name_at τ.setting s p ≡ Ok end) e c))
       (λ b. tt))
 
   -- 8: a code, and a value after it
   abbrev pub Typed : ℕ → Type 0
   Typed end =
-      (code_at s (at + 1) ≡ F.End (at + 2)) × (at + 2 < end) × (value_at τ.setting s (coded (primitive_of (get_or s (at + 1) 0))) (at + 2) ≡ F.End end)
+      (code_at s (at + 1) ≡ Ok (at + 2)) × (at + 2 < end) × (value_at τ.setting s (coded (primitive_of (get_or s (at + 1) 0))) (at + 2) ≡ Ok end)
 
   of_typed : Of (λ h. Typed h.end) (typed_primitive_at τ.setting s at)
   unfolding typed_primitive_at
@@ -61,7 +59,7 @@ module _ (τ : Terms) (s : List ℕ) (at : ℕ) where
       let m = code_told s (at + 1) p a in
       let n = value_moves τ.setting s code p end b in
       let e : p ≡ at + 2 = omega arith in
-      (a ∙ ap F.End e, omega arith, subst (λ (p : ℕ). value_at τ.setting s code p ≡ F.End end) e b)))
+      (a ∙ ap Ok e, omega arith, subst (λ (p : ℕ). value_at τ.setting s code p ≡ Ok end) e b)))
 
   -- 13 and 14
   of_nulls : get_or s (at + 1) 0 < 256 → Of Few (nulls_at s at)
@@ -91,13 +89,13 @@ module _ (τ : Terms) (s : List ℕ) (at : ℕ) where
 
 module _ (τ : Terms) {s : List ℕ} {before : List Row} {r : Row} (w : Recorded τ s before r) where
   text_row : (test : ℕ → Bool) → heading_at τ s before r.kind r.offset ≡ on_judged test R.BadId (named_at τ.setting s) (u32_at s (r.offset + 1))
-      → name_at τ.setting s (r.offset + 5) ≡ F.End r.end
-  text_row test e = row_said τ w (λ n end. name_at τ.setting s (r.offset + 5) ≡ F.End end) _ e (of_named τ s r.offset test R.BadId)
+      → name_at τ.setting s (r.offset + 5) ≡ Ok r.end
+  text_row test e = row_said τ w (λ n end. name_at τ.setting s (r.offset + 5) ≡ Ok end) _ e (of_named τ s r.offset test R.BadId)
 
-  pub string_row : r.kind ≡ 6 → name_at τ.setting s (r.offset + 5) ≡ F.End r.end
+  pub string_row : r.kind ≡ 6 → name_at τ.setting s (r.offset + 5) ≡ Ok r.end
   string_row k = text_row (good_id before) (string_heading τ s before r.kind r.offset k ∙ string_parts τ.setting s r.offset before)
 
-  pub library_row_lem : r.kind ≡ 12 → name_at τ.setting s (r.offset + 5) ≡ F.End r.end
+  pub library_row_lem : r.kind ≡ 12 → name_at τ.setting s (r.offset + 5) ≡ Ok r.end
   library_row_lem k = text_row (free_library before) (library_heading τ s before r.kind r.offset k ∙ library_parts τ.setting s r.offset before)
 
   pub typed_row : r.kind ≡ 8 → Typed τ s r.offset r.end
@@ -107,7 +105,7 @@ module _ (τ : Terms) {s : List ℕ} {before : List Row} {r : Row} (w : Recorded
   end_row k = row_said τ w (λ n end. end ≡ r.offset + 1) (plain 0 (r.offset + 1) 0) (end_heading τ s before r.kind r.offset k) refl
 
   -- nulls
-  few : (x : Heading) → heading_at τ s before r.kind r.offset ≡ x → Of Few x → r.count < 2147483648
+  few : (x : Result Head Refusal) → heading_at τ s before r.kind r.offset ≡ x → Of Few x → r.count < 2147483648
   few x e v = row_said τ w (λ n end. n < 2147483648) x e v
 
   pub null_row : r.kind ≡ 10 → r.count < 2147483648

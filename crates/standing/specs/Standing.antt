@@ -1,14 +1,12 @@
 -- What each row that a reading gathers says of the stream and of the rows before it, and what all rows of a stream that is taken say
 -- together, before their links are put in.
-use Rattle.std.specs.Prelude.{ℕ, suc, ◌-◌, ◌≤◌, ◌<◌, ◌≡◌, refl, Bool, true, false, ◌||◌, List, length, get_or, take, leb, eqb}
+use Rattle.std.specs.Prelude.{ℕ, suc, ◌-◌, ◌≤◌, ◌<◌, ◌≡◌, refl, Bool, true, false, ◌||◌, List, length, get_or, take, leb, eqb, Ok}
 use Rattle.std.proofs.Common.{arith, leb-true, eqb-true}
 use Rattle.format.specs.Terms.{Terms}
 use Rattle.format.specs.declared.PrimitiveCode.{PrimitiveCode}
-use Rattle.format.specs.declared.Field.TheVariants as F
 use Rattle.format.specs.declared.Where.{Where}
 use Rattle.format.specs.declared.Where.TheVariants as W
 use Rattle.format.specs.declared.Head.{Head}
-use Rattle.format.specs.declared.Heading.TheVariants as H
 use Rattle.format.specs.declared.Row.{Row}
 use Rattle.format.specs.Types.{code_number}
 use Rattle.format.specs.Values.{value_at}
@@ -45,7 +43,7 @@ pub record Recorded (τ : Terms) (s : List ℕ) (before : List Row) (r : Row) : 
   pub inside : r.offset < length s
   pub byte : get_or s r.offset 0 ≡ r.kind
   pub low : r.kind ≤ 17
-  pub fields : heading_at τ s before r.kind r.offset ≡ H.Fields head
+  pub fields : heading_at τ s before r.kind r.offset ≡ Ok head
   pub same_end : r.end ≡ head.end
   pub same_id : r.id ≡ head.id
   pub same_link : r.link ≡ head.link
@@ -55,7 +53,7 @@ pub record Recorded (τ : Terms) (s : List ℕ) (before : List Row) (r : Row) : 
 pub record Valued (τ : Terms) (s : List ℕ) (r : Row) : Type 0 where
   pub code : PrimitiveCode
   pub kind : r.kind ≡ 32
-  pub reads : value_at τ.setting s code r.offset ≡ F.End r.end
+  pub reads : value_at τ.setting s code r.offset ≡ Ok r.end
   pub no_id : r.id ≡ 0
   pub link_is : r.link ≡ code_number code
   pub no_count : r.count ≡ 0

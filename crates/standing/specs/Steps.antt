@@ -1,5 +1,6 @@
 -- What holds of the rows between two steps. A step adds one row, and keeps it.
-use Rattle.std.specs.Prelude.{ℕ, suc, ◌+◌, ◌-◌, ◌<◌, ◌≡◌, Bool, true, false, ◌||◌, get_or, take, ltb}
+use Rattle.std.specs.Prelude.{ℕ, suc, ◌+◌, ◌-◌, ◌<◌, ◌≡◌, Bool, true, false, ◌||◌, get_or, take, ltb, Option, Some, None, Result, Ok, Err}
+use Rattle.format.specs.declared.Refusal.{Refusal}
 use Rattle.std.proofs.Math.Path.{refl, sym, ap, subst}
 use Rattle.std.proofs.Common.{◌∙◌, length-append, ltb-true, ltb-false, eqb-true}
 use mathlib.Core.List.{List, [], ◌∷◌, ◌++◌}
@@ -14,17 +15,9 @@ use Rattle.format.specs.declared.PrimitiveCode.{PrimitiveCode}
 use Rattle.format.specs.declared.SlotType.{SlotType}
 use Rattle.format.specs.declared.SlotType.TheVariants as S
 use Rattle.format.specs.declared.Typed.{Typed}
-use Rattle.format.specs.declared.Field.{Field}
-use Rattle.format.specs.declared.Field.TheVariants as F
 use Rattle.format.specs.declared.Where.{Where}
 use Rattle.format.specs.declared.Where.TheVariants as W
-use Rattle.format.specs.declared.Kind.{Kind}
-use Rattle.format.specs.declared.Kind.TheVariants as K
 use Rattle.format.specs.declared.Head.{Head}
-use Rattle.format.specs.declared.Heading.{Heading}
-use Rattle.format.specs.declared.Heading.TheVariants as H
-use Rattle.format.specs.declared.Passed.{Passed}
-use Rattle.format.specs.declared.Passed.TheVariants as O
 use Rattle.format.specs.declared.Row.{Row}
 use Rattle.format.specs.declared.Frame.{Frame}
 use Rattle.format.specs.Values.{value_at}
@@ -193,9 +186,9 @@ module _ (τ : Terms) (s : List ℕ) (room : ℕ) (st : State) (w : Gathered τ 
         (λ d. add_gathered (row_in st kind h) (opened st.stack (length st.rows + 1) h t) (own (not_kind is_object 12 refl kind i)) (not_kind is_object 11 refl kind i) (open_owners i t))
         (λ d. tt))
 
-    over_gathered : (p : Passed) → (kind ≡ 11 → ⊥) → (kind ≡ 12 → ⊥) → NextGathered τ s (run_over room st kind h p)
-    over_gathered (O.Over t) n x = slots_gathered h.count t n x
-    over_gathered O.Crossed n x = tt
+    over_gathered : (p : Option Typed) → (kind ≡ 11 → ⊥) → (kind ≡ 12 → ⊥) → NextGathered τ s (run_over room st kind h p)
+    over_gathered (Some t) n x = slots_gathered h.count t n x
+    over_gathered None n x = tt
 
     run_gathered : (kind ≡ 11 → ⊥) → (kind ≡ 12 → ⊥) → NextGathered τ s (null_run τ.book s room st kind h)
     unfolding null_run
@@ -224,7 +217,7 @@ module _ (τ : Terms) (s : List ℕ) (room : ℕ) (st : State) (w : Gathered τ 
         (λ t. tt)
 
     -- fields that are good
-    good_gathered : NextGathered τ s (act τ.book s room st kind (H.Fields h))
+    good_gathered : NextGathered τ s (act τ.book s room st kind (Ok h))
     unfolding act
     good_gathered =
         picked (NextGathered τ s) (is_object kind) (λ t. object_gathered t (moved τ.book s st.stack.cur.typed))
@@ -235,10 +228,10 @@ module _ (τ : Terms) (s : List ℕ) (room : ℕ) (st : State) (w : Gathered τ 
 
   -- a kind that is the header's exactly where no row stands before it
   module _ (v : Where) (z : (k : ℕ) → allowed v k ≡ true → (k ≡ 0 → length st.rows ≡ 0) × (length st.rows ≡ 0 → k ≡ 0)) where
-    act_gathered : (kind : ℕ) → kind_at s v st.at ≡ K.Taken kind → (x : Heading) → heading_at τ s st.rows kind st.at ≡ x
+    act_gathered : (kind : ℕ) → kind_at s v st.at ≡ Ok kind → (x : Result Head Refusal) → heading_at τ s st.rows kind st.at ≡ x
         → NextGathered τ s (act τ.book s room st kind x)
     unfolding act
-    act_gathered kind q (H.Fields h) e = good_gathered kind h (λ o l x y.
+    act_gathered kind q (Ok h) e = good_gathered kind h (λ o l x y.
         let b = kind_byte s v st.at kind q in
         let f = z kind b.fits in
         record {
@@ -260,11 +253,11 @@ module _ (τ : Terms) (s : List ℕ) (room : ℕ) (st : State) (w : Gathered τ 
           owned = x;
           library_apart = y;
         })
-    act_gathered kind q (H.Bad f) e = tt
+    act_gathered kind q (Err f) e = tt
 
-    kind_gathered : (k : Kind) → kind_at s v st.at ≡ k → NextGathered τ s (on_kind τ s room st k)
-    kind_gathered (K.Taken k) q = act_gathered k q (heading_at τ s st.rows k st.at) refl
-    kind_gathered (K.Wrong f) q = tt
+    kind_gathered : (k : Result ℕ Refusal) → kind_at s v st.at ≡ k → NextGathered τ s (on_kind τ s room st k)
+    kind_gathered (Ok k) q = act_gathered k q (heading_at τ s st.rows k st.at) refl
+    kind_gathered (Err f) q = tt
 
     pub record_gathered : NextGathered τ s (record_step τ s room st v)
     unfolding record_step
@@ -272,8 +265,8 @@ module _ (τ : Terms) (s : List ℕ) (room : ℕ) (st : State) (w : Gathered τ 
 
   -- after the header
   module _ (some : 0 < length st.rows) where
-    value_gathered : (c : PrimitiveCode) (v : Field) → value_at τ.setting s c st.at ≡ v → NextGathered τ s (on_value τ.book s room st c v)
-    value_gathered c (F.End end) e =
+    value_gathered : (c : PrimitiveCode) (v : Result ℕ Refusal) → value_at τ.setting s c st.at ≡ v → NextGathered τ s (on_value τ.book s room st c v)
+    value_gathered c (Ok end) e =
         slots_gathered 32 (value_head c end) (λ o l x y. record {
           said = a_value_rule (record { code = c; kind = refl; reads = e; no_id = refl; link_is = refl; no_count = refl });
           known = value refl;
@@ -283,7 +276,7 @@ module _ (τ : Terms) (s : List ℕ) (room : ℕ) (st : State) (w : Gathered τ 
           owned = x;
           library_apart = y;
         }) 1 (moved τ.book s st.stack.cur.typed) (λ q. omega arith) (λ q. omega arith)
-    value_gathered c (F.Fault f) e = tt
+    value_gathered c (Err f) e = tt
 
     slot_record : (v : Where) → (allowed v 0 ≡ false) → NextGathered τ s (record_step τ s room st v)
     slot_record v f = record_gathered v (λ k t. (λ e. absurd (not_kind (allowed v) 0 f k t e), λ q. absurd (omega arith)))

@@ -1,15 +1,15 @@
 // What a step does once its record's fields, or its member value, are good: one row more, and the open objects after it.
 #![tactic(auto)]
 
-ghost use Rattle.std.specs.Prelude.{◌≡◌, true, ◌-◌, ◌≤◌, ◌<◌, length};
+ghost use Rattle.std.specs.Prelude.{◌≡◌, true, ◌-◌, ◌≤◌, ◌<◌, length, Ok};
 ghost use Rattle.format.specs.Rows.{room_of};
 ghost use Rattle.format.specs.Machine.{act, value_step, value_head};
 ghost use Rattle.kinds.specs.Kinds.{is_brief, Hollow};
 ghost use Rattle.adding.specs.Held.{state_of, after, Held, Short};
 ghost use Rattle.format.specs.Terms.{terms};
 
-use adding::Step;
-use format::{Field, Head, Heading, PrimitiveCode, Reader, Setting, SlotType, Typed};
+use adding::Progress;
+use format::{Head, PrimitiveCode, Reader, Refusal, Refused, Setting, SlotType, Typed};
 
 // A record whose fields are good.
 fn take_fields(
@@ -20,10 +20,10 @@ fn take_fields(
     m: Reader,
     kind: u32,
     h: Head,
-) -> Step
+) -> Result<Progress, Refused>
     requires { Held (room_of table.old) m × (h.end ≤ 16777216) × (length frames.old ≡ 384) × (length s.now ≤ 16777216) × (length book.now < 4294967296) }
     ensures { (after table.new frames.new result
-        ≡ act book.now s.now (room_of table.old) (state_of table.old frames.old m) kind (Heading.Fields h))
+        ≡ act book.now s.now (room_of table.old) (state_of table.old frames.old m) kind (Ok h))
         × (length frames.new ≡ 384) }
 {
     if kind == 13 {
@@ -54,16 +54,19 @@ pub fn take(
     frames: &mut [u32; Reader::WORDS],
     m: Reader,
     kind: u32,
-    heading: Heading,
-) -> Step
+    heading: Result<Head, Refusal>,
+) -> Result<Progress, Refused>
     requires { Held (room_of table.old) m × Short heading × (length frames.old ≡ 384) × (length s.now ≤ 16777216) × (length book.now < 4294967296) }
     ensures { (after table.new frames.new result
         ≡ act book.now s.now (room_of table.old) (state_of table.old frames.old m) kind heading)
         × (length frames.new ≡ 384) }
 {
     match heading {
-        Heading::Fields(h) => take_fields(s, book, table, frames, m, kind, h),
-        Heading::Bad(f) => Step::Refuse(f, m.at),
+        Ok(h) => take_fields(s, book, table, frames, m, kind, h),
+        Err(f) => Err(Refused {
+            refusal: f,
+            place: m.at,
+        }),
     }
 }
 
@@ -95,20 +98,23 @@ pub fn take_value(
     m: Reader,
     code: PrimitiveCode,
     setting: Setting,
-) -> Step
+) -> Result<Progress, Refused>
     requires { Held (room_of table.old) m × (length frames.now ≡ 384) × (length s.now ≤ 16777216) × (length book.now < 4294967296) }
     ensures { after table.new frames.now result
         ≡ value_step (terms setting book.now) s.now (room_of table.old) (state_of table.old frames.now m) code }
 {
     let v = values::value_at(s, code, m.at, setting);
     match v {
-        Field::End(end) => {
+        Ok(end) => {
             let h = value_head(code, end);
             let typed = m.top.typed;
             let t = slots::move_on(s, book, typed);
             taking::take_slots(table, frames, m, 32, h, 1, t)
         }
-        Field::Fault(f) => Step::Refuse(f, m.at),
+        Err(f) => Err(Refused {
+            refusal: f,
+            place: m.at,
+        }),
     }
 }
 
@@ -120,19 +126,22 @@ pub fn take_brief(
     frames: &[u32; Reader::WORDS],
     m: Reader,
     kind: u32,
-    heading: Heading,
-) -> Step
+    heading: Result<Head, Refusal>,
+) -> Result<Progress, Refused>
     requires { Held (room_of table.old) m × Short heading × Hollow heading × (is_brief kind ≡ true) × (length frames.now ≡ 384) × (length s.now ≤ 16777216) × (length book.now < 4294967296) }
     ensures { after table.new frames.now result
         ≡ act book.now s.now (room_of table.old) (state_of table.old frames.now m) kind heading }
 {
     let at = m.at;
     match heading {
-        Heading::Fields(h) => {
+        Ok(h) => {
             let typed = m.top.typed;
             let t = slots::move_on(s, book, typed);
             taking::take_slots(table, frames, m, kind, h, 1, t)
         }
-        Heading::Bad(f) => Step::Refuse(f, at),
+        Err(f) => Err(Refused {
+            refusal: f,
+            place: at,
+        }),
     }
 }

@@ -1,11 +1,9 @@
 -- A prefix and then as many bytes as it says, which a test judges: the shape of the prefixed string and of Decimal.
-use Rattle.std.specs.Prelude.{ℕ, ◌+◌, ◌-◌, ◌≤◌, ◌<◌, ◌≡◌, Bool, List, ◌++◌, length, drop}
+use Rattle.std.specs.Prelude.{ℕ, ◌+◌, ◌-◌, ◌≤◌, ◌<◌, ◌≡◌, Bool, List, ◌++◌, length, drop, Ok}
 use Rattle.std.proofs.Common.{arith}
 use Rattle.format.specs.declared.Setting.{Setting}
 use Rattle.format.specs.declared.Refusal.{Refusal}
 use Rattle.format.specs.declared.Setting.TheVariants as S
-use Rattle.format.specs.declared.Prefix.TheVariants as P
-use Rattle.format.specs.declared.Field.TheVariants as F
 use Rattle.format.specs.Bytes.{part}
 use Rattle.format.specs.Prefix.{prefix_at}
 use Rattle.fields.specs.Parts.{length_part, halves, stands_at}
@@ -16,8 +14,8 @@ use Rattle.prefix.specs.Both.{only}
 module _ (σ : Setting) (test : List ℕ → Bool) (refusal : Refusal) where
   -- the prefix at p says n, a is the place after it, and e the place after the n bytes
   pub record Counted (s : List ℕ) (p n a e : ℕ) : Type 0 where
-    pub says : prefix_at σ s p ≡ P.Length n a
-    pub ends : judged_at test refusal s a n ≡ F.End e
+    pub says : prefix_at σ s p ≡ Ok (n, a)
+    pub ends : judged_at test refusal s a n ≡ Ok e
 
   pub counted_moves : (s : List ℕ) (p n a e : ℕ) → Counted s p n a e → (p < a) × (a ≤ e) × (e ≤ length s)
   counted_moves s p n a e c =

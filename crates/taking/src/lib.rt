@@ -7,8 +7,8 @@ ghost use Rattle.format.specs.Machine.{object, null_run, ending};
 ghost use Rattle.adding.specs.Held.{state_of, after, Held};
 ghost use Rattle.adding.specs.Laws.{slots_taken, library_taken};
 
-use adding::Step;
-use format::{Head, Passed, Reader, Refusal, Typed};
+use adding::Progress;
+use format::{Head, Reader, Refusal, Refused, Typed};
 
 // An object: opened where it has slots to fill, else it fills its own slot.
 pub fn take_object(
@@ -18,7 +18,7 @@ pub fn take_object(
     kind: u32,
     h: Head,
     t: Typed,
-) -> Step
+) -> Result<Progress, Refused>
     requires { Held (room_of table.old) m × (h.end ≤ 16777216) × (length frames.old ≡ 384) }
     ensures { (after table.new frames.new result
         ≡ object (room_of table.old) (state_of table.old frames.old m) kind h t)
@@ -35,7 +35,10 @@ pub fn take_object(
         let next = frames::open_object(frames, m, row, h, t);
         return adding::add_row(table, m, r, next);
     }
-    Step::Refuse(Refusal::TooDeep, m.at)
+    Err(Refused {
+        refusal: Refusal::TooDeep,
+        place: m.at,
+    })
 }
 
 // A record that fills k slots of the object it stands in.
@@ -47,7 +50,7 @@ pub fn take_slots(
     h: Head,
     k: u32,
     t: Typed,
-) -> Step
+) -> Result<Progress, Refused>
     requires { Held (room_of table.old) m × (h.end ≤ 16777216) × (length frames.now ≡ 384) }
     ensures { after table.new frames.now result
         ≡ slots_taken (room_of table.old) (state_of table.old frames.now m) kind h k t }
@@ -66,25 +69,31 @@ pub fn take_run(
     m: Reader,
     kind: u32,
     h: Head,
-) -> Step
+) -> Result<Progress, Refused>
     requires { Held (room_of table.old) m × (h.end ≤ 16777216) × (length frames.now ≡ 384) × (length s.now ≤ 16777216) × (length book.now < 4294967296) }
     ensures { after table.new frames.now result
         ≡ null_run book.now s.now (room_of table.old) (state_of table.old frames.now m) kind h }
 {
     let n = h.count;
     if m.top.left < n {
-        return Step::Refuse(Refusal::BadCount, m.at);
+        return Err(Refused {
+            refusal: Refusal::BadCount,
+            place: m.at,
+        });
     }
     let typed = m.top.typed;
     let p = slots::pass(s, book, typed, n);
     match p {
-        Passed::Over(t) => take_slots(table, frames, m, kind, h, n, t),
-        Passed::Crossed => Step::Refuse(Refusal::BadCount, m.at),
+        Some(t) => take_slots(table, frames, m, kind, h, n, t),
+        None => Err(Refused {
+            refusal: Refusal::BadCount,
+            place: m.at,
+        }),
     }
 }
 
 // A library stands in no slot: the open objects stay as they are.
-pub fn take_library(table: &mut [u32], m: Reader, kind: u32, h: Head) -> Step
+pub fn take_library(table: &mut [u32], m: Reader, kind: u32, h: Head) -> Result<Progress, Refused>
     requires { Held (room_of table.old) m × (h.end ≤ 16777216) }
     ensures { (f : List ℕ) → after table.new f result
         ≡ library_taken (room_of table.old) (state_of table.old f m) kind h }
@@ -94,7 +103,7 @@ pub fn take_library(table: &mut [u32], m: Reader, kind: u32, h: Head) -> Step
 }
 
 // The end record.
-pub fn take_end(table: &mut [u32], m: Reader, h: Head) -> Step
+pub fn take_end(table: &mut [u32], m: Reader, h: Head) -> Result<Progress, Refused>
     requires { Held (room_of table.old) m × (h.end ≤ 16777216) }
     ensures { (f : List ℕ) → after table.new f result
         ≡ ending (room_of table.old) (state_of table.old f m) h }
@@ -103,7 +112,10 @@ pub fn take_end(table: &mut [u32], m: Reader, h: Head) -> Step
     if rows < table::room(table) {
         let r = adding::row_in(m, 11, h);
         table::put_row(table, rows, r);
-        return Step::Ended(rows + 1, h.end);
+        return Ok(Progress::Ended(rows + 1, h.end));
     }
-    Step::Refuse(Refusal::NoRoom, m.at)
+    Err(Refused {
+        refusal: Refusal::NoRoom,
+        place: m.at,
+    })
 }

@@ -1,17 +1,17 @@
 -- What the exported forms take for a setting, and what they answer: the number, the place and the value of the reply that the job has, and where the
 -- text of a row stands.
-use Rattle.std.specs.Prelude.{ℕ, ◌+◌, ◌-◌, ◌≤◌, ◌≡◌, refl, List, length, eqb}
+use Rattle.std.specs.Prelude.{ℕ, ◌+◌, ◌-◌, ◌≤◌, ◌≡◌, refl, List, length, eqb, Bool, Result, Ok, Err}
+use Rattle.format.specs.declared.Span.{Span}
+use Rattle.format.specs.declared.Refused.{Refused}
+use Rattle.format.specs.declared.Untidied.{Untidied}
+use Rattle.format.specs.declared.Uncompared.{Uncompared}
 use Rattle.std.proofs.Common.{ap, ap₂, subst, ◌∙◌, arith}
 use Rattle.format.specs.Terms.{Terms, terms}
 use Rattle.format.specs.declared.Setting.{Setting}
 use Rattle.format.specs.declared.Setting.TheVariants as S
 use Rattle.format.specs.declared.Refusal.{Refusal}
 use Rattle.format.specs.declared.Refusal.TheVariants as R
-use Rattle.format.specs.declared.ReadAnswer.{ReadAnswer}
 use Rattle.format.specs.declared.RowAnswer.{RowAnswer}
-use Rattle.format.specs.declared.TidyAnswer.{TidyAnswer}
-use Rattle.format.specs.declared.Text.{Text}
-use Rattle.format.specs.declared.Text.TheVariants as T
 use Rattle.format.specs.Bytes.{pick, part, same_bytes}
 use Rattle.format.specs.Replies.{number_of, reply, read_reply, row_reply, tidy_reply, list_of, same_of, same_reply}
 use Rattle.format.specs.Rows.{room_of}
@@ -19,7 +19,6 @@ use Rattle.format.specs.Machine.{read_of, read_answer, table_words}
 use Rattle.format.specs.Promises.{ReadPromise, QuestionPromise, TidyPromise}
 use Rattle.format.specs.Tidy.{tidy_answer, tidy_table, tidy_output}
 use Rattle.format.specs.View.{row_text, row_question, text_view}
-use Rattle.format.specs.declared.Sameness.{Sameness}
 use Rattle.sameness.specs.Sameness as W
 use Rattle.replies.specs.Replies.{Answered, answered, text_reply}
 use Rattle.view.specs.Laws.{question_part, question_fault, view_part, view_fault, row_inside}
@@ -35,12 +34,12 @@ terms_of n β = terms (setting_of n) β
 
 -- ---- reading, and the row question: a job's answer has the reply of what the job promises
 
-pub read_told : (σ ρ : Setting) → ρ ≡ σ → (β s t u : List ℕ) (a : ReadAnswer) (n p v : ℕ) → ReadPromise (terms ρ β) s t a u → Answered (read_reply a) n p v
+pub read_told : (σ ρ : Setting) → ρ ≡ σ → (β s t u : List ℕ) (a : Result ℕ Refused) (n p v : ℕ) → ReadPromise (terms ρ β) s t a u → Answered (read_reply a) n p v
     → Answered (read_reply (read_answer (read_of (terms σ β) s (room_of t)))) n p v
 read_told σ ρ q β s t u a n p v w h =
     subst (λ (x : Setting). Answered (read_reply (read_answer (read_of (terms x β) s (room_of t)))) n p v) q (answered _ _ n p v (ap read_reply w.answer) h)
 
-pub read_left : (σ ρ : Setting) → ρ ≡ σ → (β s t u : List ℕ) (a : ReadAnswer) → ReadPromise (terms ρ β) s t a u → u ≡ table_words (length t) (read_of (terms σ β) s (room_of t))
+pub read_left : (σ ρ : Setting) → ρ ≡ σ → (β s t u : List ℕ) (a : Result ℕ Refused) → ReadPromise (terms ρ β) s t a u → u ≡ table_words (length t) (read_of (terms σ β) s (room_of t))
 read_left σ ρ q β s t u a w = w.table ∙ ap (λ (x : Setting). table_words (length t) (read_of (terms x β) s (room_of t))) q
 
 pub row_told : (σ ρ : Setting) → ρ ≡ σ → (s t : List ℕ) (row : ℕ) (a : RowAnswer) (n : ℕ) → QuestionPromise ρ s t row a → n ≡ (row_reply a).number
@@ -56,7 +55,7 @@ pub record Tidied (τ : Terms) (s t out t' out' : List ℕ) (number place value 
   pub table_is : t' ≡ tidy_table (length t) τ.book s out (read_of τ s (room_of t))
   pub out_is : out' ≡ tidy_output τ.book s out (read_of τ s (room_of t))
 
-pub tidied : (σ ρ : Setting) → ρ ≡ σ → (β s t out t' out' : List ℕ) (number place value : ℕ) (a : TidyAnswer) → TidyPromise (terms ρ β) s t out a t' out'
+pub tidied : (σ ρ : Setting) → ρ ≡ σ → (β s t out t' out' : List ℕ) (number place value : ℕ) (a : Result ℕ Untidied) → TidyPromise (terms ρ β) s t out a t' out'
     → Answered (tidy_reply a) number place value → Tidied (terms σ β) s t out t' out' number place value
 tidied σ ρ q β s t out t' out' number place value a w h =
     subst (λ (x : Setting). Tidied (terms x β) s t out t' out' number place value) q
@@ -65,7 +64,7 @@ tidied σ ρ q β s t out t' out' number place value a w h =
 -- ---- comparing
 
 -- the answer that the lists a, under τ, and b, under υ, have with a table that held t and outputs that held c and d
-abbrev pub said_of : Terms → Terms → List ℕ → List ℕ → List ℕ → List ℕ → List ℕ → Sameness
+abbrev pub said_of : Terms → Terms → List ℕ → List ℕ → List ℕ → List ℕ → List ℕ → Result Bool Uncompared
 said_of τ υ a b t c d =
     W.answer_of (tidy_answer τ.book a c (read_of τ a (room_of t))) (tidy_answer υ.book b d (read_of υ b (room_of t)))
     (same_bytes (W.copied τ.book a (read_of τ a (room_of t))) (W.copied υ.book b (read_of υ b (room_of t))))
@@ -77,7 +76,7 @@ pub record Compared (τ υ : Terms) (a b t c d u e f : List ℕ) (number same li
   pub same_is : same ≡ same_of (said_of τ υ a b t c d)
   pub list_is : list ≡ list_of (said_of τ υ a b t c d)
 
-pub compared : (σ ρ : Setting) → ρ ≡ σ → (σ' ρ' : Setting) → ρ' ≡ σ' → (β γ a b t c d u e f : List ℕ) (number same list place needed : ℕ) (q : Sameness)
+pub compared : (σ ρ : Setting) → ρ ≡ σ → (σ' ρ' : Setting) → ρ' ≡ σ' → (β γ a b t c d u e f : List ℕ) (number same list place needed : ℕ) (q : Result Bool Uncompared)
     → W.ComparePromise (terms ρ β) (terms ρ' γ) a b t c d q u e f
     → Answered (same_reply q) number place needed
     → same ≡ same_of q
@@ -90,7 +89,7 @@ compared σ ρ p σ' ρ' p' β γ a b t c d u e f number same list place needed 
     by_handed : Compared (terms ρ β) (terms ρ' γ) a b t c d u e f number same list place needed
     by_handed =
         record {
-          said = subst (λ (y : Sameness). W.ComparePromise (terms ρ β) (terms ρ' γ) a b t c d y u e f) w.answer w;
+          said = subst (λ (y : Result Bool Uncompared). W.ComparePromise (terms ρ β) (terms ρ' γ) a b t c d y u e f) w.answer w;
           answer_is = answered _ _ number place needed (ap same_reply w.answer) h;
           same_is = k ∙ ap same_of w.answer;
           list_is = l ∙ ap list_of w.answer;
@@ -99,13 +98,13 @@ compared σ ρ p σ' ρ' p' β γ a b t c d u e f number same list place needed 
 -- ---- the text view
 
 -- where a text stands and how many bytes it has; both 0 where there is none
-abbrev pub from_of : Text → ℕ
-from_of (T.Part from to) = from
-from_of (T.Fault f) = 0
+abbrev pub from_of : Result Span Refusal → ℕ
+from_of (Ok t) = t.from
+from_of (Err f) = 0
 
-abbrev pub length_of : Text → ℕ
-length_of (T.Part from to) = to - from
-length_of (T.Fault f) = 0
+abbrev pub length_of : Result Span Refusal → ℕ
+length_of (Ok t) = t.to - t.from
+length_of (Err f) = 0
 
 pub record Shown (σ : Setting) (s t : List ℕ) (row number from count : ℕ) : Type 0 where
   pub number_is : number ≡ (row_reply (row_question σ s t row)).number
@@ -116,37 +115,37 @@ pub record Shown (σ : Setting) (s t : List ℕ) (row number from count : ℕ) :
 
 -- the reply of the row's text shows it, one law for a part and one for a fault
 module _ (σ : Setting) (s t : List ℕ) (row : ℕ) where
-  part_shown : (from to number place count : ℕ) → T.Part from to ≡ row_text σ s t row → Answered (reply 0 from (to - from)) number place count
+  part_shown : (from to number place count : ℕ) → Ok (record { from = from; to = to }) ≡ row_text σ s t row → Answered (reply 0 from (to - from)) number place count
       → Shown σ s t row number place count
   part_shown from to number place count e h =
-      let w = row_inside σ s t row from to (T.Part from to) e refl in
+      let w = row_inside σ s t row from to (Ok (record { from = from; to = to })) e refl in
       let p = h.place_is in
       let v = h.value_is in
       record {
-        number_is = h.number_is ∙ ap (λ (x : RowAnswer). (row_reply x).number) (question_part σ s t row (T.Part from to) e from to refl);
+        number_is = h.number_is ∙ ap (λ (x : RowAnswer). (row_reply x).number) (question_part σ s t row (Ok (record { from = from; to = to })) e from to refl);
         from_is = p ∙ ap from_of e;
         length_is = v ∙ ap length_of e;
         inside = omega arith;
-        text_is = ap₂ (λ (x y : ℕ). part s x y) p v ∙ view_part σ s t row (T.Part from to) e from to refl;
+        text_is = ap₂ (λ (x y : ℕ). part s x y) p v ∙ view_part σ s t row (Ok (record { from = from; to = to })) e from to refl;
       }
 
-  none_shown : (f : Refusal) (number place count : ℕ) → T.Fault f ≡ row_text σ s t row → Answered (reply (number_of R.NoSuchRow) 0 0) number place count
+  none_shown : (f : Refusal) (number place count : ℕ) → Err f ≡ row_text σ s t row → Answered (reply (number_of R.NoSuchRow) 0 0) number place count
       → Shown σ s t row number place count
   none_shown f number place count e h =
       let p = h.place_is in
       let v = h.value_is in
       record {
-        number_is = h.number_is ∙ ap (λ (x : RowAnswer). (row_reply x).number) (question_fault σ s t row (T.Fault f) e f refl);
+        number_is = h.number_is ∙ ap (λ (x : RowAnswer). (row_reply x).number) (question_fault σ s t row (Err f) e f refl);
         from_is = p ∙ ap from_of e;
         length_is = v ∙ ap length_of e;
         inside = omega arith;
-        text_is = ap₂ (λ (x y : ℕ). part s x y) p v ∙ view_fault σ s t row (T.Fault f) e f refl;
+        text_is = ap₂ (λ (x y : ℕ). part s x y) p v ∙ view_fault σ s t row (Err f) e f refl;
       }
 
-  text_shown : (x : Text) (number place count : ℕ) → x ≡ row_text σ s t row → Answered (text_reply x) number place count → Shown σ s t row number place count
-  text_shown (T.Part from to) number place count e h = part_shown from to number place count e h
-  text_shown (T.Fault f) number place count e h = none_shown f number place count e h
+  text_shown : (x : Result Span Refusal) (number place count : ℕ) → x ≡ row_text σ s t row → Answered (text_reply x) number place count → Shown σ s t row number place count
+  text_shown (Ok t) number place count e h = part_shown t.from t.to number place count e h
+  text_shown (Err f) number place count e h = none_shown f number place count e h
 
-  pub shown : (ρ : Setting) → ρ ≡ σ → (x : Text) (number place count : ℕ) → x ≡ row_text ρ s t row → Answered (text_reply x) number place count
+  pub shown : (ρ : Setting) → ρ ≡ σ → (x : Result Span Refusal) (number place count : ℕ) → x ≡ row_text ρ s t row → Answered (text_reply x) number place count
       → Shown σ s t row number place count
   shown ρ q x number place count e h = text_shown x number place count (e ∙ ap (λ (y : Setting). row_text y s t row) q) h

@@ -5,7 +5,7 @@ ghost use Rattle.std.specs.Prelude.{◌≡◌, ◌≤◌, ◌<◌, length, drop}
 ghost use Rattle.format.specs.Text.{need_of, well_formed, text_at};
 ghost use Rattle.text.specs.Scalars.{has_at, width_of, width_at};
 
-use format::{Field, Refusal};
+use format::Refusal;
 
 // How many bytes the scalar at i has; 0 where none stands there. The rows stand in the order of the table; no first byte is in two of them.
 //
@@ -68,24 +68,18 @@ pub fn well_formed(s: &[u8]) -> bool
 }
 
 // The n bytes of text at a place: bytes that are missing go before bad text.
-pub fn text_at(s: &[u8], at: usize, n: usize) -> Field
+pub fn text_at(s: &[u8], at: usize, n: usize) -> Result<usize, Refusal>
     ensures { result ≡ text_at s.now at n }
 {
-    if s.len() < at {
-        return Field::Fault(Refusal::CutShort);
-    }
-    if s.len() - at < n {
-        return Field::Fault(Refusal::CutShort);
-    }
-    let end = at + n;
-    if well_formed(&s[at..end]) {
-        Field::End(end)
+    let text = fields::part_at(s, at, n).ok_or(Refusal::CutShort)?;
+    if well_formed(text) {
+        Ok(at + n)
     } else {
-        Field::Fault(Refusal::BadText)
+        Err(Refusal::BadText)
     }
 }
 
-// How many bytes follow a first byte; 4 for a byte that is none. For the length of a Char; the text check does not ask it.
+// How many bytes follow a first byte; 4 for a byte that is none, as the definition has it (`need_of`): no Option. For the length of a Char; the text check does not ask it.
 pub fn need_of(b: u8) -> u8
     ensures { result ≡ need_of b }
 {

@@ -1,6 +1,9 @@
 -- The tidy job from its parts: what an accepted reading says of the table, that the copy written from marked rows is the tidy copy, and the table
 -- at the end.
-use Rattle.std.specs.Prelude.{ℕ, zero, suc, ◌+◌, ◌≤◌, ◌<◌, refl, Bool, false, length, get_or, drop, replicate}
+use Rattle.std.specs.Prelude.{ℕ, zero, suc, ◌+◌, ◌≤◌, ◌<◌, refl, Bool, false, length, get_or, drop, replicate, Result, Ok, Err}
+use Rattle.format.specs.declared.Refused.{Refused}
+use Rattle.format.specs.declared.Untidied.{Untidied}
+use Rattle.format.specs.declared.Untidied.TheVariants as Q
 use Rattle.std.proofs.Math.Path.{◌≡◌, sym, ap}
 use Rattle.std.proofs.Common.{ap₂, subst, ◌∙◌, arith, get_or-drop}
 use Rattle.std.proofs.Math.Bool.{true}
@@ -8,10 +11,6 @@ use mathlib.Core.List.{List}
 use Rattle.format.specs.Terms.{Terms}
 use Rattle.format.specs.declared.Setting.{Setting}
 use Rattle.format.specs.declared.Refusal.{Refusal}
-use Rattle.format.specs.declared.ReadAnswer.{ReadAnswer}
-use Rattle.format.specs.declared.ReadAnswer.TheVariants as A
-use Rattle.format.specs.declared.TidyAnswer.{TidyAnswer}
-use Rattle.format.specs.declared.TidyAnswer.TheVariants as Q
 use Rattle.format.specs.declared.Row.{Row}
 use Rattle.format.specs.Bytes.{pick}
 use Rattle.format.specs.Rows.{blank, room_of, rows_of, linked, bound}
@@ -31,20 +30,16 @@ use Rattle.meaning.specs.Bound.{copy_is_tidy}
 use Rattle.meaning.specs.Small.{copy_small}
 
 -- the table after a copy, by the answer
-abbrev pub restored : Terms → List ℕ → List ℕ → TidyAnswer → List ℕ
-restored τ s t (Q.Written n) = table_words (length t) (read_of τ s (room_of t))
-restored τ s t (Q.Refused r p) = replicate (length t) 0
-restored τ s t (Q.OutFull n) = replicate (length t) 0
+abbrev pub restored : Terms → List ℕ → List ℕ → Result ℕ Untidied → List ℕ
+restored τ s t (Ok n) = table_words (length t) (read_of τ s (room_of t))
+restored τ s t (Err why) = replicate (length t) 0
 
-module _ (τ : Terms) (s t u : List ℕ) (q : TidyAnswer) where
-  pub restored_read : (n : ℕ) → q ≡ Q.Written n → u ≡ table_words (length t) (read_of τ s (room_of t)) → u ≡ restored τ s t q
+module _ (τ : Terms) (s t u : List ℕ) (q : Result ℕ Untidied) where
+  pub restored_read : (n : ℕ) → q ≡ Ok n → u ≡ table_words (length t) (read_of τ s (room_of t)) → u ≡ restored τ s t q
   restored_read n k e = e ∙ sym (ap (restored τ s t) k)
 
-  pub restored_refused : (r : Refusal) (p : ℕ) → q ≡ Q.Refused r p → u ≡ replicate (length t) 0 → u ≡ restored τ s t q
-  restored_refused r p k e = e ∙ sym (ap (restored τ s t) k)
-
-  pub restored_full : (n : ℕ) → q ≡ Q.OutFull n → u ≡ replicate (length t) 0 → u ≡ restored τ s t q
-  restored_full n k e = e ∙ sym (ap (restored τ s t) k)
+  pub restored_none : (why : Untidied) → q ≡ Err why → u ≡ replicate (length t) 0 → u ≡ restored τ s t q
+  restored_none why k e = e ∙ sym (ap (restored τ s t) k)
 
 -- ---- an accepted reading
 
@@ -56,8 +51,8 @@ pub record Read (τ : Terms) (s t u : List ℕ) (n : ℕ) : Type 0 where
   pub few : n ≤ 16777216
   pub roomy : n ≤ room_of u
 
-module _ (τ : Terms) (s t u : List ℕ) (a : ReadAnswer) (l : length u ≡ length t) (e : outcome_of u a ≡ end_by true (raw_of τ s (room_of t))) where
-  pub read_of_lem : (n : ℕ) → a ≡ A.Accepted n → Read τ s t u n
+module _ (τ : Terms) (s t u : List ℕ) (a : Result ℕ Refused) (l : length u ≡ length t) (e : outcome_of u a ≡ end_by true (raw_of τ s (room_of t))) where
+  pub read_of_lem : (n : ℕ) → a ≡ Ok n → Read τ s t u n
   read_of_lem n k = go (raw_of τ s (room_of t)) refl (sym (ap (outcome_of u) k) ∙ e)
     where
       go : (o : Outcome) → raw_of τ s (room_of t) ≡ o → accepted (rows_of n u) ≡ end_by true o → Read τ s t u n
@@ -73,7 +68,7 @@ module _ (τ : Terms) (s t u : List ℕ) (a : ReadAnswer) (l : length u ≡ leng
       go (refused r place) q e = absurd (let z : ◌≡◌ {A = ℕ} 0 1 = cc in omega arith)
 
   -- a refused reading, and the outcome of the whole
-  pub refused_read : (r : Refusal) (p : ℕ) → a ≡ A.Refused r p → read_of τ s (room_of t) ≡ refused r p
+  pub refused_read : (r : Refusal) (p : ℕ) → a ≡ Err (record { refusal = r; place = p }) → read_of τ s (room_of t) ≡ refused r p
   unfolding read_of
   refused_read r p k = go (raw_of τ s (room_of t)) (sym (ap (outcome_of u) k) ∙ e)
     where
@@ -90,7 +85,7 @@ module _ (σ : Setting) (δ : ℕ) (e : δ ≡ anew_in σ) (s : List ℕ) (rs : 
   pub anew_short : length (copy_of (anew_in σ) s rs) ≤ 18446744073709551615 → length (copy_of δ s rs) ≤ 18446744073709551615
   anew_short h = subst (λ (l : List ℕ). length l ≤ 18446744073709551615) (sym same_copy) h
 
-  pub anew_answer : (q : TidyAnswer) (d : List ℕ) → q ≡ answer_by (copy_of δ s rs) d → q ≡ answer_by (copy_of (anew_in σ) s rs) d
+  pub anew_answer : (q : Result ℕ Untidied) (d : List ℕ) → q ≡ answer_by (copy_of δ s rs) d → q ≡ answer_by (copy_of (anew_in σ) s rs) d
   anew_answer q d a = a ∙ ap (λ (l : List ℕ). answer_by l d) same_copy
 
   pub anew_output : (d d' : List ℕ) → d' ≡ out_by (copy_of δ s rs) d → d' ≡ out_by (copy_of (anew_in σ) s rs) d
@@ -134,7 +129,7 @@ module _ (τ : Terms) (s t u v : List ℕ) (n : ℕ) (byte : (i : ℕ) → get_o
       (copy_small (anew_in τ.setting) s (bound w.raw) x.stands.fits (omega arith) (members_small τ s (room_of t) w.raw w.reads)
       (subst (λ (rows : List Row). (j : ℕ) → (get_or rows j blank).count < 4294967296) same (counts_small n v words)))
 
-  module _ (d e y : List ℕ) (q : TidyAnswer) (a : q ≡ answer_by copy d) (o : e ≡ out_by copy d) (l : length v ≡ length t) (z : y ≡ restored τ s v q) where
+  module _ (d e y : List ℕ) (q : Result ℕ Untidied) (a : q ≡ answer_by copy d) (o : e ≡ out_by copy d) (l : length v ≡ length t) (z : y ≡ restored τ s v q) where
     answer_is : q ≡ tidy_answer τ.book s d (read_of τ s (room_of t))
     unfolding tidy_answer
     answer_is = rw reads (a ∙ ap (λ (c : List ℕ). answer_by c d) copy_is)
@@ -143,7 +138,7 @@ module _ (τ : Terms) (s t u v : List ℕ) (n : ℕ) (byte : (i : ℕ) → get_o
     unfolding tidy_output
     output_is = rw reads (o ∙ ap (λ (c : List ℕ). out_by c d) copy_is)
 
-    by_fits : (b : Bool) (x : ℕ) → restored τ s v (pick b (Q.Written x) (Q.OutFull x)) ≡ pick b (table_words (length v) (read_of τ s (room_of v))) (replicate (length v) 0)
+    by_fits : (b : Bool) (x : ℕ) → restored τ s v (pick b (Ok x) (Err (Q.OutFull x))) ≡ pick b (table_words (length v) (read_of τ s (room_of v))) (replicate (length v) 0)
     by_fits true x = refl
     by_fits false x = refl
 
@@ -165,7 +160,7 @@ module _ (τ : Terms) (s t u v : List ℕ) (n : ℕ) (byte : (i : ℕ) → get_o
 -- ---- a refused reading
 
 module _ (τ : Terms) (s t u d : List ℕ) (r : Refusal) (p : ℕ) (outcome : read_of τ s (room_of t) ≡ refused r p) (w : u ≡ replicate (length t) 0) where
-  refused_answer : Q.Refused r p ≡ tidy_answer τ.book s d (read_of τ s (room_of t))
+  refused_answer : Err (Q.Refused (record { refusal = r; place = p })) ≡ tidy_answer τ.book s d (read_of τ s (room_of t))
   unfolding tidy_answer
   refused_answer = rw outcome
 
@@ -177,5 +172,5 @@ module _ (τ : Terms) (s t u d : List ℕ) (r : Refusal) (p : ℕ) (outcome : re
   unfolding tidy_output
   refused_output = rw outcome
 
-  pub untidied : TidyPromise τ s t d (Q.Refused r p) u d
-  untidied = tidy_promised τ s t d (Q.Refused r p) u d refused_answer refused_table refused_output
+  pub untidied : TidyPromise τ s t d (Err (Q.Refused (record { refusal = r; place = p }))) u d
+  untidied = tidy_promised τ s t d (Err (Q.Refused (record { refusal = r; place = p }))) u d refused_answer refused_table refused_output

@@ -11,7 +11,7 @@ ghost use Rattle.format.specs.Rows.{rows_of, room_of};
 ghost use Rattle.format.specs.Tidy.{answer_by, out_by};
 ghost use Rattle.pieces.specs.Copy.{anew_in, copy_of};
 
-use format::{ReadAnswer, Setting, TidyAnswer};
+use format::{Setting, Untidied};
 
 // The code whose values are written anew: that of Decimals in lenient. In strict they have the shortest prefixes already; 0 is no code.
 fn anew_in(setting: Setting) -> u32
@@ -24,7 +24,13 @@ fn anew_in(setting: Setting) -> u32
 }
 
 // The copy of the marked rows, or nothing where it does not fit.
-fn copied(out: &mut [u8], s: &[u8], table: &[u32], n: usize, setting: Setting) -> TidyAnswer
+fn copied(
+    out: &mut [u8],
+    s: &[u8],
+    table: &[u32],
+    n: usize,
+    setting: Setting,
+) -> Result<usize, Untidied>
     requires { (n ≤ room_of table.now) × (n ≤ 16777216) × (length (copy_of (anew_in setting) s.now (rows_of n table.now)) ≤ 18446744073709551615) }
     ensures { (result ≡ answer_by (copy_of (anew_in setting) s.now (rows_of n table.now)) out.old) × (out.new ≡ out_by (copy_of (anew_in setting) s.now (rows_of n table.now)) out.old) }
 {
@@ -33,16 +39,16 @@ fn copied(out: &mut [u8], s: &[u8], table: &[u32], n: usize, setting: Setting) -
 }
 
 // The table after the copy: the reading where one was written, all zeros where none was.
-fn restore(s: &[u8], book: &[u8], table: &mut [u32], q: TidyAnswer, setting: Setting)
+fn restore(s: &[u8], book: &[u8], table: &mut [u32], q: Result<usize, Untidied>, setting: Setting)
     requires { (length s.now ≤ 16777216) × (bad_entry book.now ≡ 0) }
     ensures { table.new ≡ restored (terms setting book.now) s.now table.old q }
 {
     match q {
-        TidyAnswer::Written(_) => {
-            reader::read_again(s, book, table, setting);
+        Ok(_) => {
+            // The list was accepted before, and is again.
+            let _ = reader::read_again(s, book, table, setting);
         }
-        TidyAnswer::Refused(_, _) => table::clear(table),
-        TidyAnswer::OutFull(_) => table::clear(table),
+        Err(_) => table::clear(table),
     }
 }
 
@@ -53,20 +59,20 @@ pub fn tidy(
     table: &mut [u32],
     out: &mut [u8],
     setting: Setting,
-) -> TidyAnswer
+) -> Result<usize, Untidied>
     ensures { TidyPromise (terms setting book.now) s.now table.old out.old result table.new out.new }
 {
     let a = reader::judge(s, book, table, true, setting);
     match a {
-        ReadAnswer::Accepted(n) => {
+        Ok(n) => {
             marking::mark_all(s, table, n);
             let q = copied(out, s, table, n, setting);
             restore(s, book, table, q, setting);
             q
         }
-        ReadAnswer::Refused(r, place) => {
+        Err(r) => {
             table::clear(table);
-            TidyAnswer::Refused(r, place)
+            Err(Untidied::Refused(r))
         }
     }
 }

@@ -12,8 +12,8 @@ ghost use Rattle.adding.specs.Held.{state_of, after, Held};
 ghost use Rattle.turns.specs.Due.{due_of};
 ghost use Rattle.format.specs.Terms.{terms};
 
-use adding::Step;
-use format::{Kind, PrimitiveCode, Reader, Setting, SlotType, Where};
+use adding::Progress;
+use format::{PrimitiveCode, Reader, Refused, Setting, SlotType, Where};
 
 // What a slot waits for: a member value, or a kind byte where one stands.
 #[derive(Clone, Copy)]
@@ -56,7 +56,7 @@ fn long_step(
     m: Reader,
     kind: u8,
     setting: Setting,
-) -> Step
+) -> Result<Progress, Refused>
     requires { Held (room_of table.old) m × (m.at < length s.now) × (length frames.old ≡ 384) × (length s.now ≤ 16777216) × (length book.now < 4294967296) × (is_brief kind ≡ false) }
     ensures { (after table.new frames.new result
         ≡ act book.now s.now (room_of table.old) (state_of table.old frames.old m) kind
@@ -75,7 +75,7 @@ pub fn header_step(
     frames: &mut [u32; Reader::WORDS],
     m: Reader,
     setting: Setting,
-) -> Step
+) -> Result<Progress, Refused>
     requires { Held (room_of table.old) m × (length frames.old ≡ 384) × (length s.now ≤ 16777216) × (length book.now < 4294967296) }
     ensures { (after table.new frames.new result
         ≡ record_step (terms setting book.now) s.now (room_of table.old) (state_of table.old frames.old m) W.Start)
@@ -84,8 +84,11 @@ pub fn header_step(
     let at = m.at;
     let k = kinds::kind_at(s, Where::Start, at);
     match k {
-        Kind::Taken(kind) => long_step(s, book, table, frames, m, kind, setting),
-        Kind::Wrong(f) => Step::Refuse(f, at),
+        Ok(kind) => long_step(s, book, table, frames, m, kind, setting),
+        Err(f) => Err(Refused {
+            refusal: f,
+            place: at,
+        }),
     }
 }
 
@@ -99,7 +102,7 @@ fn record_step(
     m: Reader,
     w: Where,
     setting: Setting,
-) -> Step
+) -> Result<Progress, Refused>
     requires { Held (room_of table.old) m × (length frames.old ≡ 384) × (length s.now ≤ 16777216) × (length book.now < 4294967296) }
     ensures { (after table.new frames.new result
         ≡ record_step (terms setting book.now) s.now (room_of table.old) (state_of table.old frames.old m) w)
@@ -113,12 +116,15 @@ fn record_step(
     }
     let k = kinds::kind_at(s, w, at);
     match k {
-        Kind::Taken(kind) => {
+        Ok(kind) => {
             let n = m;
             let q = long_step(s, book, table, frames, n, kind, setting);
             q
         }
-        Kind::Wrong(f) => Step::Refuse(f, at),
+        Err(f) => Err(Refused {
+            refusal: f,
+            place: at,
+        }),
     }
 }
 
@@ -130,7 +136,7 @@ pub fn one_step(
     frames: &mut [u32; Reader::WORDS],
     m: Reader,
     setting: Setting,
-) -> Step
+) -> Result<Progress, Refused>
     requires { Held (room_of table.old) m × (length frames.old ≡ 384) × (length s.now ≤ 16777216) × (length book.now < 4294967296) }
     ensures { (after table.new frames.new result
         ≡ step (terms setting book.now) s.now (room_of table.old) (state_of table.old frames.old m))

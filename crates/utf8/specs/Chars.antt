@@ -1,7 +1,6 @@
 -- A Char, where it is read, is the UTF-8 form of one scalar value.
-use Rattle.std.specs.Prelude.{ℕ, ◌+◌, ◌≤◌, ◌<◌, ◌≡◌, refl, ◌↔◌, true, List, [], ◌∷◌, ◌++◌, length, get_or, eqb}
+use Rattle.std.specs.Prelude.{ℕ, ◌+◌, ◌≤◌, ◌<◌, ◌≡◌, refl, ◌↔◌, true, List, [], ◌∷◌, ◌++◌, length, get_or, eqb, Ok}
 use Rattle.std.proofs.Common.{sym, ap, ◌∙◌, append-nil, arith, length-append, length-take, length-drop, eqb-true, ne_eqb}
-use Rattle.format.specs.declared.Field.TheVariants as F
 use Rattle.format.specs.Bytes.{part}
 use Rattle.format.specs.Text.{need_of, between, after, well_formed}
 use Rattle.format.specs.Values.{char_at}
@@ -57,7 +56,7 @@ module _ (s : List ℕ) (at e : ℕ) where
       let k : length (encode c) ≡ n = rw q at h in
       (c, record { scalar = i; bytes = rw k q; ends = omega arith })
 
-  char_bytes : char_at s at ≡ F.End e → (c : ℕ) × Char c s at e
+  char_bytes : char_at s at ≡ Ok e → (c : ℕ) × Char c s at e
   char_bytes q =
       let w = char_taken s at e q in
       let n : ℕ = need_of (get_or s at 0) + 1 in
@@ -66,7 +65,7 @@ module _ (s : List ℕ) (at e : ℕ) where
       let f = ap need_of (part_first s at n (omega arith)) in
       char_stands n w.ends l (one_scalar_lem (part s at n) g.1 (omega arith))
 
-  char_reads : (c : ℕ) → Char c s at e → char_at s at ≡ F.End e
+  char_reads : (c : ℕ) → Char c s at e → char_at s at ≡ Ok e
   char_reads c w =
       let k : ℕ = length (encode c) in
       let i = some_bytes c in
@@ -78,5 +77,5 @@ module _ (s : List ℕ) (at e : ℕ) where
       char_of s at e (rw m (record { ends = w.ends; room = r; good = rw (w.bytes, four) (scalar_good c w.scalar) }))
 
   -- for every stream and place: a Char is read and ends at e exactly when the bytes of some scalar value stand there and end at e
-  pub char_exactly : (char_at s at ≡ F.End e) ↔ ((c : ℕ) × Char c s at e)
+  pub char_exactly : (char_at s at ≡ Ok e) ↔ ((c : ℕ) × Char c s at e)
   char_exactly = (char_bytes, λ w. char_reads w.0 w.1)

@@ -1,73 +1,71 @@
 -- Primitive values at a place: one law for each answer.
-use Rattle.std.specs.Prelude.{ℕ, ◌+◌, ◌-◌, ◌*◌, ◌/◌, ◌%◌, ◌≤◌, ◌<◌, ◌≡◌, refl, true, false, List, length, get_or}
+use Rattle.std.specs.Prelude.{ℕ, ◌+◌, ◌-◌, ◌*◌, ◌/◌, ◌%◌, ◌≤◌, ◌<◌, ◌≡◌, refl, true, false, List, length, get_or, Some, None, Ok, Err}
 use Rattle.std.proofs.Common.{sym, ap, ◌∙◌, arith, mul-le-mul_right}
 use borrow.Author.Tests.{lt-ltb, le-ltb, le-leb, lt-leb, eq-eqb, ne_eqb}
 use Rattle.format.specs.declared.Setting.{Setting}
 use Rattle.format.specs.declared.Refusal.TheVariants as R
 use Rattle.format.specs.declared.PrimitiveCode.{PrimitiveCode}
 use Rattle.format.specs.declared.PrimitiveCode.TheVariants as C
-use Rattle.format.specs.declared.Field.TheVariants as F
 use Rattle.format.specs.Bytes.{part}
 use Rattle.format.specs.Text.{need_of, well_formed}
-use Rattle.format.specs.declared.Number64.TheVariants as N64
 use Rattle.format.specs.Numbers.{u64_at}
 use Rattle.format.specs.Values.{bytes_at, boolean_at, scalar_at, char_at, decimal, decimal_text, last_tick, date_time_at, size_of, value_at, times, items_at}
 use Rattle.fields.specs.Judged.{judged_at, judged_short, judged_good, judged_bad}
 
 module _ (s : List ℕ) (p : ℕ) where
   module _ (n : ℕ) where
-    pub bytes_short : length s < p + n → bytes_at s p n ≡ F.Fault R.CutShort
+    pub bytes_short : length s < p + n → bytes_at s p n ≡ Err R.CutShort
     unfolding bytes_at
     bytes_short h = simp lt-leb
 
-    pub bytes_end : p + n ≤ length s → bytes_at s p n ≡ F.End (p + n)
+    pub bytes_end : p + n ≤ length s → bytes_at s p n ≡ Ok (p + n)
     unfolding bytes_at
     bytes_end h = simp le-leb
 
-    pub scalar_short : length s < p + n → scalar_at s p n ≡ F.Fault R.CutShort
+    pub scalar_short : length s < p + n → scalar_at s p n ≡ Err R.CutShort
     unfolding scalar_at judged_at
     scalar_short h = judged_short well_formed R.BadValue s p n h
 
-    pub decimal_short : length s < p + n → decimal_text s p n ≡ F.Fault R.CutShort
+    pub decimal_short : length s < p + n → decimal_text s p n ≡ Err R.CutShort
     unfolding decimal_text judged_at
     decimal_short h = judged_short decimal R.BadValue s p n h
 
     -- the part as code has it, from p to p + n
     module _ (h : p + n ≤ length s) where
-      pub scalar_end : well_formed (part s p (p + n - p)) ≡ true → scalar_at s p n ≡ F.End (p + n)
+      pub scalar_end : well_formed (part s p (p + n - p)) ≡ true → scalar_at s p n ≡ Ok (p + n)
       unfolding scalar_at judged_at
       scalar_end g = judged_good well_formed R.BadValue s p n h g
 
-      pub scalar_bad : well_formed (part s p (p + n - p)) ≡ false → scalar_at s p n ≡ F.Fault R.BadValue
+      pub scalar_bad : well_formed (part s p (p + n - p)) ≡ false → scalar_at s p n ≡ Err R.BadValue
       unfolding scalar_at judged_at
       scalar_bad g = judged_bad well_formed R.BadValue s p n h g
 
-      pub decimal_end : decimal (part s p (p + n - p)) ≡ true → decimal_text s p n ≡ F.End (p + n)
+      pub decimal_end : decimal (part s p (p + n - p)) ≡ true → decimal_text s p n ≡ Ok (p + n)
       unfolding decimal_text judged_at
       decimal_end g = judged_good decimal R.BadValue s p n h g
 
-      pub decimal_bad : decimal (part s p (p + n - p)) ≡ false → decimal_text s p n ≡ F.Fault R.BadValue
+      pub decimal_bad : decimal (part s p (p + n - p)) ≡ false → decimal_text s p n ≡ Err R.BadValue
       unfolding decimal_text judged_at
       decimal_bad g = judged_bad decimal R.BadValue s p n h g
 
-  pub boolean_short : length s ≤ p → boolean_at s p ≡ F.Fault R.CutShort
+  pub boolean_short : length s ≤ p → boolean_at s p ≡ Err R.CutShort
   unfolding boolean_at
   boolean_short h = simp le-ltb
 
-  pub char_short : length s ≤ p → char_at s p ≡ F.Fault R.CutShort
+  pub char_short : length s ≤ p → char_at s p ≡ Err R.CutShort
   unfolding char_at
   char_short h = simp le-ltb
 
   module _ (i : p < length s) where
-    pub boolean_bad : 1 < get_or s p 0 → boolean_at s p ≡ F.Fault R.BadValue
+    pub boolean_bad : 1 < get_or s p 0 → boolean_at s p ≡ Err R.BadValue
     unfolding boolean_at
     boolean_bad h = simp (lt-ltb, lt-leb)
 
-    pub boolean_end : get_or s p 0 ≤ 1 → boolean_at s p ≡ F.End (p + 1)
+    pub boolean_end : get_or s p 0 ≤ 1 → boolean_at s p ≡ Ok (p + 1)
     unfolding boolean_at
     boolean_end h = simp (lt-ltb, le-leb)
 
-    pub char_bad : need_of (get_or s p 0) ≡ 4 → char_at s p ≡ F.Fault R.BadValue
+    pub char_bad : need_of (get_or s p 0) ≡ 4 → char_at s p ≡ Err R.BadValue
     unfolding char_at
     char_bad h = simp (lt-ltb, eq-eqb (need_of (get_or s p 0)) 4 h)
 
@@ -78,20 +76,20 @@ module _ (s : List ℕ) (p : ℕ) where
 -- ---- DateTime
 
 module _ (s : List ℕ) (p : ℕ) where
-  pub date_short : u64_at s p ≡ N64.Short → date_time_at s p ≡ F.Fault R.CutShort
+  pub date_short : u64_at s p ≡ None → date_time_at s p ≡ Err R.CutShort
   unfolding date_time_at
   date_short h = rw h
 
-  module _ (x e : ℕ) (h : u64_at s p ≡ N64.Value x e) where
-    pub date_kind : 3 ≤ x / 4611686018427387904 → date_time_at s p ≡ F.Fault R.BadValue
+  module _ (x e : ℕ) (h : u64_at s p ≡ Some (x, e)) where
+    pub date_kind : 3 ≤ x / 4611686018427387904 → date_time_at s p ≡ Err R.BadValue
     unfolding date_time_at
     date_kind k = rw (h, le-ltb (x / 4611686018427387904) 3 k)
 
-    pub date_ticks : x / 4611686018427387904 < 3 → last_tick < x % 4611686018427387904 → date_time_at s p ≡ F.Fault R.BadValue
+    pub date_ticks : x / 4611686018427387904 < 3 → last_tick < x % 4611686018427387904 → date_time_at s p ≡ Err R.BadValue
     unfolding date_time_at
     date_ticks k t = rw h (simp (lt-ltb, lt-leb))
 
-    pub date_end : x / 4611686018427387904 < 3 → x % 4611686018427387904 ≤ last_tick → date_time_at s p ≡ F.End e
+    pub date_end : x / 4611686018427387904 < 3 → x % 4611686018427387904 ≤ last_tick → date_time_at s p ≡ Ok e
     unfolding date_time_at
     date_end k t = rw h (simp (lt-ltb, le-leb))
 

@@ -5,9 +5,9 @@
 ghost use Rattle.std.specs.Prelude.{◌≡◌};
 ghost use Rattle.format.specs.Values.{size_of, value_at};
 
-use format::{Field, PrimitiveCode, Setting};
+use format::{PrimitiveCode, Refusal, Setting};
 
-// How many bytes a value has whose every pattern is taken; 0 for a value that is judged.
+// How many bytes a value has whose every pattern is taken; 0 for a value that is judged, as the definition has it (`size_of`): no Option.
 pub fn size_of(code: PrimitiveCode) -> usize
     ensures { result ≡ size_of code }
 {
@@ -30,7 +30,12 @@ pub fn size_of(code: PrimitiveCode) -> usize
     }
 }
 
-pub fn value_at(s: &[u8], code: PrimitiveCode, at: usize, setting: Setting) -> Field
+pub fn value_at(
+    s: &[u8],
+    code: PrimitiveCode,
+    at: usize,
+    setting: Setting,
+) -> Result<usize, Refusal>
     ensures { result ≡ value_at setting s.now code at }
 {
     match code {
@@ -53,7 +58,12 @@ pub fn value_at(s: &[u8], code: PrimitiveCode, at: usize, setting: Setting) -> F
 }
 
 // The same value on the short way: one of a code that has a size is one comparison, and the others have a result of their own.
-pub fn value_soon(s: &[u8], code: PrimitiveCode, at: usize, setting: Setting) -> Field
+pub fn value_soon(
+    s: &[u8],
+    code: PrimitiveCode,
+    at: usize,
+    setting: Setting,
+) -> Result<usize, Refusal>
     ensures { result ≡ value_at setting s.now code at }
 {
     let size = size_of(code);

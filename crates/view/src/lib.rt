@@ -6,51 +6,45 @@ ghost use Rattle.std.specs.Prelude.{◌≡◌};
 ghost use Rattle.format.specs.View.{record_text, row_text};
 ghost use Rattle.format.specs.Promises.{QuestionPromise, ViewPromise};
 
-use format::{Number32, Refusal, RowAnswer, Setting, Text};
+use format::{Refusal, RowAnswer, Setting, Span};
 
 // The text of a whole string record at a place.
-fn record_text(s: &[u8], at: usize, setting: Setting) -> Text
+fn record_text(s: &[u8], at: usize, setting: Setting) -> Result<Span, Refusal>
     ensures { result ≡ record_text setting s.now at }
 {
     if s.len() <= at {
-        return Text::Fault(Refusal::NoSuchRow);
+        return Err(Refusal::NoSuchRow);
     }
     if s[at] != 6 {
-        return Text::Fault(Refusal::NoSuchRow);
+        return Err(Refusal::NoSuchRow);
     }
-    match num::u32_at(s, at + 1) {
-        Number32::Value(id, next) => {
-            if types::is_positive(id) {
-                return strings::string_at(s, next, setting);
-            }
-            Text::Fault(Refusal::NoSuchRow)
-        }
-        Number32::Short => Text::Fault(Refusal::NoSuchRow),
+    let (id, next) = num::u32_at(s, at + 1).ok_or(Refusal::NoSuchRow)?;
+    if types::is_positive(id) {
+        return strings::string_at(s, next, setting);
     }
+    Err(Refusal::NoSuchRow)
 }
 
 // Where the text of a row stands: only a record that ends at the end word is the row's own.
-pub fn row_text(s: &[u8], table: &[u32], row: usize, setting: Setting) -> Text
+pub fn row_text(s: &[u8], table: &[u32], row: usize, setting: Setting) -> Result<Span, Refusal>
     ensures { result ≡ row_text setting s.now table.now row }
 {
     let n = table::room(table);
     if n <= row {
-        return Text::Fault(Refusal::NoSuchRow);
+        return Err(Refusal::NoSuchRow);
     }
     let r = table::row_at(table, n, row);
     if r.kind != 6 {
-        return Text::Fault(Refusal::NoSuchRow);
+        return Err(Refusal::NoSuchRow);
     }
+    let Ok(text) = record_text(s, r.offset as usize, setting) else {
+        return Err(Refusal::NoSuchRow);
+    };
     let end = r.end as usize;
-    match record_text(s, r.offset as usize, setting) {
-        Text::Part(from, to) => {
-            if to == end {
-                return Text::Part(from, to);
-            }
-            Text::Fault(Refusal::NoSuchRow)
-        }
-        Text::Fault(_) => Text::Fault(Refusal::NoSuchRow),
+    if text.to == end {
+        return Ok(text);
     }
+    Err(Refusal::NoSuchRow)
 }
 
 // Whether a row has text.
@@ -58,8 +52,8 @@ pub fn row_question(s: &[u8], table: &[u32], row: usize, setting: Setting) -> Ro
     ensures { QuestionPromise setting s.now table.now row result }
 {
     match row_text(s, table, row, setting) {
-        Text::Part(_, _) => RowAnswer::HasText,
-        Text::Fault(_) => RowAnswer::NoSuchRow,
+        Ok(_) => RowAnswer::HasText,
+        Err(_) => RowAnswer::NoSuchRow,
     }
 }
 
@@ -68,7 +62,7 @@ pub fn text_view<'a>(s: &'a [u8], table: &[u32], row: usize, setting: Setting) -
     ensures { ViewPromise setting s.now table.now row result.now }
 {
     match row_text(s, table, row, setting) {
-        Text::Part(from, to) => &s[from..to],
-        Text::Fault(_) => &s[0..0],
+        Ok(Span { from, to }) => &s[from..to],
+        Err(_) => &s[0..0],
     }
 }

@@ -10,14 +10,14 @@ loop-p-init c = bad_whole _
 
 pub loop-p-smaller : goal.loop-p-smaller
 loop-p-smaller c =
-    let m = entry_moves _ _ _ (sym c.entry_at.ensures ∙ c.in-End.is) in
+    let m = entry_moves _ _ _ (sym c.entry_at.ensures ∙ c.in-Ok.is) in
     omega (arith, m.0, m.1, c.loop-p-test.true)
 
 pub loop-p-preserved : goal.loop-p-preserved
-loop-p-preserved c = c.loop-p.invariant ∙ bad_more _ _ _ (omega arith) c.entry_at.ensures _ c.in-End.is
+loop-p-preserved c = c.loop-p.invariant ∙ bad_more _ _ _ (omega arith) c.entry_at.ensures _ c.in-Ok.is
 
-pub returns-in-Fault : goal.returns-in-Fault
-returns-in-Fault c = sym (c.loop-p.invariant ∙ bad_here _ _ _ (omega arith) c.entry_at.ensures _ c.in-Fault.is)
+pub returns-in-Err : goal.returns-in-Err
+returns-in-Err c = sym (c.loop-p.invariant ∙ bad_here _ _ _ (omega arith) c.entry_at.ensures _ c.in-Err.is)
 
 pub returns : goal.returns
 returns c = sym (c.loop-p.invariant ∙ bad_none _ _ _ (omega arith))

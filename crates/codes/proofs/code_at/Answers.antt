@@ -7,8 +7,8 @@ use Rattle.codes.proofs.code_at.Goals as goal
 pub returns-then-s-at : goal.returns-then-s-at
 returns-then-s-at c = sym (code_short _ _ (omega arith))
 
-pub returns-in-Code : goal.returns-in-Code
-returns-in-Code c = sym (code_end_lem _ _ (omega arith) _ (sym c.primitive_of.ensures ∙ c.in-Code.is))
+pub returns-in-Some : goal.returns-in-Some
+returns-in-Some c = sym (code_end_lem _ _ (omega arith) _ (sym c.primitive_of.ensures ∙ c.in-Some.is))
 
-pub returns-in-NoCode : goal.returns-in-NoCode
-returns-in-NoCode c = sym (code_bad _ _ (omega arith) (sym c.primitive_of.ensures ∙ c.in-NoCode.is))
+pub returns-in-None : goal.returns-in-None
+returns-in-None c = sym (code_bad _ _ (omega arith) (sym c.primitive_of.ensures ∙ c.in-None.is))

@@ -1,12 +1,14 @@
 -- Two laws for each kind: what its heading is, and that it has no slots; the last kind is 10, since no other is left.
+use Rattle.std.specs.Prelude.{Result}
+use Rattle.format.specs.declared.Refusal.{Refusal}
+use Rattle.format.specs.declared.Head.{Head}
 use mathlib.Core.Path.{◌≡◌, refl, sym, subst, ◌∙◌}
-use Rattle.format.specs.declared.Heading.{Heading}
 use Rattle.kinds.specs.Kinds.{Hollow, brief_null}
 use Rattle.headings.specs.Headings.{string_heading, typed_heading, reference_heading, null_heading, string_hollow, typed_hollow, reference_hollow}
 use Rattle.headings.proofs.brief_at.Goals as goal
 
-hollow_as : (x y : Heading) → x ≡ y → Hollow y → Hollow x
-hollow_as x y e h = subst (λ (z : Heading). Hollow z) (sym e) h
+hollow_as : (x y : Result Head Refusal) → x ≡ y → Hollow y → Hollow x
+hollow_as x y e h = subst (λ (z : Result Head Refusal). Hollow z) (sym e) h
 
 pub returns-in-6 : goal.returns-in-6
 returns-in-6 c =

@@ -1,13 +1,19 @@
 -- The number is judged, and what follows it is read where it is good.
-use mathlib.Core.Path.{sym, ◌∙◌}
+use Rattle.std.specs.Prelude.{Err}
+use Rattle.std.proofs.Common.{rules}
+use Rattle.fields.specs.Tried.{found, missing}
+use mathlib.Core.Path.{sym, ◌∙◌, ◌≡◌, ap}
 use Rattle.records.specs.Stages.{judged_short, judged_good, judged_bad, library_parts}
 use Rattle.records.proofs.library_at.Goals as goal
 
-pub returns-in_default : goal.returns-in_default
-returns-in_default c = sym (library_parts _ _ _ _ ∙ judged_short _ _ _ _ (sym c.u32_at.ensures ∙ c.in_default.is))
+pub returns-in_err-id : goal.returns-in_err-id
+returns-in_err-id c =
+    let w = missing _ c.u32_at.ensures c.in_err-id.ensures.value in
+    let r : c.from_residual.result ≡ Err c.in_err-id.field-0.0 = search rules in
+    r ∙ (ap Err w.1 ∙ sym (library_parts _ _ _ _ ∙ judged_short _ _ _ _ w.0))
 
 pub returns-then-is_free_library : goal.returns-then-is_free_library
-returns-then-is_free_library c = c.named_at.ensures ∙ sym (library_parts _ _ _ _ ∙ judged_good _ _ _ _ _ _ (sym c.u32_at.ensures ∙ c.in-Value.is) (sym c.is_free_library.ensures ∙ c.if-is_free_library.true))
+returns-then-is_free_library c = c.named_at.ensures ∙ sym (library_parts _ _ _ _ ∙ judged_good _ _ _ _ _ _ (found _ c.u32_at.ensures c.in_ok-id.ensures.value) (sym c.is_free_library.ensures ∙ c.if-is_free_library.true))
 
 pub returns : goal.returns
-returns c = sym (library_parts _ _ _ _ ∙ judged_bad _ _ _ _ _ _ (sym c.u32_at.ensures ∙ c.in-Value.is) (sym c.is_free_library.ensures ∙ c.if-is_free_library.false))
+returns c = sym (library_parts _ _ _ _ ∙ judged_bad _ _ _ _ _ _ (found _ c.u32_at.ensures c.in_ok-id.ensures.value) (sym c.is_free_library.ensures ∙ c.if-is_free_library.false))

@@ -3,5 +3,5 @@ use Rattle.replies.specs.Replies.{read_refused}
 use borrow.Author.Rules.{rules}
 use Rattle.replies.proofs.read_reply.Goals as goal
 
-pub returns-in-Refused : goal.returns-in-Refused
-returns-in-Refused c = search (read_refused, rules)
+pub returns-in-Err : goal.returns-in-Err
+returns-in-Err c = search (read_refused, rules)

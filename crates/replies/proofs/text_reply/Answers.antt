@@ -3,5 +3,5 @@ use Rattle.replies.specs.Replies.{text_part}
 use borrow.Author.Rules.{rules}
 use Rattle.replies.proofs.text_reply.Goals as goal
 
-pub returns-in-Part : goal.returns-in-Part
-returns-in-Part c = search (text_part, rules)
+pub returns-in-Ok : goal.returns-in-Ok
+returns-in-Ok c = search (text_part, rules)

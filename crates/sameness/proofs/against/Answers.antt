@@ -1,16 +1,13 @@
 -- The tidying says what the output holds; its front is the copy of the second list.
-use Rattle.sameness.proofs.Laws.{copy_within, second_written, second_refused, second_full}
-use borrow.Author.Rules.{rules}
+use Rattle.std.specs.Prelude.{◌≡◌, ◌-◌}
+use Rattle.std.proofs.Common.{arith}
+use Rattle.std.proofs.lemmas.Bool.Decides.{Decides-eqb}
+use Rattle.std.proofs.lemmas.Slice.Eq.{slice_eq-Decides}
+use Rattle.sameness.proofs.Laws.{second_written, kept, told}
 use Rattle.sameness.proofs.against.Goals as goal
 
-pub slice_bounds-compared-end : goal.slice_bounds-compared-end
-slice_bounds-compared-end c = search (copy_within, rules)
-
-pub returns-in-Written : goal.returns-in-Written
-returns-in-Written c = search (second_written, rules)
-
-pub returns-in-Refused : goal.returns-in-Refused
-returns-in-Refused c = search (second_refused, rules)
-
-pub returns-in-OutFull : goal.returns-in-OutFull
-returns-in-OutFull c = search (second_full, rules)
+pub returns : goal.returns
+returns c =
+    let h = kept c.tidy.result c.in_ok-n.n c.in_ok-n.ensures.cases in
+    let k : c.in_ok-n.n - 0 ≡ c.in_ok-n.n = omega arith in
+    second_written _ _ _ _ _ _ _ c.tidy.result c.tidy.ensures c.in_ok-n.n h _ (rw k (told _ _ _ (slice_eq-Decides Decides-eqb _ _ _ c.eq.ensures)))

@@ -9,11 +9,11 @@ use Rattle.turns.proofs.header_step.Goals as goal
 
 pub long_step-requires : goal.long_step-requires
 long_step-requires c =
-    let q = sym c.kind_at-k.ensures ∙ c.in-Taken.is in
+    let q = sym c.kind_at-k.ensures ∙ c.in-Ok.is in
     (c.requires.0, kind_within c.args.s.now W.Start c.args.m.at _ q, c.requires.1, c.requires.2, c.requires.3, taken_long c.args.s.now W.Start c.args.m.at (header_long c.args.s.now c.args.m.at) _ q)
 
-pub returns-in-Taken : goal.returns-in-Taken
-returns-in-Taken c = (c.long_step.ensures.0 ∙ record_on _ c.args.s.now (room_of c.args.table.now) (state_of c.args.table.now c.args.frames.now c.args.m) W.Start c.kind_at-k.result c.kind_at-k.ensures _ _ c.in-Taken.is refl, c.long_step.ensures.1)
+pub returns-in-Ok : goal.returns-in-Ok
+returns-in-Ok c = (c.long_step.ensures.0 ∙ record_on _ c.args.s.now (room_of c.args.table.now) (state_of c.args.table.now c.args.frames.now c.args.m) W.Start c.kind_at-k.result c.kind_at-k.ensures _ _ c.in-Ok.is refl, c.long_step.ensures.1)
 
-pub returns-in-Wrong : goal.returns-in-Wrong
-returns-in-Wrong c = (record_off _ c.args.s.now (room_of c.args.table.now) (state_of c.args.table.now c.args.frames.now c.args.m) W.Start c.kind_at-k.result c.kind_at-k.ensures _ c.in-Wrong.is, c.requires.1)
+pub returns-in-Err : goal.returns-in-Err
+returns-in-Err c = (record_off _ c.args.s.now (room_of c.args.table.now) (state_of c.args.table.now c.args.frames.now c.args.m) W.Start c.kind_at-k.result c.kind_at-k.ensures _ c.in-Err.is, c.requires.1)

@@ -31,11 +31,11 @@ returns-then-is_brief_at c =
 
 pub long_step-q-requires : goal.long_step-q-requires
 long_step-q-requires c =
-    let q = sym c.kind_at-k.ensures ∙ c.in-Taken.is in
+    let q = sym c.kind_at-k.ensures ∙ c.in-Ok.is in
     (c.requires.0, kind_within c.args.s.now c.args.w c.args.m.at _ q, c.requires.1, c.requires.2, c.requires.3, taken_long c.args.s.now c.args.w c.args.m.at (sym c.is_brief_at.ensures ∙ c.if-is_brief_at.false) _ q)
 
-pub returns-in-Taken : goal.returns-in-Taken
-returns-in-Taken c = (c.long_step-q.ensures.0 ∙ record_on _ c.args.s.now (room_of c.args.table.now) (state_of c.args.table.now c.args.frames.now c.args.m) c.args.w c.kind_at-k.result c.kind_at-k.ensures _ _ c.in-Taken.is refl, c.long_step-q.ensures.1)
+pub returns-in-Ok : goal.returns-in-Ok
+returns-in-Ok c = (c.long_step-q.ensures.0 ∙ record_on _ c.args.s.now (room_of c.args.table.now) (state_of c.args.table.now c.args.frames.now c.args.m) c.args.w c.kind_at-k.result c.kind_at-k.ensures _ _ c.in-Ok.is refl, c.long_step-q.ensures.1)
 
-pub returns-in-Wrong : goal.returns-in-Wrong
-returns-in-Wrong c = (record_off _ c.args.s.now (room_of c.args.table.now) (state_of c.args.table.now c.args.frames.now c.args.m) c.args.w c.kind_at-k.result c.kind_at-k.ensures _ c.in-Wrong.is, c.requires.1)
+pub returns-in-Err : goal.returns-in-Err
+returns-in-Err c = (record_off _ c.args.s.now (room_of c.args.table.now) (state_of c.args.table.now c.args.frames.now c.args.m) c.args.w c.kind_at-k.result c.kind_at-k.ensures _ c.in-Err.is, c.requires.1)

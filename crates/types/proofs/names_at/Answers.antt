@@ -1,18 +1,19 @@
--- The invariant: the names that are left, from p on, answer what all of them answer. The measure: how many are left.
-use mathlib.Core.Path.{refl, sym, ◌∙◌}
-use native.Mathlib.Omega.{arith}
-use Rattle.fields.specs.Sequence.{times_none, times_more, times_fault}
-use Rattle.format.specs.Types.{name_at}
+-- The invariant: the names that are left, from p on, answer what all of them answer.
+use Rattle.std.specs.Prelude.{◌≡◌, Err}
+use Rattle.std.proofs.Common.{rules, sym, ◌∙◌, arith}
+use Rattle.fields.specs.Sequence.{turn_first, turn_more, turn_fault, turn_last}
 use Rattle.types.proofs.names_at.Goals as goal
 
-pub loop-left-init : goal.loop-left-init
-loop-left-init c = refl
+pub loop-init : goal.loop-init
+loop-init c = turn_first _ _ _
 
-pub returns-in-Fault : goal.returns-in-Fault
-returns-in-Fault c = sym (c.loop-left.invariant ∙ times_fault _ _ _ _ _ (omega arith) c.name_at.ensures c.in-Fault.is)
+pub returns-in_err-p : goal.returns-in_err-p
+returns-in_err-p c =
+    let r : c.from_residual.result ≡ Err c.in_err-p.field-0.0 = search rules in
+    r ∙ sym (c.loop.invariant ∙ turn_fault _ _ _ _ _ _ (omega arith) c.name_at.ensures c.in_err-p.was)
 
-pub loop-left-preserved : goal.loop-left-preserved
-loop-left-preserved c = c.loop-left.invariant ∙ times_more _ _ _ _ _ (omega arith) c.name_at.ensures c.in-End.is
+pub loop-preserved : goal.loop-preserved
+loop-preserved c = c.loop.invariant ∙ turn_more _ _ _ _ _ _ (omega arith) c.name_at.ensures c.in_ok-p.was
 
 pub returns : goal.returns
-returns c = sym (c.loop-left.invariant ∙ times_none _ _ _ (omega arith))
+returns c = sym (c.loop.invariant ∙ turn_last _ _ _ _ (omega arith))

@@ -1,14 +1,15 @@
--- One law for each answer.
-use mathlib.Core.Path.{sym}
-use native.Mathlib.Omega.{arith}
+-- One law for each answer, from the part that is there.
+use Rattle.std.specs.Prelude.{◌≡◌, Err}
+use Rattle.std.proofs.Common.{rules, sym, ap, ◌∙◌}
+use Rattle.fields.specs.Parted.{part_missing, part_found}
 use Rattle.value_forms.specs.Ends.{bytes_short, bytes_end}
 use Rattle.value_forms.proofs.bytes_at.Goals as goal
 
-pub returns-then-s-at : goal.returns-then-s-at
-returns-then-s-at c = sym (bytes_short _ _ _ (omega arith))
-
-pub returns-then-s-at-2 : goal.returns-then-s-at-2
-returns-then-s-at-2 c = sym (bytes_short _ _ _ (omega arith))
+pub returns-in_err-ok_or : goal.returns-in_err-ok_or
+returns-in_err-ok_or c =
+    let w = part_missing _ _ _ _ c.part_at.ensures.there _ c.in_err-ok_or.ensures.value in
+    let r : c.from_residual.result ≡ Err c.in_err-ok_or.field-0.0 = search rules in
+    r ∙ (ap Err w.1 ∙ sym (bytes_short _ _ _ w.0))
 
 pub returns : goal.returns
-returns c = sym (bytes_end _ _ _ (omega arith))
+returns c = sym (bytes_end _ _ _ (part_found _ _ _ _ c.part_at.ensures.there c.part_at.ensures.part _ c.in_ok-ok_or.ensures.value).0)

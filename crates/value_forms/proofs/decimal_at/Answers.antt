@@ -1,13 +1,12 @@
 -- The definition is a function by cases of what the prefix answers.
+use Rattle.std.proofs.Common.{rules}
 use Rattle.format.specs.Values.{decimal_at}
 use Rattle.value_forms.proofs.decimal_at.Goals as goal
 
-pub returns-in-Length : goal.returns-in-Length
+pub returns : goal.returns
 unfolding decimal_at
-returns-in-Length c =
-    let n = c in
-    rw (← c.prefix_at.ensures, c.in-Length.is) c.decimal_text.ensures
+returns c = rw (← c.prefix_at.ensures, c.in_ok-n.was) c.decimal_text.ensures
 
-pub returns-in-Fault : goal.returns-in-Fault
+pub returns-in_err-n : goal.returns-in_err-n
 unfolding decimal_at
-returns-in-Fault c = rw (← c.prefix_at.ensures, c.in-Fault.is)
+returns-in_err-n c = rw (← c.prefix_at.ensures, c.in_err-n.was) (search rules)
