@@ -2,19 +2,16 @@
 #![tactic(auto)]
 
 use format::Setting;
+use output::{Output, say};
 use std::env::Env;
 use std::fs::{File, Files};
 use std::io::{Cursor, Error, Read, Write};
 use std::str;
 
-const STDOUT: i32 = 1;
-
-const STDERR: i32 = 2;
-
 // One stream with a table.
 fn with_table(name: &[u8], s: &[u8], table: &mut [u32]) {
-    io::write_all(STDOUT, name);
-    io::write_all(STDOUT, b": ");
+    Output::Standard.bytes(name);
+    say!(": ");
     let a = reader::read(s, b"", table, Setting::Strict);
     lines::answer(table, a);
 }
@@ -96,10 +93,10 @@ fn of_an_array() {
 
 // Says to standard error that the file with a name cannot be opened, and why.
 fn unopened(name: &[u8], why: &[u8]) {
-    io::write_all(STDERR, name);
-    io::write_all(STDERR, b": ");
-    io::write_all(STDERR, why);
-    io::write_all(STDERR, b"\n");
+    Output::Error.bytes(name);
+    say!(Output::Error; ": ");
+    Output::Error.bytes(why);
+    say!(Output::Error; "\n");
 }
 
 // The same for an error of the system, without its number, which stands behind its words.

@@ -3,17 +3,13 @@
 // independent reader. With the word `--lenient` length prefixes may be padded.
 #![tactic(auto)]
 
-use format::{ReadAnswer, Setting};
+use format::{Refused, Setting};
+use output::say;
 
-const STDOUT: i32 = 1;
-
-fn answer(a: ReadAnswer) {
+fn answer(a: Result<usize, Refused>) {
     match a {
-        ReadAnswer::Accepted(rows) => {
-            io::write_all(STDOUT, b"accepted ");
-            traces::number(rows as u64);
-        }
-        ReadAnswer::Refused(r, place) => traces::refused(format::number_of(r), place),
+        Ok(rows) => say!("accepted {rows}"),
+        Err(r) => traces::refused(format::number_of(r.refusal), r.place),
     }
 }
 
@@ -23,7 +19,7 @@ fn show(s: &[u8], book: &[u8], table: &mut [u32], setting: Setting) {
     let a = reader::read(s, book, table, setting);
     answer(a);
     traces::print_lanes(traces::words(table));
-    io::write_all(STDOUT, b"\n");
+    say!("\n");
 }
 
 // The stream and the book that come next, after their sizes and that of the table. None where the input ends before, or one is larger than its room.

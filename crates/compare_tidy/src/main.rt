@@ -3,21 +3,14 @@
 // one of all bytes of the output. For comparing with the independent tidier. With the word `--lenient` length prefixes may be padded.
 #![tactic(auto)]
 
-use format::{Setting, TidyAnswer};
+use format::{Setting, Untidied};
+use output::say;
 
-const STDOUT: i32 = 1;
-
-fn answer(a: TidyAnswer) {
+fn answer(a: Result<usize, Untidied>) {
     match a {
-        TidyAnswer::Written(n) => {
-            io::write_all(STDOUT, b"written ");
-            traces::number(n as u64);
-        }
-        TidyAnswer::Refused(r, place) => traces::refused(format::number_of(r), place),
-        TidyAnswer::OutFull(needed) => {
-            io::write_all(STDOUT, b"full ");
-            traces::number(needed as u64);
-        }
+        Ok(n) => say!("written {n}"),
+        Err(Untidied::Refused(r)) => traces::refused(format::number_of(r.refusal), r.place),
+        Err(Untidied::OutFull(needed)) => say!("full {needed}"),
     }
 }
 
@@ -29,7 +22,7 @@ fn show(s: &[u8], book: &[u8], table: &mut [u32], out: &mut [u8], setting: Setti
     answer(a);
     traces::print_lanes(traces::words(table));
     traces::print_lanes(traces::bytes(out));
-    io::write_all(STDOUT, b"\n");
+    say!("\n");
 }
 
 // The stream and the book that come next, after their sizes and those of the table and of the output. None where the input ends before, or one is larger

@@ -3,31 +3,25 @@
 // class book of at most 1,048,575 bytes.
 #![tactic(auto)]
 
-use format::{Setting, TidyAnswer};
-
-const STDOUT: i32 = 1;
-
-const STDERR: i32 = 2;
+use format::{Refusal, Setting, Untidied};
+use output::{Output, say};
 
 // `refused` number `at` place.
-fn refused(number: u32, place: usize) {
-    lines::refusal(STDERR, number, place);
-    io::write_all(STDERR, b"\n");
+fn refused(r: Refusal, place: usize) {
+    lines::refusal(Output::Error, format::number_of(r), place);
+    say!(Output::Error; "\n");
 }
 
-// The first bytes of the output. A copy is never longer than its output.
-fn written(out: &[u8], n: usize) {
-    if let Some(copy) = out.get(..n) {
-        io::write_all(STDOUT, copy);
-    }
-}
-
-// The answer, with the output that came with it.
-fn answer(out: &[u8], a: TidyAnswer) {
+// The answer, with the output that came with it: of that the first bytes, as many as were written.
+fn answer(out: &[u8], a: Result<usize, Untidied>) {
     match a {
-        TidyAnswer::Written(n) => written(out, n),
-        TidyAnswer::Refused(r, place) => refused(format::number_of(r), place),
-        TidyAnswer::OutFull(_) => refused(20, 0),
+        Ok(n) => {
+            if let Some(copy) = out.get(..n) {
+                Output::Standard.bytes(copy);
+            }
+        }
+        Err(Untidied::Refused(r)) => refused(r.refusal, r.place),
+        Err(Untidied::OutFull(_)) => refused(Refusal::OutFull, 0),
     }
 }
 
@@ -36,7 +30,7 @@ fn answer(out: &[u8], a: TidyAnswer) {
 fn copied(book: &[u8], setting: Setting) {
     let mut space = io::large_buffer();
     let Some(s) = files::input(&mut space) else {
-        refused(1, 0);
+        refused(Refusal::TooLarge, 0);
         return;
     };
     let mut table: [u32; 524288] = rooms::room(0);

@@ -5,13 +5,11 @@
 #![tactic(auto)]
 
 use files::Unusable;
-use format::{ReadAnswer, Refusal, Sameness, Setting};
+use format::{Refusal, Setting, Uncompared, Untidied};
 use options::Choices;
-use spelling::{number, say};
+use output::{Output, say};
 use std::env::Env;
 use std::fs::Files;
-
-const STDOUT: i32 = 1;
 
 // A list as it is given: its bytes, its class book and the setting under which it is read.
 #[derive(Clone, Copy)]
@@ -30,23 +28,31 @@ fn file_name(rt: &impl Env, i: usize) {
 
 // A refusal, after the file that it is about.
 fn refused(rt: &impl Env, i: usize, r: Refusal, place: usize) {
-    say(b"refused: ");
+    say!("refused: ");
     file_name(rt, i);
-    say(b": ");
+    say!(": ");
     refusals::refusal(r, place);
+}
+
+// Why the list of a file has no tidy copy, after the file.
+fn untidied(rt: &impl Env, i: usize, why: Untidied) {
+    match why {
+        Untidied::Refused(r) => refused(rt, i, r.refusal, r.place),
+        Untidied::OutFull(_) => refused(rt, i, Refusal::OutFull, 0),
+    }
 }
 
 // Says that no list can be read from the file that word i names, and why.
 fn unusable(rt: &impl Env, i: usize, why: Unusable) {
     match why {
         Unusable::Unopened => {
-            say(b"unusable: ");
+            say!("unusable: ");
             file_name(rt, i);
-            say(b": cannot be opened\n");
+            say!(": cannot be opened\n");
         }
         Unusable::TooLarge => {
             refused(rt, i, Refusal::TooLarge, 0);
-            say(b"this program takes lists of at most 65,535 bytes\n");
+            say!("this program takes lists of at most 65,535 bytes\n");
         }
     }
 }
@@ -56,28 +62,23 @@ fn unusable(rt: &impl Env, i: usize, why: Unusable) {
 fn told(copy: &[u8], table: &mut [u32], place: usize) {
     let a = reader::read(copy, b"", table, Setting::Strict);
     match a {
-        ReadAnswer::Accepted(n) => {
+        Ok(n) => {
             let i = difference::row_of(table, n, place);
-            let r = members::row_at(table, i);
-            number(i as u64);
-            say(b" (");
-            telling::kind_name(r.kind);
-            say(b"): ");
+            let kind = telling::kind_name(members::row_at(table, i).kind);
+            say!("{i} ({kind}): ");
             telling::row(copy, table, i, Setting::Strict);
-            say(b"\n");
+            say!("\n");
         }
-        ReadAnswer::Refused(_, _) => say(b"none\n"),
+        Err(_) => say!("none\n"),
     }
 }
 
 // Where two copies first differ.
 fn apart(a: &[u8], b: &[u8], table: &mut [u32]) {
     let place = difference::common(a, b);
-    say(b"different: the tidy copies first differ at byte ");
-    number(place as u64);
-    say(b"\nfirst, row ");
+    say!("different: the tidy copies first differ at byte {place}\nfirst, row ");
     told(a, table, place);
-    say(b"second, row ");
+    say!("second, row ");
     told(b, table, place);
 }
 
@@ -90,7 +91,7 @@ fn different(a: List<'_>, b: List<'_>, table: &mut [u32], first: &mut [u8], seco
     }
 }
 
-// The answer on two lists, each with its own book and under its own setting.
+// The answer on two lists.
 fn compared(
     rt: &impl Env,
     a: List<'_>,
@@ -103,12 +104,10 @@ fn compared(
         a.bytes, a.book, b.bytes, b.book, table, first, second, a.setting, b.setting,
     );
     match q {
-        Sameness::Same => say(b"same\n"),
-        Sameness::Different => different(a, b, table, first, second),
-        Sameness::FirstRefused(r, place) => refused(rt, 1, r, place),
-        Sameness::SecondRefused(r, place) => refused(rt, 2, r, place),
-        Sameness::FirstFull(_) => refused(rt, 1, Refusal::OutFull, 0),
-        Sameness::SecondFull(_) => refused(rt, 2, Refusal::OutFull, 0),
+        Ok(true) => say!("same\n"),
+        Ok(false) => different(a, b, table, first, second),
+        Err(Uncompared::First(why)) => untidied(rt, 1, why),
+        Err(Uncompared::Second(why)) => untidied(rt, 2, why),
     }
 }
 
@@ -153,17 +152,17 @@ fn lists(rt: &(impl Env + Files), a_book: &[u8], b_book: &[u8], c: Choices) {
 
 // The lists as the words of the call choose. Their books are looked for first.
 fn called(rt: &(impl Env + Files), c: Choices) {
-    files::with_book(rt, STDOUT, c.first.book, |a| {
-        files::with_book(rt, STDOUT, c.second.book, |b| lists(rt, a, b, c))
+    files::with_book(rt, Output::Standard, c.first.book, |a| {
+        files::with_book(rt, Output::Standard, c.second.book, |b| lists(rt, a, b, c))
     });
 }
 
 // How the program is called.
 fn usage() {
-    say(
-        b"unusable: no such option; usage: differ FILE FILE [--lenient|--lenient-first|--lenient-second] ",
+    say!(
+        "unusable: no such option; usage: differ FILE FILE [--lenient|--lenient-first|--lenient-second] "
     );
-    say(b"[--book FILE|--book-first FILE|--book-second FILE]\n");
+    say!("[--book FILE|--book-first FILE|--book-second FILE]\n");
 }
 
 fn main(rt: HostRuntime) {

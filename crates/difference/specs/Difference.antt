@@ -1,11 +1,10 @@
 -- Where two copies first differ, the row that holds the byte at a place, and how long a copy is. After each definition stand the laws that make it
--- the right one; the proofs of the code use these laws alone.
-use Rattle.std.specs.Prelude.{ℕ, zero, suc, ◌+◌, ◌≤◌, ◌<◌, ◌≡◌, refl, Bool, true, false, List, [], ◌∷◌, length, take, get_or, ltb, eqb}
+-- the right one; the proof of the code that looks for a row uses these laws alone.
+use Rattle.std.specs.Prelude.{ℕ, zero, suc, ◌+◌, ◌≤◌, ◌<◌, ◌≡◌, refl, Bool, true, false, List, [], ◌∷◌, length, take, get_or, ltb, eqb, Result, Ok, Err}
+use Rattle.format.specs.declared.Untidied.{Untidied}
 use Rattle.std.proofs.Common.{sym, ap, ap₂, ◌∙◌, arith, get_or-take, ltb-true, ltb-false, eqb-true}
 use Rattle.std.proofs.Math.Seq.{take-length}
 use Rattle.std.proofs.lemmas.Bool.{eqb-false}
-use Rattle.format.specs.declared.TidyAnswer.{TidyAnswer}
-use Rattle.format.specs.declared.TidyAnswer.TheVariants as Q
 use Rattle.format.specs.Bytes.{pick}
 use Rattle.members.specs.Members.{row_in}
 
@@ -128,7 +127,6 @@ row_within t end place = let w = from_within end t place 0 in omega arith
 -- ---- how long a copy is
 
 -- the length of a copy that was written, else 0
-abbrev pub length_of : TidyAnswer → ℕ
-length_of (Q.Written n) = n
-length_of (Q.Refused r place) = 0
-length_of (Q.OutFull n) = 0
+abbrev pub length_of : Result ℕ Untidied → ℕ
+length_of (Ok n) = n
+length_of (Err why) = 0

@@ -1,4 +1,4 @@
--- Laws of the loops, from those that make the answers the right ones: one for each way that a loop ends, and one more turn of each.
+-- Laws of a walk from the first byte or row on, from those that make the answers the right ones: one for each way that it ends, and one more turn.
 use Rattle.std.specs.Prelude.{ℕ, ◌+◌, ◌≤◌, ◌<◌, ◌≡◌, refl, Bool, true, false, List, length, get_or, ltb}
 use Rattle.std.proofs.Common.{ap, arith, ltb-true, ltb-false}
 use Rattle.format.specs.declared.Row.{Row}

@@ -6,14 +6,13 @@ ghost use Rattle.std.specs.Prelude.{◌≡◌, ◌≤◌, ◌<◌, length, ltb, 
 
 use format::Setting;
 use options::Choice;
+use output::{Output, say};
 use std::env::Env;
 use std::fs::{File, Files};
 use std::io::Read;
 use std::str;
 
 const STDIN: i32 = 0;
-
-const STDERR: i32 = 2;
 
 // Why a file cannot be used.
 #[derive(Clone, Copy, Debug, PartialEq, Eq)]
@@ -74,22 +73,22 @@ pub fn load<'a>(
     whole(space, n).ok_or(Unusable::TooLarge)
 }
 
-// Says to a descriptor that the class book which word i names cannot be used, and why.
-fn unusable_book(rt: &impl Env, fd: i32, i: usize, why: Unusable) {
+// Says to an output that the class book which word i names cannot be used, and why.
+fn unusable_book(rt: &impl Env, to: Output, i: usize, why: Unusable) {
     let mut path = io::buffer();
     let n = rt.arg(i, &mut path).unwrap_or(0);
     let why = match why {
-        Unusable::Unopened => b": cannot be opened\n".as_slice(),
-        Unusable::TooLarge => b": a class book has at most 1,048,575 bytes here\n".as_slice(),
+        Unusable::Unopened => ": cannot be opened\n",
+        Unusable::TooLarge => ": a class book has at most 1,048,575 bytes here\n",
     };
-    io::write_all(fd, b"unusable: ");
-    io::write_all(fd, &path[..n]);
-    io::write_all(fd, why);
+    say!(to; "unusable: ");
+    to.bytes(&path[..n]);
+    say!(to; "{why}");
 }
 
-// Does a job with the class book that a word names, of at most 1,048,575 bytes. Where it cannot be used that is said to a descriptor, and the job is not
+// Does a job with the class book that a word names, of at most 1,048,575 bytes. Where it cannot be used that is said to an output, and the job is not
 // done.
-pub fn with_book<F: FnOnce(&[u8])>(rt: &(impl Env + Files), fd: i32, word: Option<usize>, job: F)
+pub fn with_book<F: FnOnce(&[u8])>(rt: &(impl Env + Files), to: Output, word: Option<usize>, job: F)
     requires { F.IsAlwaysCallable job }
 {
     let Some(i) = word else {
@@ -99,7 +98,7 @@ pub fn with_book<F: FnOnce(&[u8])>(rt: &(impl Env + Files), fd: i32, word: Optio
     let mut room: [u8; 1048576] = rooms::room(0);
     match load(rt, i, &mut room) {
         Ok(book) => job(book),
-        Err(why) => unusable_book(rt, fd, i, why),
+        Err(why) => unusable_book(rt, to, i, why),
     }
 }
 
@@ -109,7 +108,7 @@ pub fn for_one_list<F: FnOnce(&[u8], Setting)>(rt: &(impl Env + Files), call: &[
     requires { F.IsAlwaysCallable job }
 {
     match options::one(rt) {
-        Ok(c) => with_book(rt, STDERR, c.book, |book| job(book, c.setting)),
+        Ok(c) => with_book(rt, Output::Error, c.book, |book| job(book, c.setting)),
         Err(_) => options::usage(call),
     }
 }

@@ -2,55 +2,48 @@
 // written cannot be promised; the programs' stored outputs hold it.
 #![tactic(auto)]
 
-use format::ReadAnswer;
+use format::Refused;
+use output::{Output, say};
+use std::fmt;
 
-const STDOUT: i32 = 1;
+// The words of a row, as a line.
+#[derive(Drop)]
+struct Line<'a>(&'a [u32]);
 
-// Word i of the rows, and what follows it: a newline after the eighth of a row, else a blank.
-fn word(w: u32, i: usize) {
-    io::print_decimal(STDOUT, w as u64);
-    if i % 8 == 7 {
-        io::write_all(STDOUT, b"\n");
-        return;
-    }
-    io::write_all(STDOUT, b" ");
-}
-
-// The words from 0 up to `end`, eight to a line.
-fn words(table: &[u32], end: usize) {
-    for (i, w) in table.iter().take(end).enumerate() {
-        word(*w, i);
+impl fmt::Display for Line<'_> {
+    fn fmt<W: fmt::Write>(&self, f: &mut fmt::Formatter<W>) -> fmt::Result {
+        for (i, w) in self.0.iter().enumerate() {
+            write!(f, "{w}{}", if i == 7 { "\n" } else { " " })?;
+        }
+        Ok(())
     }
 }
 
-// `refused` number `at` place, to a descriptor.
-pub fn refusal(fd: i32, number: u32, place: usize) {
-    io::write_all(fd, b"refused ");
-    io::print_decimal(fd, number as u64);
-    io::write_all(fd, b" at ");
-    io::print_decimal(fd, place as u64);
+// `refused` number `at` place, to an output. The number is any that a caller has: a `Refusal` in its place would ask more.
+pub fn refusal(to: Output, number: u32, place: usize) {
+    say!(to; "refused {number} at {place}");
 }
 
 // The same as a line.
 pub fn refused(number: u32, place: usize) {
-    refusal(STDOUT, number, place);
-    io::write_all(STDOUT, b"\n");
+    refusal(Output::Standard, number, place);
+    say!("\n");
 }
 
 // `accepted` and the number of rows, then the rows.
 pub fn accepted(table: &[u32], rows: usize) {
-    io::write_all(STDOUT, b"accepted ");
-    io::print_decimal(STDOUT, rows as u64);
-    io::write_all(STDOUT, b"\n");
+    say!("accepted {rows}\n");
     if rows <= table.len() / 8 {
-        words(table, 8 * rows);
+        for row in table.chunks_exact(8).take(rows) {
+            say!("{}", Line(row));
+        }
     }
 }
 
 // The answer, with the table that came with it.
-pub fn answer(table: &[u32], a: ReadAnswer) {
+pub fn answer(table: &[u32], a: Result<usize, Refused>) {
     match a {
-        ReadAnswer::Accepted(rows) => accepted(table, rows),
-        ReadAnswer::Refused(r, place) => refused(format::number_of(r), place),
+        Ok(rows) => accepted(table, rows),
+        Err(r) => refused(format::number_of(r.refusal), r.place),
     }
 }

@@ -15,13 +15,11 @@ use peeking::on;
 fn word(table: &[u32], row: usize, k: usize) -> u32
     ensures { result ≡ word_of table.now row k }
 {
-    if table.len() / 8 <= row {
-        return 0;
+    if row < table.len() / 8 && k < 8 {
+        table[8 * row + k]
+    } else {
+        0
     }
-    if 8 <= k {
-        return 0;
-    }
-    table[8 * row + k]
 }
 
 // The words of a row by their names.
@@ -44,10 +42,7 @@ pub fn row_at(table: &[u32], row: usize) -> Row
 pub fn named_row(w: u32) -> usize
     ensures { result ≡ named_row w }
 {
-    if w == 0 {
-        return 0;
-    }
-    (w as usize) - 1
+    (w as usize).saturating_sub(1)
 }
 
 // How many objects a row stands in. At most 64 objects are open.
@@ -55,25 +50,21 @@ pub fn depth_of(table: &[u32], owner: u32) -> usize
     ensures { result ≡ depth_of table.now owner }
 {
     let mut w = owner;
-    let mut depth: usize = 0;
-    while depth < Reader::OPEN {
+    for depth in 0..Reader::OPEN {
         if w == 0 {
             return depth;
         }
         w = word(table, named_row(w), 4);
-        depth += 1;
     }
-    depth
+    Reader::OPEN
 }
 
 // How many slots a row fills: a null run as many as it counts, any other row one.
 pub fn filled(r: Row) -> u32
     ensures { result ≡ slots_filled r }
 {
-    let kind = r.kind;
-    match kind {
-        13 => r.count,
-        14 => r.count,
+    match r.kind {
+        13 | 14 => r.count,
         _ => 1,
     }
 }
@@ -82,25 +73,17 @@ pub fn filled(r: Row) -> u32
 pub fn last_of(first: u32, count: u32) -> u32
     ensures { result ≡ last_of first count }
 {
-    if count == 0 {
-        return first;
+    match first.checked_add(count) {
+        Some(_) => first + count.saturating_sub(1),
+        None => first,
     }
-    if 4294967295 - first < count {
-        return first;
-    }
-    first + (count - 1)
 }
 
 // Whether a kind is that of a class's object.
 pub fn is_class(kind: u32) -> bool
     ensures { result ≡ has_members kind }
 {
-    match kind {
-        1 => true,
-        4 => true,
-        5 => true,
-        _ => false,
-    }
+    matches!(kind, 1 | 4 | 5)
 }
 
 // ---- the fields of a class record
@@ -128,10 +111,8 @@ fn after_strings(s: &[u8], from: usize, n: u32) -> usize
     ensures { result ≡ after_strings n s.now from }
 {
     let mut at = from;
-    let mut i: u32 = 0;
-    while i < n {
+    for _ in 0..n {
         at = peeking::after_string(s, at);
-        i += 1;
     }
     at
 }
@@ -148,8 +129,7 @@ fn after_detail(s: &[u8], at: usize, t: u8) -> usize
     ensures { result ≡ after_detail s.now at t }
 {
     match t {
-        0 => on(s, at, 1),
-        7 => on(s, at, 1),
+        0 | 7 => on(s, at, 1),
         3 => peeking::after_string(s, at),
         4 => on(s, peeking::after_string(s, at), 4),
         _ => at,
@@ -161,10 +141,8 @@ fn detail_of(s: &[u8], types: usize, details: usize, k: u32) -> usize
     ensures { result ≡ detail_of s.now types details k }
 {
     let mut at = details;
-    let mut i: u32 = 0;
-    while i < k {
+    for i in 0..k {
         at = after_detail(s, at, peeking::byte_at(s, on(s, types, i as usize)));
-        i += 1;
     }
     at
 }
@@ -182,10 +160,10 @@ pub fn member_code(s: &[u8], r: Row, k: u32) -> u8
 pub fn library_of(s: &[u8], r: Row) -> u32
     ensures { result ≡ library_of s.now r }
 {
-    if r.end < 4 {
-        return 0;
+    match r.end.checked_sub(4) {
+        Some(at) => peeking::u32_at(s, at as usize),
+        None => 0,
     }
-    peeking::u32_at(s, (r.end as usize) - 4)
 }
 
 // The name of a class, from the row that has its fields.

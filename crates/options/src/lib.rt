@@ -7,9 +7,8 @@ ghost use Rattle.std.specs.Prelude.{◌≡◌, ◌<◌};
 ghost use Rattle.options.specs.Options.{lists_of, option_of, names_book, for_one, with_option, plainly, chosen_by, taken, Onward};
 
 use format::Setting;
+use output::{Output, say};
 use std::env::{Env, FillError};
-
-const STDERR: i32 = 2;
 
 // What an option chooses.
 #[derive(Clone, Copy, PartialEq, Eq)]
@@ -225,7 +224,7 @@ pub fn two(rt: &impl Env) -> Result<Choices, WrongCall> {
 
 // Says to standard error how a program is called.
 pub fn usage(call: &[u8]) {
-    io::write_all(STDERR, b"usage: ");
-    io::write_all(STDERR, call);
-    io::write_all(STDERR, b"\n");
+    say!(Output::Error; "usage: ");
+    Output::Error.bytes(call);
+    say!(Output::Error; "\n");
 }

@@ -1,8 +1,9 @@
 // What stands at a place of a stream, for programs that show lists: bytes, numbers, the texts of strings, where lengths and values end. Every stream
-// and every place is taken; past the end stand zeros and empty texts.
+// and every place is taken; past the end stand zeros and empty texts. A stream and a place stand side by side, as in the definitions and in the laws of
+// `peeked`: a struct of both would be made and taken apart at each call.
 #![tactic(auto)]
 
-ghost use Rattle.std.specs.Prelude.{◌+◌, ◌-◌, ◌*◌, ◌≡◌};
+ghost use Rattle.std.specs.Prelude.{ℕ, ◌-◌, ◌<◌, ◌≡◌, slice_index};
 ghost use Rattle.peeking.specs.Peeking.{onward, byte_at, two_at, four_at, eight_at, string_span, after_string};
 ghost use Rattle.peeking.specs.Peeking.{after_lengths, char_size, fixed_size, after_value, is_plain, hidden_by, hidden_at, plain_end};
 
@@ -14,23 +15,14 @@ use format::Span;
 pub fn on(s: &[u8], at: usize, n: usize) -> usize
     ensures { result ≡ onward s.now at n }
 {
-    if s.len() <= at {
-        return s.len();
-    }
-    if s.len() - at < n {
-        return s.len();
-    }
-    at + n
+    at.saturating_add(n).min(s.len())
 }
 
 // The place n bytes before, never before the first.
 pub fn back(at: usize, n: usize) -> usize
     ensures { result ≡ at - n }
 {
-    if at < n {
-        return 0;
-    }
-    at - n
+    at.saturating_sub(n)
 }
 
 // The place after the rank of an array and so many lengths.
@@ -44,50 +36,39 @@ pub fn after_lengths(s: &[u8], at: usize, rank: u32) -> usize
 pub fn byte_at(s: &[u8], at: usize) -> u8
     ensures { result ≡ byte_at s.now at }
 {
-    if s.len() <= at {
-        return 0;
-    }
-    s[at]
+    s.get(at).copied().unwrap_or(0)
 }
 
 // ---- numbers
 
-// Two halves joined. They are parameters, so that each has its range at hand.
-fn join2(low: u8, high: u8) -> u16
-    ensures { result ≡ low + 256 * high }
+// So many bytes from a place on, with zeros for those past the end. Of `array::from_fn` no clause says that each byte is what the same closure gives.
+fn bytes_at<const N: usize>(s: &[u8], at: usize) -> [u8; N]
+    ensures { (i : ℕ) → i < N → slice_index result i ≡ byte_at s.now (onward s.now at i) }
 {
-    (low as u16) + 256 * (high as u16)
+    let mut bytes = [0; N];
+    for i in 0..N {
+        bytes[i] = byte_at(s, on(s, at, i));
+    }
+    bytes
 }
 
-fn join4(low: u16, high: u16) -> u32
-    ensures { result ≡ low + 65536 * high }
-{
-    (low as u32) + 65536 * (high as u32)
-}
-
-fn join8(low: u32, high: u32) -> u64
-    ensures { result ≡ low + 4294967296 * high }
-{
-    (low as u64) + 4294967296 * (high as u64)
-}
-
-// The number of two, four and eight bytes at a place.
+// The number of two, four and eight bytes at a place, the low byte first.
 pub fn u16_at(s: &[u8], at: usize) -> u16
     ensures { result ≡ two_at s.now at }
 {
-    join2(byte_at(s, at), byte_at(s, on(s, at, 1)))
+    u16::from_le_bytes(bytes_at(s, at))
 }
 
 pub fn u32_at(s: &[u8], at: usize) -> u32
     ensures { result ≡ four_at s.now at }
 {
-    join4(u16_at(s, at), u16_at(s, on(s, at, 2)))
+    u32::from_le_bytes(bytes_at(s, at))
 }
 
 pub fn u64_at(s: &[u8], at: usize) -> u64
     ensures { result ≡ eight_at s.now at }
 {
-    join8(u32_at(s, at), u32_at(s, on(s, at, 4)))
+    u64::from_le_bytes(bytes_at(s, at))
 }
 
 // ---- the texts of strings
@@ -112,18 +93,7 @@ pub fn after_string(s: &[u8], at: usize) -> usize
 pub fn is_plain(b: u8) -> bool
     ensures { result ≡ is_plain b }
 {
-    if b < 32 {
-        return false;
-    }
-    match b {
-        34 => false,
-        92 => false,
-        96 => false,
-        127 => false,
-        194 => false,
-        226 => false,
-        _ => true,
-    }
+    !matches!(b, 0..=31 | 34 | 92 | 96 | 127 | 194 | 226)
 }
 
 // How many bytes a character has that is not shown as it is, by the number of its first three bytes; 0 where it is shown. Not shown are control
@@ -132,49 +102,31 @@ pub fn is_plain(b: u8) -> bool
 fn hidden(n: u32) -> usize
     ensures { result ≡ hidden_by n }
 {
-    if n < 0xC28000 {
-        return 1;
+    match n {
+        0..=0xC27FFF => 1,
+        0xC28000..=0xC29FFF => 2,
+        0xE280A8..=0xE280AE => 3,
+        0xE281A6..=0xE281A9 => 3,
+        _ => 0,
     }
-    if n < 0xC2A000 {
-        return 2;
-    }
-    if n < 0xE280A8 {
-        return 0;
-    }
-    if n < 0xE280AF {
-        return 3;
-    }
-    if n < 0xE281A6 {
-        return 0;
-    }
-    if n < 0xE281AA {
-        return 3;
-    }
-    0
 }
 
 // The same of the character at a place whose first byte is not plain.
 pub fn hidden_at(s: &[u8], at: usize) -> usize
     ensures { result ≡ hidden_at s.now at }
 {
-    let a = byte_at(s, at) as u32;
-    let b = byte_at(s, on(s, at, 1)) as u32;
-    let c = byte_at(s, on(s, at, 2)) as u32;
-    hidden(65536 * a + 256 * b + c)
+    let [a, b, c] = bytes_at::<3>(s, at);
+    hidden(u32::from_be_bytes([0, a, b, c]))
 }
 
 // Where the bytes from a place on that are shown as they are end; a place past the end itself.
 pub fn plain_end(s: &[u8], at: usize) -> usize
     ensures { result ≡ plain_end s.now at }
 {
-    let mut i = at;
-    while i < s.len() {
-        if !is_plain(s[i]) {
-            return i;
-        }
-        i += 1;
+    match s.get(at..) {
+        Some(rest) => at + rest.iter().take_while(|b| is_plain(**b)).count(),
+        None => at,
     }
-    i
 }
 
 // ---- primitive values
@@ -183,16 +135,12 @@ pub fn plain_end(s: &[u8], at: usize) -> usize
 fn char_size(b: u8) -> usize
     ensures { result ≡ char_size b }
 {
-    if b < 128 {
-        return 1;
+    match b {
+        0..=127 => 1,
+        128..=223 => 2,
+        224..=239 => 3,
+        _ => 4,
     }
-    if b < 224 {
-        return 2;
-    }
-    if b < 240 {
-        return 3;
-    }
-    4
 }
 
 // How many bytes a value has whose code alone says so.
@@ -200,14 +148,9 @@ fn fixed_size(code: u8) -> usize
     ensures { result ≡ fixed_size code }
 {
     match code {
-        1 => 1,
-        2 => 1,
-        10 => 1,
-        7 => 2,
-        14 => 2,
-        8 => 4,
-        11 => 4,
-        15 => 4,
+        1 | 2 | 10 => 1,
+        7 | 14 => 2,
+        8 | 11 | 15 => 4,
         _ => 8,
     }
 }

@@ -3,88 +3,37 @@
 // be padded; after the word `--book` stands the file of a class book of at most 1,048,575 bytes.
 #![tactic(auto)]
 
-ghost use Rattle.std.specs.Prelude.{◌≤◌};
-
-use format::{ReadAnswer, Refusal, Row, Setting};
-use spelling::{number, say};
-
-// The same words n times.
-fn repeated(words: &[u8], n: usize) {
-    let mut i: usize = 0;
-    while i < n {
-        say(words);
-        i += 1;
-    }
-}
-
-// How many digits a number below 100,000 has; every place and row here is below that.
-fn digits(n: usize) -> usize
-    ensures { result ≤ 5 }
-{
-    if n < 10 {
-        return 1;
-    }
-    if n < 100 {
-        return 2;
-    }
-    if n < 1000 {
-        return 3;
-    }
-    if n < 10000 {
-        return 4;
-    }
-    5
-}
-
-// A number with blanks before it, five wide.
-fn right(n: usize) {
-    repeated(b" ", 5 - digits(n));
-    number(n as u64);
-}
-
-// A number with blanks after it, five wide.
-fn left(n: usize) {
-    number(n as u64);
-    repeated(b" ", 5 - digits(n));
-}
+use format::{Refusal, Refused, Row, Setting};
+use output::say;
 
 // The number of a row, its offset and the offset after its own bytes, and blanks by how deep it stands.
 fn margin(table: &[u32], i: usize, r: Row) {
-    right(i);
-    say(b" ");
-    right(r.offset as usize);
-    say(b"..");
-    left(r.end as usize);
-    say(b"  ");
-    repeated(b"  ", members::depth_of(table, r.owner));
+    say!("{i:>5} {:>5}..{:<5}  ", r.offset, r.end);
+    for _ in 0..members::depth_of(table, r.owner) {
+        say!("  ");
+    }
 }
 
 // The rows from 0 up to `end`, one a line.
 fn rows(s: &[u8], table: &[u32], end: usize, setting: Setting) {
-    let mut i: usize = 0;
-    while i < end {
+    for i in 0..end {
         margin(table, i, members::row_at(table, i));
         telling::row(s, table, i, setting);
-        say(b"\n");
-        i += 1;
+        say!("\n");
     }
 }
 
 fn accepted(s: &[u8], table: &[u32], end: usize, setting: Setting) {
-    say(b"accepted, ");
-    number(end as u64);
-    say(b" rows\n  row   bytes         what stands there\n");
+    say!("accepted, {end} rows\n  row   bytes         what stands there\n");
     rows(s, table, end, setting);
 }
 
 // What a list needs of this program, where the program has too little of it.
-fn limits(r: Refusal) {
+fn limits(r: Refusal) -> &'static str {
     match r {
-        Refusal::TooLarge => say(b"this program takes lists of at most 65,535 bytes\n"),
-        Refusal::NoRoom => say(
-            b"the list is larger than this program's table, which has 1,024 rows\n",
-        ),
-        _ => say(b""),
+        Refusal::TooLarge => "this program takes lists of at most 65,535 bytes\n",
+        Refusal::NoRoom => "the list is larger than this program's table, which has 1,024 rows\n",
+        _ => "",
     }
 }
 
@@ -96,13 +45,13 @@ fn around(s: &[u8], book: &[u8], r: Refusal, place: usize) {
     }
 }
 
-fn answer(s: &[u8], book: &[u8], table: &[u32], a: ReadAnswer, setting: Setting) {
+fn answer(s: &[u8], book: &[u8], table: &[u32], a: Result<usize, Refused>, setting: Setting) {
     match a {
-        ReadAnswer::Accepted(n) => accepted(s, table, n, setting),
-        ReadAnswer::Refused(r, place) => {
-            say(b"refused: ");
+        Ok(n) => accepted(s, table, n, setting),
+        Err(Refused { refusal: r, place }) => {
+            say!("refused: ");
             refusals::refusal(r, place);
-            limits(r);
+            say!("{}", limits(r));
             around(s, book, r, place);
         }
     }
@@ -112,9 +61,9 @@ fn answer(s: &[u8], book: &[u8], table: &[u32], a: ReadAnswer, setting: Setting)
 fn list(book: &[u8], setting: Setting) {
     let mut space = io::large_buffer();
     let Some(s) = files::input(&mut space) else {
-        say(b"refused: ");
+        say!("refused: ");
         refusals::refusal(Refusal::TooLarge, 0);
-        limits(Refusal::TooLarge);
+        say!("{}", limits(Refusal::TooLarge));
         return;
     };
     let mut table = [0u32; 8192];

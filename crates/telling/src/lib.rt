@@ -4,69 +4,84 @@
 
 use format::{Row, RowAnswer, Setting, Span};
 use members::{named_row, row_at};
-use peeking::on;
-use spelling::{number, say};
+use output::say;
+use peeking::{byte_at, on};
+use spelling::code_name;
+use std::fmt;
 
 // ---- words for what rows have in common
 
 // A text in quotes.
 fn quoted(s: &[u8], t: Span) {
-    say(b"\"");
+    say!("\"");
     spelling::text_of(s, t);
-    say(b"\"");
+    say!("\"");
 }
 
-fn object(id: u32) {
-    say(b"object ");
-    spelling::int32(id);
+// An object, by its number.
+#[derive(Clone, Copy)]
+struct Object(u32);
+
+impl fmt::Display for Object {
+    fn fmt<W: fmt::Write>(&self, f: &mut fmt::Formatter<W>) -> fmt::Result {
+        write!(f, "object {}", self.0.cast_signed())
+    }
 }
 
 // A count and what is counted, in the plural but for one.
-fn counted(n: u32, what: &[u8]) {
-    number(n as u64);
-    say(b" ");
-    say(what);
-    if n != 1 {
-        say(b"s");
+#[derive(Clone, Copy)]
+struct Counted(u32, &'static str);
+
+impl fmt::Display for Counted {
+    fn fmt<W: fmt::Write>(&self, f: &mut fmt::Formatter<W>) -> fmt::Result {
+        let Counted(n, what) = *self;
+        let plural = if n == 1 { "" } else { "s" };
+        write!(f, "{n} {what}{plural}")
     }
 }
 
-// An arrow to an object, with its row.
-fn arrow(id: u32, link: u32) {
-    say(b"-> ");
-    object(id);
-    say(b" (row ");
-    number(named_row(link) as u64);
-    say(b")");
+// An arrow to the object that a row names, with that object's row.
+#[derive(Clone, Copy)]
+struct Arrow(Row);
+
+impl fmt::Display for Arrow {
+    fn fmt<W: fmt::Write>(&self, f: &mut fmt::Formatter<W>) -> fmt::Result {
+        let r = self.0;
+        write!(f, "-> {} (row {})", Object(r.id), named_row(r.link))
+    }
 }
 
-// The name of a kind.
-pub fn kind_name(kind: u32) {
+// A row's kind and the object that the record defines.
+#[derive(Clone, Copy)]
+struct Defined(Row);
+
+impl fmt::Display for Defined {
+    fn fmt<W: fmt::Write>(&self, f: &mut fmt::Formatter<W>) -> fmt::Result {
+        let r = self.0;
+        write!(f, "{}, {}", kind_name(r.kind), Object(r.id))
+    }
+}
+
+// The name of a kind. A row's word is any number, so a kind goes by its number in the format.
+pub fn kind_name(kind: u32) -> &'static str {
     match kind {
-        0 => say(b"header"),
-        1 => say(b"class by id"),
-        4 => say(b"system class"),
-        5 => say(b"class"),
-        6 => say(b"string"),
-        7 => say(b"array"),
-        8 => say(b"typed primitive"),
-        9 => say(b"reference"),
-        10 => say(b"null"),
-        11 => say(b"end"),
-        12 => say(b"library"),
-        13 | 14 => say(b"null run"),
-        15 => say(b"primitive array"),
-        16 => say(b"object array"),
-        17 => say(b"string array"),
-        _ => say(b"member value"),
+        0 => "header",
+        1 => "class by id",
+        4 => "system class",
+        5 => "class",
+        6 => "string",
+        7 => "array",
+        8 => "typed primitive",
+        9 => "reference",
+        10 => "null",
+        11 => "end",
+        12 => "library",
+        13 | 14 => "null run",
+        15 => "primitive array",
+        16 => "object array",
+        17 => "string array",
+        _ => "member value",
     }
-}
-
-// A kind's name and the object that the record defines.
-fn defined(r: Row) {
-    kind_name(r.kind);
-    say(b", ");
-    object(r.id);
 }
 
 // ---- types and items
@@ -74,239 +89,216 @@ fn defined(r: Row) {
 // The type of an array's items, by its type byte and the place of its detail.
 pub fn type_name(s: &[u8], t: u8, detail: usize) {
     match t {
-        0 => spelling::code_name(peeking::byte_at(s, detail)),
-        1 => say(b"string"),
-        2 => say(b"object"),
-        3 => quoted(s, peeking::string_at(s, detail)),
-        4 => quoted(s, peeking::string_at(s, detail)),
-        5 => say(b"object array"),
-        6 => say(b"string array"),
-        _ => {
-            spelling::code_name(peeking::byte_at(s, detail));
-            say(b" array");
-        }
+        0 => say!("{}", code_name(byte_at(s, detail))),
+        1 => say!("string"),
+        2 => say!("object"),
+        3 | 4 => quoted(s, peeking::string_at(s, detail)),
+        5 => say!("object array"),
+        6 => say!("string array"),
+        _ => say!("{} array", code_name(byte_at(s, detail))),
     }
 }
 
-// The first eight items of a primitive array, and dots where there are more.
-fn items(s: &[u8], from: usize, code: u8, n: u32) {
+// The first eight items of a primitive array after a colon, and dots where there are more; an array without items has none.
+fn listed(s: &[u8], from: usize, code: u8, n: u32) {
     let mut at = from;
-    let mut i: u32 = 0;
-    while i < n {
-        if i == 8 {
-            say(b", ...");
-            return;
-        }
-        separator(i, b", ");
+    for i in 0..n.min(8) {
+        say!("{}", if i == 0 { ": " } else { ", " });
         spelling::value(s, at, code);
         at = peeking::after_value(s, at, code);
-        i += 1;
     }
-}
-
-// What stands between two: nothing before the first.
-fn separator(i: u32, between: &[u8]) {
-    if i != 0 {
-        say(between);
-    }
-}
-
-// The items of a primitive array after a colon; an array without items has none.
-fn listed(s: &[u8], from: usize, code: u8, n: u32) {
-    if n == 0 {
-        return;
-    }
-    say(b": ");
-    items(s, from, code, n);
-}
-
-// The lengths of an array.
-fn lengths(s: &[u8], from: usize, rank: u32) {
-    let mut at = from;
-    let mut i: u32 = 0;
-    while i < rank {
-        separator(i, b" x ");
-        number(peeking::u32_at(s, at) as u64);
-        at = on(s, at, 4);
-        i += 1;
+    if 8 < n {
+        say!(", ...");
     }
 }
 
 // The lengths of an array that has several; one length is the number of its slots.
-fn shape(s: &[u8], at: usize, rank: u32) {
-    if rank != 1 {
-        lengths(s, at, rank);
-        say(b" = ");
+fn shape(s: &[u8], from: usize, rank: u32) {
+    if rank == 1 {
+        return;
     }
-}
-
-// ---- a record of each kind
-
-fn header(r: Row) {
-    say(b"header, root ");
-    arrow(r.id, r.link);
-}
-
-// An object whose class stands in another row.
-fn class_by_id(s: &[u8], table: &[u32], r: Row) {
-    let c = members::class_row(table, r);
-    defined(r);
-    say(b", ");
-    counted(r.count, b"member");
-    say(b", class as in row ");
-    number(named_row(r.link) as u64);
-    say(b": ");
-    quoted(s, members::class_name(s, c));
-}
-
-fn class(s: &[u8], r: Row) {
-    defined(r);
-    say(b", ");
-    counted(r.count, b"member");
-    if r.kind == 5 {
-        say(b", library ");
-        spelling::int32(members::library_of(s, r));
+    let mut at = from;
+    for i in 0..rank {
+        say!(
+            "{}{}",
+            if i == 0 { "" } else { " x " },
+            peeking::u32_at(s, at)
+        );
+        at = on(s, at, 4);
     }
-    say(b": ");
-    quoted(s, members::class_name(s, r));
-}
-
-// A string with its text, as the text view has it.
-fn string(s: &[u8], table: &[u32], row: usize, r: Row, setting: Setting) {
-    defined(r);
-    match view::row_question(s, table, row, setting) {
-        RowAnswer::HasText => {
-            say(b": \"");
-            spelling::text(view::text_view(s, table, row, setting));
-            say(b"\"");
-        }
-        RowAnswer::NoSuchRow => say(b" without text"),
-    }
-}
-
-fn array_type(t: u8) {
-    match t {
-        0 => say(b"single "),
-        1 => say(b"jagged "),
-        _ => say(b"rectangular "),
-    }
-}
-
-// An array of kind 7: its lengths, its slots and the type of its items; primitive items lie in it.
-fn array(s: &[u8], r: Row) {
-    let at = on(s, r.offset as usize, 6);
-    let rank = peeking::u32_at(s, at);
-    let after = peeking::after_lengths(s, at, rank);
-    let t = peeking::byte_at(s, after);
-    let detail = on(s, after, 1);
-    array_type(peeking::byte_at(s, on(s, r.offset as usize, 5)));
-    defined(r);
-    say(b", ");
-    shape(s, on(s, at, 4), rank);
-    counted(r.count, b"slot");
-    say(b" of ");
-    type_name(s, t, detail);
-    if t == 0 {
-        listed(s, on(s, detail, 1), peeking::byte_at(s, detail), r.count);
-    }
+    say!(" = ");
 }
 
 // A primitive value with its code.
 fn typed(s: &[u8], at: usize, code: u8) {
-    spelling::code_name(code);
-    say(b" ");
+    say!("{} ", code_name(code));
     spelling::value(s, at, code);
 }
 
-// A primitive array of kind 15.
-fn primitive_array(s: &[u8], r: Row) {
-    let code = peeking::byte_at(s, on(s, r.offset as usize, 9));
-    defined(r);
-    say(b", ");
-    counted(r.count, b"item");
-    say(b" of ");
-    spelling::code_name(code);
-    listed(s, on(s, r.offset as usize, 10), code, r.count);
-}
-
-fn slot_array(r: Row) {
-    defined(r);
-    say(b", ");
-    counted(r.count, b"slot");
-}
-
-fn library(s: &[u8], r: Row) {
-    say(b"library ");
-    spelling::int32(r.id);
-    say(b": ");
-    quoted(s, peeking::string_at(s, on(s, r.offset as usize, 5)));
-}
-
-// A member value, whose code stands in its owner's class.
-fn member(s: &[u8], table: &[u32], r: Row) {
-    let c = members::class_row(table, row_at(table, named_row(r.owner)));
-    typed(s, r.offset as usize, members::member_code(s, c, r.slot));
-}
-
-// What a row says.
-fn record(s: &[u8], table: &[u32], row: usize, r: Row, setting: Setting) {
-    let at = r.offset as usize;
-    let kind = r.kind;
-    match kind {
-        0 => header(r),
-        1 => class_by_id(s, table, r),
-        4 | 5 => class(s, r),
-        6 => string(s, table, row, r, setting),
-        7 => array(s, r),
-        8 => typed(s, on(s, at, 2), peeking::byte_at(s, on(s, at, 1))),
-        9 => arrow(r.id, r.link),
-        10 | 13 | 14 => counted(r.count, b"empty slot"),
-        11 => say(b"end"),
-        12 => library(s, r),
-        15 => primitive_array(s, r),
-        16 | 17 => slot_array(r),
-        _ => member(s, table, r),
+fn array_type(t: u8) -> &'static str {
+    match t {
+        0 => "single",
+        1 => "jagged",
+        _ => "rectangular",
     }
 }
 
-// ---- the slot that a row fills
+// ---- a list that was read
 
-// The number of a slot, and its member's name where its owner has members.
-fn slot_name(s: &[u8], table: &[u32], owner: Row, k: u32) {
-    number(k as u64);
-    if members::is_class(owner.kind) {
-        say(b" `");
-        spelling::text_of(
-            s,
-            members::member_name(s, members::class_row(table, owner), k),
+// The bytes of a list, the table that reading it filled, and the setting that it was read with.
+#[derive(Clone, Copy)]
+struct List<'a> {
+    s: &'a [u8],
+    table: &'a [u32],
+    setting: Setting,
+}
+
+impl List<'_> {
+    // An object whose class stands in another row.
+    fn class_by_id(self, r: Row) {
+        let c = members::class_row(self.table, r);
+        let members = Counted(r.count, "member");
+        say!(
+            "{}, {members}, class as in row {}: ",
+            Defined(r),
+            named_row(r.link)
         );
-        say(b"`");
+        quoted(self.s, members::class_name(self.s, c));
     }
-}
 
-// The slots of a null run; one of 0 fills none.
-fn slots(s: &[u8], table: &[u32], owner: Row, first: u32, count: u32) {
-    if count < 2 {
-        if count == 0 {
-            say(b"before ");
+    fn class(self, r: Row) {
+        say!("{}, {}", Defined(r), Counted(r.count, "member"));
+        if r.kind == 5 {
+            say!(", library {}", members::library_of(self.s, r).cast_signed());
         }
-        say(b"slot ");
-        slot_name(s, table, owner, first);
-        return;
+        say!(": ");
+        quoted(self.s, members::class_name(self.s, r));
     }
-    say(b"slots ");
-    slot_name(s, table, owner, first);
-    say(b" to ");
-    slot_name(s, table, owner, members::last_of(first, count));
+
+    // A string with its text, as the text view has it.
+    fn string(self, row: usize, r: Row) {
+        say!("{}", Defined(r));
+        match view::row_question(self.s, self.table, row, self.setting) {
+            RowAnswer::HasText => {
+                say!(": \"");
+                spelling::text(view::text_view(self.s, self.table, row, self.setting));
+                say!("\"");
+            }
+            RowAnswer::NoSuchRow => say!(" without text"),
+        }
+    }
+
+    // An array of kind 7: its lengths, its slots and the type of its items; primitive items lie in it.
+    fn array(self, r: Row) {
+        let s = self.s;
+        let start = r.offset as usize;
+        let at = on(s, start, 6);
+        let rank = peeking::u32_at(s, at);
+        let after = peeking::after_lengths(s, at, rank);
+        let t = byte_at(s, after);
+        let detail = on(s, after, 1);
+        say!(
+            "{} {}, ",
+            array_type(byte_at(s, on(s, start, 5))),
+            Defined(r)
+        );
+        shape(s, on(s, at, 4), rank);
+        say!("{} of ", Counted(r.count, "slot"));
+        type_name(s, t, detail);
+        if t == 0 {
+            listed(s, on(s, detail, 1), byte_at(s, detail), r.count);
+        }
+    }
+
+    // A primitive array of kind 15.
+    fn primitive_array(self, r: Row) {
+        let at = r.offset as usize;
+        let code = byte_at(self.s, on(self.s, at, 9));
+        say!(
+            "{}, {} of {}",
+            Defined(r),
+            Counted(r.count, "item"),
+            code_name(code)
+        );
+        listed(self.s, on(self.s, at, 10), code, r.count);
+    }
+
+    fn library(self, r: Row) {
+        say!("library {}: ", r.id.cast_signed());
+        quoted(
+            self.s,
+            peeking::string_at(self.s, on(self.s, r.offset as usize, 5)),
+        );
+    }
+
+    // A member value, whose code stands in its owner's class.
+    fn member(self, r: Row) {
+        let c = members::class_row(self.table, row_at(self.table, named_row(r.owner)));
+        typed(
+            self.s,
+            r.offset as usize,
+            members::member_code(self.s, c, r.slot),
+        );
+    }
+
+    // What a row says, by the number of its kind.
+    fn record(self, row: usize, r: Row) {
+        let s = self.s;
+        let at = r.offset as usize;
+        match r.kind {
+            0 => say!("header, root {}", Arrow(r)),
+            1 => self.class_by_id(r),
+            4 | 5 => self.class(r),
+            6 => self.string(row, r),
+            7 => self.array(r),
+            8 => typed(s, on(s, at, 2), byte_at(s, on(s, at, 1))),
+            9 => say!("{}", Arrow(r)),
+            10 | 13 | 14 => say!("{}", Counted(r.count, "empty slot")),
+            11 => say!("end"),
+            12 => self.library(r),
+            15 => self.primitive_array(r),
+            16 | 17 => say!("{}, {}", Defined(r), Counted(r.count, "slot")),
+            _ => self.member(r),
+        }
+    }
+
+    // The number of a slot, and its member's name where its owner has members.
+    fn slot(self, owner: Row, k: u32) {
+        say!("{k}");
+        if members::is_class(owner.kind) {
+            let c = members::class_row(self.table, owner);
+            say!(" `");
+            spelling::text_of(self.s, members::member_name(self.s, c, k));
+            say!("`");
+        }
+    }
+
+    // The slots of a null run; one of 0 fills none.
+    fn slots(self, owner: Row, first: u32, count: u32) {
+        match count {
+            0 => say!("before slot "),
+            1 => say!("slot "),
+            _ => say!("slots "),
+        }
+        self.slot(owner, first);
+        if 1 < count {
+            say!(" to ");
+            self.slot(owner, members::last_of(first, count));
+        }
+    }
 }
 
 // What a row says, after the slot that it fills; the text of a string by the setting that its list was read with.
 pub fn row(s: &[u8], table: &[u32], i: usize, setting: Setting) {
+    let list = List { s, table, setting };
     let r = row_at(table, i);
     if r.owner != 0 {
-        let owner = row_at(table, named_row(r.owner));
-        slots(s, table, owner, r.slot, members::filled(r));
-        say(b": ");
+        list.slots(
+            row_at(table, named_row(r.owner)),
+            r.slot,
+            members::filled(r),
+        );
+        say!(": ");
     }
-    record(s, table, i, r, setting);
+    list.record(i, r);
 }

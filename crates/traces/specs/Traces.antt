@@ -1,7 +1,5 @@
 -- What the comparing programs take as the hash of a table or output, what stands there before a job, and the sizes that stand before a stream.
-use Rattle.std.specs.Prelude.{ℕ, ◌+◌, ◌*◌, ◌%◌, List, [], ◌∷◌, length, replicate}
-use Rattle.format.specs.declared.Number32.{Number32}
-use Rattle.format.specs.declared.Number32.TheVariants as N32
+use Rattle.std.specs.Prelude.{ℕ, ◌+◌, ◌*◌, ◌%◌, List, [], ◌∷◌, length, replicate, Option, Some, None}
 use Rattle.format.specs.Numbers.{u32_at}
 use Rattle.traces.specs.declared.Lanes.{Lanes}
 
@@ -31,9 +29,9 @@ littered_bytes out = replicate (length out) 165
 
 -- ---- sizes
 
-abbrev pub or_zero : Number32 → ℕ
-or_zero (N32.Value n end) = n
-or_zero N32.Short = 0
+abbrev pub or_zero : Option (ℕ × ℕ) → ℕ
+or_zero (Some (n, end)) = n
+or_zero None = 0
 
 -- the number of four bytes at a place, 0 where a byte of it is missing
 abbrev pub size_at : List ℕ → ℕ → ℕ

@@ -5,13 +5,12 @@
 ghost use Rattle.std.specs.Prelude.{◌<◌, ◌≤◌, ◌≡◌, length, IfSome};
 ghost use Rattle.traces.specs.Traces.{stirred, lanes_of, littered_words, littered_bytes, size_at};
 
-use format::{Number32, Setting};
+use format::Setting;
 use options::Choice;
+use output::{Output, say};
 use std::env::Env;
 
 const STDIN: i32 = 0;
-
-const STDOUT: i32 = 1;
 
 // The table holds something else before each stream.
 pub fn litter_words(table: &mut [u32])
@@ -68,21 +67,14 @@ pub fn bytes(out: &[u8]) -> Lanes
     l
 }
 
-pub fn number(n: u64) {
-    io::print_decimal(STDOUT, n);
-}
-
 // A blank before each lane.
 pub fn print_lanes(l: Lanes) {
-    io::write_all(STDOUT, b" ");
-    number(l.a);
-    io::write_all(STDOUT, b" ");
-    number(l.b);
+    say!(" {} {}", l.a, l.b);
 }
 
 // `refused` number `at` place.
 pub fn refused(number_of: u32, place: usize) {
-    lines::refusal(STDOUT, number_of, place);
+    lines::refusal(Output::Standard, number_of, place);
 }
 
 // The number of four bytes at a place of what stands before a stream, or 0.
@@ -91,8 +83,8 @@ pub fn size_at(head: &[u8], at: usize) -> usize
 {
     let v = num::u32_at(head, at);
     match v {
-        Number32::Value(n, _) => n as usize,
-        Number32::Short => 0,
+        Some((n, _)) => n as usize,
+        None => 0,
     }
 }
 

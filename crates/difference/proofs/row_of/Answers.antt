@@ -1,5 +1,4 @@
--- Invariant: no row before row i ends past the place. Measure: the rows left.
-use Prim.Native.Nat.{◌-◌}
+-- Invariant: no row before row i ends past the place.
 use native.Mathlib.Omega.{arith}
 use borrow.Author.Rules.{rules}
 use Rattle.difference.specs.Laws.{row_here, row_on, row_none}

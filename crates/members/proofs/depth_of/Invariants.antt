@@ -6,6 +6,3 @@ use Rattle.members.proofs.depth_of.Given as goal
 
 abbrev pub invariant-loop-depth : goal.invariant-loop-depth
 invariant-loop-depth l = (l.depth ≤ 64) × (depth_from 64 l.table l.owner ≡ l.depth + depth_from (64 - l.depth) l.table l.w)
-
-abbrev pub decreases-loop-depth : goal.decreases-loop-depth
-decreases-loop-depth l = 64 - l.depth

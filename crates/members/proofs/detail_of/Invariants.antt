@@ -6,6 +6,3 @@ use Rattle.members.proofs.detail_of.Given as goal
 
 abbrev pub invariant-loop-i : goal.invariant-loop-i
 invariant-loop-i l = (l.i ≤ l.k) × (detail_from l.k l.s l.types 0 l.details ≡ detail_from (l.k - l.i) l.s l.types l.i l.at)
-
-abbrev pub decreases-loop-i : goal.decreases-loop-i
-decreases-loop-i l = l.k - l.i

@@ -1,10 +1,10 @@
 -- One law for each answer.
-use native.Mathlib.Omega.{arith}
+use Rattle.std.proofs.Common.{arith}
 use Rattle.members.specs.Laws.{library_none, library_last}
 use Rattle.members.proofs.library_of.Goals as goal
 
-pub returns-then-r-lt4 : goal.returns-then-r-lt4
-returns-then-r-lt4 c = library_none _ _ (omega arith)
+pub returns-in-Some : goal.returns-in-Some
+returns-in-Some c = let w = c.in-Some.ensures in rw (c.u32_at.ensures, w.1) (library_last _ _ w.0)
 
-pub returns : goal.returns
-returns c = rw c.u32_at.ensures (library_last _ _ (omega arith))
+pub returns-in-None : goal.returns-in-None
+returns-in-None c = library_none _ _ (omega arith)

@@ -1,13 +1,10 @@
 -- One law for each answer.
-use native.Mathlib.Omega.{arith}
+use Rattle.std.proofs.Common.{arith, inl, inr}
 use Rattle.members.specs.Laws.{word_out, word_none, word_in}
 use Rattle.members.proofs.word.Goals as goal
 
-pub returns-then-table-row : goal.returns-then-table-row
-returns-then-table-row c = word_out _ _ _ (omega arith)
+pub returns-then-k-lt8 : goal.returns-then-k-lt8
+returns-then-k-lt8 c = word_in _ _ _ (omega arith) (omega arith)
 
-pub returns-then-k-ge8 : goal.returns-then-k-ge8
-returns-then-k-ge8 c = word_none _ _ _ (omega arith) (omega arith)
-
-pub returns : goal.returns
-returns c = word_in _ _ _ (omega arith) (omega arith)
+pub returns-else-row-table : goal.returns-else-row-table
+returns-else-row-table c = elim c.else-row-table.either [ inl w ↦ word_none _ _ _ w.0 w.1 | inr w ↦ word_out _ _ _ w ]

@@ -3,30 +3,30 @@ use Rattle.peeking.specs.Peeking.{hidden_by}
 use Rattle.peeking.specs.Laws.{auto}
 use Rattle.peeking.proofs.hidden.Goals as goal
 
-pub returns-then-n-lt12746752 : goal.returns-then-n-lt12746752
+pub returns-in-0-to-12746751 : goal.returns-in-0-to-12746751
 unfolding hidden_by
-returns-then-n-lt12746752 c = search auto
+returns-in-0-to-12746751 c = search auto depth 9
 
-pub returns-then-n-lt12754944 : goal.returns-then-n-lt12754944
+pub returns-in-12746752-to-12754943 : goal.returns-in-12746752-to-12754943
 unfolding hidden_by
-returns-then-n-lt12754944 c = search auto
+returns-in-12746752-to-12754943 c = search auto depth 9
 
-pub returns-then-n-lt14844072 : goal.returns-then-n-lt14844072
+pub returns-in-14844072-to-14844078 : goal.returns-in-14844072-to-14844078
 unfolding hidden_by
-returns-then-n-lt14844072 c = search auto
+returns-in-14844072-to-14844078 c = search auto depth 9
 
-pub returns-then-n-lt14844079 : goal.returns-then-n-lt14844079
+pub returns-in-14844326-to-14844329 : goal.returns-in-14844326-to-14844329
 unfolding hidden_by
-returns-then-n-lt14844079 c = search auto
+returns-in-14844326-to-14844329 c = search auto depth 9
 
-pub returns-then-n-lt14844326 : goal.returns-then-n-lt14844326
+pub returns-in_default : goal.returns-in_default
 unfolding hidden_by
-returns-then-n-lt14844326 c = search auto depth 9
+returns-in_default c = search auto depth 9
 
-pub returns-then-n-lt14844330 : goal.returns-then-n-lt14844330
+pub returns-in_default-2 : goal.returns-in_default-2
 unfolding hidden_by
-returns-then-n-lt14844330 c = search auto depth 9
+returns-in_default-2 c = search auto depth 9
 
-pub returns : goal.returns
+pub returns-in_default-3 : goal.returns-in_default-3
 unfolding hidden_by
-returns c = search auto depth 9
+returns-in_default-3 c = search auto depth 9

@@ -1,7 +1,6 @@
--- The definition by halves is the code's.
-use Rattle.peeking.specs.Peeking.{two_at}
+-- The bytes one by one make the number.
+use Rattle.peeking.proofs.Numbers.{two_told}
 use Rattle.peeking.proofs.u16_at.Goals as goal
 
 pub returns : goal.returns
-unfolding two_at
-returns c = rw (c.join2.ensures, c.byte_at-2.ensures, c.on.ensures, c.byte_at.ensures)
+returns c = two_told _ _ _ _ c.from_le_bytes.ensures c.bytes_at.ensures

@@ -1,7 +1,6 @@
--- The definition by halves is the code's.
-use Rattle.peeking.specs.Peeking.{four_at}
+-- The bytes one by one make the number.
+use Rattle.peeking.proofs.Numbers.{four_told}
 use Rattle.peeking.proofs.u32_at.Goals as goal
 
 pub returns : goal.returns
-unfolding four_at
-returns c = rw (c.join4.ensures, c.u16_at-2.ensures, c.on.ensures, c.u16_at.ensures)
+returns c = four_told _ _ _ _ c.from_le_bytes.ensures c.bytes_at.ensures

@@ -1,7 +1,6 @@
--- The definition by halves is the code's.
-use Rattle.peeking.specs.Peeking.{eight_at}
+-- The bytes one by one make the number.
+use Rattle.peeking.proofs.Numbers.{eight_told}
 use Rattle.peeking.proofs.u64_at.Goals as goal
 
 pub returns : goal.returns
-unfolding eight_at
-returns c = rw (c.join8.ensures, c.u32_at-2.ensures, c.on.ensures, c.u32_at.ensures)
+returns c = eight_told _ _ _ _ c.from_le_bytes.ensures c.bytes_at.ensures

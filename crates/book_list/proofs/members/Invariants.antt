@@ -1,9 +1,0 @@
--- The measure is how many members are left.
-use Rattle.std.specs.Prelude.{◌≤◌, ◌-◌}
-use Rattle.book_list.proofs.members.Given as goal
-
-abbrev pub invariant-loop-i : goal.invariant-loop-i
-invariant-loop-i l = l.i ≤ l.n
-
-abbrev pub decreases-loop-i : goal.decreases-loop-i
-decreases-loop-i l = l.n - l.i

@@ -1,0 +1,3 @@
+-- Lemmas of the proofs.
+mod Numbers
+mod Plain
