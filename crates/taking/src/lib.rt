@@ -41,7 +41,8 @@ pub fn take_object(
     })
 }
 
-// A record that fills k slots of the object it stands in.
+// A record that fills k slots of the object it stands in. It is inlined always, since its answer goes by value: called, it made reading a fifth slower.
+#[inline(always)]
 pub fn take_slots(
     table: &mut [u32],
     frames: &[u32; Reader::WORDS],
