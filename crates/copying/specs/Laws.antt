@@ -21,6 +21,15 @@ use Rattle.pieces.specs.declared.Gathered.{Gathered}
 use Rattle.pieces.specs.Copy.{record_out, none_yet, is_passed, before_out, more_of, run_after, row_out, copy_from, copy_of}
 
 -- ---- null runs
+pub nulls_known : (kind n : ℕ) → kind ≡ n → is_nulls n ≡ is_nulls kind
+nulls_known kind n h = ap (λ (k : ℕ). is_nulls k) (sym h)
+
+pub nulls_none : (kind : ℕ) → (kind ≡ 10 → ⊥) → (kind ≡ 13 → ⊥) → (kind ≡ 14 → ⊥) → false ≡ is_nulls kind
+nulls_none kind a b c = rw (ne_eqb _ _ a, ne_eqb _ _ b, ne_eqb _ _ c)
+
+pub passed_12 : (r : Row) → r.kind ≡ 12 → true ≡ is_passed r
+passed_12 r h = sym (ap (λ (t : Bool). pick t true (pick (is_nulls r.kind) (eqb r.count 0) false)) (eq-eqb _ _ h))
+
 -- a row of this kind and owner is more of the nulls gathered so far
 unfoldable pub is_more : Gathered → ℕ → ℕ → Bool
 is_more w kind owner = pick (is_nulls kind) (eqb owner w.owner) false
@@ -31,8 +40,11 @@ module _ (r : Row) (other : r.kind ≡ 12 → ⊥) (t : Bool) (x : t ≡ is_null
       ap (λ (z : Bool). pick z true (pick (is_nulls r.kind) (eqb r.count 0) false)) (ne_eqb _ _ other)
       ∙ ap (λ (z : Bool). pick z (eqb r.count 0) false) (sym x)
 
-  passed_nulls : (q : Bool) → t ≡ true → q ≡ eqb r.count 0 → q ≡ is_passed r
+  pub passed_nulls : (q : Bool) → t ≡ true → q ≡ eqb r.count 0 → q ≡ is_passed r
   passed_nulls q h y = sym (passed_of_lem ∙ (ap (λ (z : Bool). pick z (eqb r.count 0) false) h ∙ sym y))
+
+  pub passed_none : t ≡ false → false ≡ is_passed r
+  passed_none h = sym (passed_of_lem ∙ ap (λ (z : Bool). pick z (eqb r.count 0) false) h)
 
 module _ (w : Gathered) (r : Row) (p : Bool) (x : p ≡ is_passed r) where
   pub before_passed : p ≡ true → before_out w r ≡ []
@@ -55,13 +67,28 @@ module _ (w : Gathered) (r : Row) (p : Bool) (x : p ≡ is_passed r) where
       folded true v = refl
       folded false v = refl
 
-  pub before_more : p ≡ false → (t : Bool) → t ≡ is_more w r.kind r.owner → t ≡ true → before_out w r ≡ []
-  before_more h t y k = before_by h t y ∙ rw k
+  pub before_added : p ≡ false → (t : Bool) → t ≡ is_more w r.kind r.owner → t ≡ true → before_out w r ≡ []
+  before_added h t y k = before_by h t y ∙ rw k
 
-  pub before_other : p ≡ false → (t : Bool) → t ≡ is_more w r.kind r.owner → t ≡ false → before_out w r ≡ run_out w.count
-  before_other h t y k = before_by h t y ∙ rw k
+  pub before_apart : p ≡ false → (t : Bool) → t ≡ is_more w r.kind r.owner → t ≡ false → before_out w r ≡ run_out w.count
+  before_apart h t y k = before_by h t y ∙ rw k
 
   module _ (h : p ≡ false) (t : Bool) (y : t ≡ is_nulls r.kind) where
+    before_of : before_out w r ≡ pick t (pick (eqb r.owner w.owner) [] (run_out w.count)) (run_out w.count)
+    unfolding before_out
+    before_of =
+        ap (λ (a : Bool). pick a [] (pick (is_nulls r.kind) (pick (eqb r.owner w.owner) [] (run_out w.count)) (run_out w.count))) (sym x ∙ h)
+        ∙ ap (λ (a : Bool). pick a (pick (eqb r.owner w.owner) [] (run_out w.count)) (run_out w.count)) (sym y)
+
+    pub before_more : t ≡ true → r.owner ≡ w.owner → before_out w r ≡ []
+    before_more k e = before_of ∙ rw (k, eq-eqb _ _ e)
+
+    pub before_other : t ≡ true → (r.owner ≡ w.owner → ⊥) → before_out w r ≡ run_out w.count
+    before_other k e = before_of ∙ rw (k, ne_eqb _ _ e)
+
+    pub before_record : t ≡ false → before_out w r ≡ run_out w.count
+    before_record k = before_of ∙ rw k
+
     after_of : run_after w r ≡ pick t (more_of w r) none_yet
     unfolding run_after
     after_of =
@@ -129,6 +156,13 @@ module _ (δ : ℕ) (s d e y : List ℕ) (rs : List Row) (n i a b m t : ℕ) (w 
   )
 
 -- ---- more of the nulls before
+pub more_known : (w : Gathered) (kind owner : ℕ) (t : Bool) → t ≡ is_nulls kind → t ≡ true → eqb owner w.owner ≡ is_more w kind owner
+unfolding is_more
+more_known w kind owner t x h = let n : is_nulls kind ≡ true = sym x ∙ h in rw n
+
+pub more_none : (w : Gathered) (kind owner : ℕ) (t : Bool) → t ≡ is_nulls kind → t ≡ false → false ≡ is_more w kind owner
+unfolding is_more
+more_none w kind owner t x h = let n : is_nulls kind ≡ false = sym x ∙ h in rw n
 
 either : {X : Type 0} (t u : Bool) → (t ≡ true → X) → (u ≡ true → X) → pick t true u ≡ true → X
 either true u f g h = f refl

@@ -2,7 +2,7 @@
 // empty one. What fills the space that is lent for it may go on, and is too large.
 #![tactic(auto)]
 
-ghost use Rattle.std.specs.Prelude.{◌≡◌, ◌≤◌, ◌<◌, length, ltb, is_some, IfSome, IfOk};
+ghost use Rattle.std.specs.Prelude.{◌≡◌, ◌≤◌, ◌<◌, length, ltb, is_ok, IfSome, IfOk};
 
 use format::Setting;
 use options::Choice;
@@ -37,15 +37,15 @@ pub fn read_full(file: &mut impl Read, space: &mut [u8]) -> usize
     done
 }
 
-// The n bytes that were put into a space. None where they fill it, since what they are of may go on.
-fn whole(space: &[u8], n: usize) -> Option<&[u8]>
-    ensures short { IfSome result (λ s. length s.now ≡ n) }
-    ensures variant { is_some result ≡ ltb n (length space.now) }
+// The n bytes that were put into a space. Too large where they fill it, since what they are of may go on.
+pub fn whole(space: &[u8], n: usize) -> Result<&[u8], Unusable>
+    ensures short { IfOk result (λ s. length s.now ≡ n) }
+    ensures variant { is_ok result ≡ ltb n (length space.now) }
 {
     if n < space.len() {
-        Some(&space[..n])
+        Ok(&space[..n])
     } else {
-        None
+        Err(Unusable::TooLarge)
     }
 }
 
@@ -54,23 +54,19 @@ pub fn input(space: &mut [u8]) -> Option<&[u8]>
     ensures { IfSome result (λ s. length s.now < length space.old) }
 {
     let n = io::read_full(STDIN, space);
-    whole(space, n)
+    whole(space, n).ok()
 }
 
-// The bytes of the file that word i names, put into `space`. A name that is not UTF-8 names no file that can be opened.
-pub fn load<'a>(
-    rt: &(impl Env + Files),
-    i: usize,
-    space: &'a mut [u8],
-) -> Result<&'a [u8], Unusable>
-    ensures { IfOk result (λ s. length s.now < length space.old) }
+// Puts the bytes of the file that word i names into `space`, as many as it has room for, and answers how many: `whole` tells whether that is all. A name
+// that is not UTF-8 names no file that can be opened.
+pub fn load(rt: &(impl Env + Files), i: usize, space: &mut [u8]) -> Result<usize, Unusable>
+    ensures { IfOk result (λ n. n ≤ length space.new) }
 {
     let mut path = io::buffer();
     let n = rt.arg(i, &mut path).unwrap_or(0);
     let name = str::from_utf8(&path[..n]).map_err(|_| Unusable::Unopened)?;
     let mut file = File::open(rt, name).map_err(|_| Unusable::Unopened)?;
-    let n = read_full(&mut file, space);
-    whole(space, n).ok_or(Unusable::TooLarge)
+    Ok(read_full(&mut file, space))
 }
 
 // Says to an output that the class book which word i names cannot be used, and why.
@@ -96,7 +92,7 @@ pub fn with_book<F: FnOnce(&[u8])>(rt: &(impl Env + Files), to: Output, word: Op
         return;
     };
     let mut room: [u8; 1048576] = rooms::room(0);
-    match load(rt, i, &mut room) {
+    match load(rt, i, &mut room).and_then(|n| whole(&room, n)) {
         Ok(book) => job(book),
         Err(why) => unusable_book(rt, to, i, why),
     }

@@ -51,6 +51,14 @@ Hollow (Err f) = Unit {0}
 -- ---- the slots
 
 module _ (k : ℕ) where
+  pub string_rest : (k ≡ 6 → ⊥) → allowed W.StringSlot k ≡ in_slot k
+  unfolding allowed
+  string_rest six = rw (ne_eqb k 6 six)
+
+  pub object_rest : (k ≡ 1 → ⊥) → (k ≡ 4 → ⊥) → (k ≡ 5 → ⊥) → (k ≡ 6 → ⊥) → (k ≡ 8 → ⊥) → allowed W.ObjectSlot k ≡ in_slot k
+  unfolding allowed
+  object_rest one four five six eight = rw (ne_eqb k 1 one, ne_eqb k 4 four, ne_eqb k 5 five, ne_eqb k 6 six, ne_eqb k 8 eight)
+
   -- ---- a kind byte
 
   module _ (w : Where) where

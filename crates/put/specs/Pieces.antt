@@ -35,12 +35,18 @@ pub number_unfilled : (n : ℕ) (d : List ℕ) → length d < 4 → Filled (le_b
 unfolding le_bytes
 number_unfilled n d h = unfilled (le_bytes 4 n) d 4 refl (omega arith) h
 
-pub number_filled : (n : ℕ) (d ys : List ℕ) → 4 ≤ length d → ys ≡ to_le_bytes w32 n → Filled (le_bytes 4 n) d (ys ++ drop 4 d) 4
+pub number_written : (n : ℕ) (d ys : List ℕ) → 4 ≤ length d → ys ≡ to_le_bytes w32 n → Filled (le_bytes 4 n) d (ys ++ drop 4 d) 4
 unfolding le_bytes laid
-number_filled n d ys h e =
+number_written n d ys h e =
     let two : n / 65536 ≡ n / 256 / 256 = omega arith in
     let three : n / 16777216 ≡ n / 256 / 256 / 256 = omega arith in
     filled (le_bytes 4 n) d _ 4 refl (omega arith) (rw (e, two, three))
+
+-- the same by four stores
+pub number_filled : (n : ℕ) (d : List ℕ) → 4 ≤ length d
+    → Filled (le_bytes 4 n) d (set (set (set (set d 0 (n % 256)) 1 (n / 256 % 256)) 2 (n / 256 / 256 % 256)) 3 (n / 256 / 256 / 256 % 256)) 4
+unfolding le_bytes laid
+number_filled n d h = filled (le_bytes 4 n) d _ 4 refl (omega arith) (sets-eq (le_bytes 4 n) d 0 h)
 
 -- a number is written by its low 32 bits
 low_byte : (n r q : ℕ) → n ≡ r + 256 * q → n % 256 ≡ r % 256

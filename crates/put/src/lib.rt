@@ -19,6 +19,7 @@ pub fn least(a: usize, b: usize) -> usize
 }
 
 // The sum, or the greatest usize where that is more.
+#[tactic(auto, unfolding(crate::specs::Put::capped))]
 pub fn add_up(a: usize, b: usize) -> usize
     ensures { result ≡ capped (a + b) }
 {

@@ -9,9 +9,22 @@ use floats::Form;
 use format::Span;
 use output::{Output, say};
 use peeking::{byte_at, on, u16_at, u32_at, u64_at};
-use std::fmt;
+use std::{fmt, str};
 
 // ---- texts
+
+// The hexadecimal digits.
+const DIGITS: [u8; 16] = *b"0123456789abcdef";
+
+// A byte by its two hexadecimal digits: four characters that go to the output at once, where a format would write a zero before a digit by itself.
+fn by_digits(b: u8) -> [u8; 4] {
+    [
+        b'\\',
+        b'x',
+        DIGITS[usize::from(b / 16)],
+        DIGITS[usize::from(b % 16)],
+    ]
+}
 
 // A byte that is not shown as it is.
 #[derive(Clone, Copy)]
@@ -25,7 +38,7 @@ impl fmt::Display for Escaped {
             b'\r' => f.write_str("\\r"),
             b'"' => f.write_str("\\\""),
             b'`' => f.write_str("\\`"),
-            b => write!(f, "\\x{b:02x}"),
+            b => f.write_str(str::from_utf8(&by_digits(b)).unwrap_or("")),
         }
     }
 }

@@ -63,9 +63,15 @@ module _ (δ : ℕ) (s : List ℕ) (p : ℕ) (r : Row) where
 -- ---- the loop
 
 module _ (δ : ℕ) (s : List ℕ) (n : ℕ) (t : List ℕ) (i p : ℕ) where
-  pub stretch_end : n ≡ i → stretch δ s i p (drop i (rows_of n t)) ≡ record { next = n; end = p }
+  pub stretch_end : n ≤ i → stretch δ s i p (drop i (rows_of n t)) ≡ record { next = i; end = p }
   unfolding stretch
-  stretch_end e =
+  stretch_end h =
+      let l = length_rows_of n t in
+      rw (drop_of_length-le (rows_of n t) {i = i} (omega arith))
+
+  pub stretch_all : n ≡ i → stretch δ s i p (drop i (rows_of n t)) ≡ record { next = n; end = p }
+  unfolding stretch
+  stretch_all e =
       let l = length_rows_of n t in
       rw (drop_of_length-le (rows_of n t) {i = i} (omega arith), e)
 

@@ -1,8 +1,10 @@
 -- The rows of a table as chunks of eight words: how many they are, their words, one read, one written, one more.
 use Rattle.std.specs.Prelude.{◌≡◌, refl, List, [], ◌∷◌, ◌++◌, map, ℕ, zero, suc, ◌+◌, ◌-◌, ◌*◌, ◌≤◌, ◌<◌, length, get_or, take, drop, set, replicate}
-use Rattle.std.proofs.Common.{sym, ap, ◌∙◌, append-nil, arith, add-zero, add-one, length-drop, drop-drop, get_or-drop, get_or-take, take-add, length-take-le}
+use Rattle.std.proofs.Common.{sym, ap, ◌∙◌, append_assoc, append-nil, arith, add-zero, add-one, length-drop, drop-drop, get_or-drop, get_or-take, take-add, length-take-le}
 use Rattle.std.proofs.lemmas.List.{map-append, length-map, set_at}
+use Rattle.std.proofs.Math.Numerals.{add-two, add-three, add-four, add_five, add_six, add_seven}
 use Rattle.std.proofs.Math.ListN.{get_or-map, get_or-eq_default}
+use Rattle.std.proofs.lemmas.List.Edits.{sets, sets-eq}
 use Rattle.std.proofs.Math.Seq.{take-length, drop-length}
 use Rattle.format.specs.declared.Row.{Row}
 use Rattle.format.specs.Rows.{blank, room_of, words, row_of, rows_of, with_link}
@@ -119,16 +121,32 @@ row_out_lem n i t h =
 -- ---- writing
 
 -- eight words over row i
-pub row_over : (n i : ℕ) (t ys : List ℕ) (r : Row) → i < n → 8 * n ≤ length t
+pub row_written : (n i : ℕ) (t ys : List ℕ) (r : Row) → i < n → 8 * n ≤ length t
     → ys ≡ r.kind ∷ r.offset ∷ r.end ∷ r.id ∷ r.owner ∷ r.slot ∷ r.link ∷ r.count ∷ []
     → rows_of n (take (8 * i) t ++ (ys ++ drop (8 * i + 8 - 8 * i) (drop (8 * i) t))) ≡ set (rows_of n t) i r
 unfolding words
-row_over n i t ys r h l e =
+row_written n i t ys r h l e =
     let d : 8 * i + 8 - 8 * i ≡ 8 = omega arith in
     let q : chunks 8 n (take (8 * i) t ++ (words (r ∷ []) ++ drop (8 * i + 8) t)) ≡ set (chunks 8 n t) i (words (r ∷ [])) =
     chunk_over 8 n i t (words (r ∷ [])) refl h l in
     rw (e, d, drop-drop 8 (8 * i) t)
     (rw (rows_of_chunks n (take (8 * i) t ++ (words (r ∷ []) ++ drop (8 * i + 8) t)), q, map_set, rows_of_chunks))
+
+-- eight stores over row i
+abbrev pub over : List ℕ → ℕ → Row → List ℕ
+over t i r =
+    set (set (set (set (set (set (set (set t (8 * i) r.kind) (8 * i + 1) r.offset) (8 * i + 2) r.end) (8 * i + 3) r.id) (8 * i + 4)
+    r.owner) (8 * i + 5) r.slot) (8 * i + 6) r.link) (8 * i + 7) r.count
+
+pub row_over : (n i : ℕ) (t : List ℕ) (r : Row) → i < n → 8 * n ≤ length t → rows_of n (over t i r) ≡ set (rows_of n t) i r
+unfolding words
+row_over n i t r h l =
+    let b : ℕ = 8 * i in
+    let e : sets t b (words (r ∷ [])) ≡ take b t ++ words (r ∷ []) ++ drop (b + 8) t = sets-eq (words (r ∷ [])) t b (omega arith) in
+    let q : chunks 8 n (take b t ++ (words (r ∷ []) ++ drop (b + 8) t)) ≡ set (chunks 8 n t) i (words (r ∷ [])) =
+    chunk_over 8 n i t (words (r ∷ [])) refl h l in
+    simp (add-one b, add-two b, add-three b, add-four b, add_five b, add_six b, add_seven b)
+    (rw (e, rows_of_chunks n (take b t ++ words (r ∷ []) ++ drop (b + 8) t), append_assoc (take b t) (words (r ∷ [])) (drop (b + 8) t), q, map_set, rows_of_chunks))
 
 -- the row after the first n is one row more
 pub row_more : (n : ℕ) (t u : List ℕ) (r : Row) → rows_of (n + 1) u ≡ set (rows_of (n + 1) t) n r → rows_of (n + 1) u ≡ rows_of n t ++ (r ∷ [])

@@ -11,7 +11,9 @@ use Rattle.text.specs.Laws.{need_bound}
 use Rattle.text.specs.Steps.{waits, lead, begins, along, next, not_broken, has_next}
 use Rattle.text.specs.Scalars.{ends_at, width_at}
 use Rattle.text.specs.Rows.{row_1, breaks_first, from_first, by_row_1}
-use Rattle.text.specs.Rests.{rest, In, of_all}
+use Rattle.text.specs.Rests.{rest, rest_is, In, of_all}
+use Rattle.std.proofs.lemmas.Nat.{le_or_l, le_or_r}
+use lib.Bits.{bit_or}
 
 -- of the bytes that are waited for, as many as the first byte says are enough
 enough : (k lo hi : ℕ) (l : List ℕ) → (after (waits k lo hi) l).need ≡ 0 → (after (waits k lo hi) (take k l)).need ≡ 0
@@ -88,7 +90,7 @@ scalar_on s i n e z h =
 plain_on : (s : List ℕ) (i : ℕ) → i < length s → get_or s i 0 ≤ 0x7F → well_formed (drop i s) ≡ well_formed (drop (i + 1) s)
 plain_on s i h u = (scalar_on s i 1 (by_row_1 s i h (row_1 (get_or s i 0) u)) (omega arith) h).1
 
-plain_four : (s : List ℕ) (i : ℕ) → i + 4 ≤ length s → get_or s i 0 ≤ 0x7F → get_or s (i + 1) 0 ≤ 0x7F → get_or s (i + 2) 0 ≤ 0x7F → get_or s (i + 3) 0 ≤ 0x7F
+pub plain_four : (s : List ℕ) (i : ℕ) → i + 4 ≤ length s → get_or s i 0 ≤ 0x7F → get_or s (i + 1) 0 ≤ 0x7F → get_or s (i + 2) 0 ≤ 0x7F → get_or s (i + 3) 0 ≤ 0x7F
     → well_formed (drop i s) ≡ well_formed (drop (i + 4) s)
 plain_four s i h a b c d =
     let two : i + 1 + 1 ≡ i + 2 = omega arith in
@@ -107,6 +109,33 @@ plain_rest s i a b c d =
     let t = of_all s i 3 (i + 3) 0 0x7F (omega arith) d in
     let l : i + 4 ≤ length s = omega (arith, t.0) in
     (l, plain_four s i l p.1.1 q.1.1 r.1.1 t.1.1)
+
+-- the same, by the bytes' or, which is as large as each of them
+low_four : (a b c d : ℕ) → bit_or (bit_or (bit_or a b) c) d ≤ 0x7F → (a ≤ 0x7F) × (b ≤ 0x7F) × (c ≤ 0x7F) × (d ≤ 0x7F)
+low_four a b c d h =
+    let x = bit_or a b in
+    let y = bit_or x c in
+    let i : a ≤ x = le_or_l a b in
+    let j : b ≤ x = le_or_r a b in
+    let k : x ≤ y = le_or_l x c in
+    let l : c ≤ y = le_or_r x c in
+    let m : y ≤ bit_or y d = le_or_l y d in
+    let n : d ≤ bit_or y d = le_or_r y d in
+    (omega arith, omega arith, omega arith, omega arith)
+
+pub plain_or : (s : List ℕ) (i : ℕ) → 4 ≤ length (rest s i)
+    → bit_or (bit_or (bit_or (get_or (rest s i) 0 0) (get_or (rest s i) 1 0)) (get_or (rest s i) 2 0)) (get_or (rest s i) 3 0) ≤ 0x7F
+    → (i + 4 ≤ length s) × (well_formed (drop i s) ≡ well_formed (drop (i + 4) s))
+plain_or s i l h =
+    let q = low_four (get_or (rest s i) 0 0) (get_or (rest s i) 1 0) (get_or (rest s i) 2 0) (get_or (rest s i) 3 0) h in
+    plain_rest s i (omega arith, (omega arith, q.0)) (omega arith, (omega arith, q.1)) (omega arith, (omega arith, q.2)) (omega arith, (omega arith, q.3))
+
+-- after m bytes of what is left
+pub plain_behind : (s : List ℕ) (i m : ℕ) → i ≤ length s → (m ≤ length (rest s i)) × (well_formed (rest s i) ≡ well_formed (drop m (rest s i)))
+    → (i + m ≤ length s) × (well_formed (drop i s) ≡ well_formed (drop (i + m) s))
+plain_behind s i m h p =
+    let q : (m ≤ length (drop i s)) × (well_formed (drop i s) ≡ well_formed (drop m (drop i s))) = rw (rest_is s i) at p in
+    (omega (arith, q.0, length-drop i s), q.1 ∙ rw (drop-drop m i s) refl)
 
 -- without a scalar
 pub scalar_none : (s : List ℕ) (i n : ℕ) → n ≡ width_at s i → n ≡ 0 → i < length s → well_formed (drop i s) ≡ false

@@ -32,7 +32,7 @@ in_has s i lo hi e = go (dec_lt i (length s)) (dec_lt (get_or s i 0) lo) (dec_lt
     go (yes h) (no l) (no u) = (h, (omega arith, omega arith))
 
 module _ (s : List ℕ) (i : ℕ) where
-  rest_is : rest s i ≡ drop i s
+  pub rest_is : rest s i ≡ drop i s
   rest_is = rw length-drop at (take-length (drop i s))
 
   -- a byte of what is left is one of all

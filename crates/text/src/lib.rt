@@ -40,12 +40,15 @@ fn width_at(s: &[u8], i: usize) -> usize
 }
 
 // How many bytes of row 1 s begins with, rounded down to a multiple of four: most texts have hardly any others, and this is the quick way through
-// them.
+// them. The or of four bytes is as large as the largest, so one test does for four.
 fn plain(s: &[u8]) -> usize
     ensures { (result ≤ length s.now) × (well_formed s.now ≡ well_formed (drop result s.now)) }
 {
     let mut n: usize = 0;
-    while let [0x00..=0x7F, 0x00..=0x7F, 0x00..=0x7F, 0x00..=0x7F, ..] = &s[n..] {
+    while let &[a, b, c, d, ..] = &s[n..] {
+        if (a | b | c | d) > 0x7F {
+            return n;
+        }
         n += 4;
     }
     n
@@ -56,13 +59,16 @@ pub fn well_formed(s: &[u8]) -> bool
     ensures { result ≡ well_formed s.now }
 {
     let mut i: usize = plain(s);
-    // A step is as wide as a scalar, so no range counts it.
+    // A step is as wide as a scalar, so no range counts it. Behind a byte of row 1 there may be more of them, which go the quick way again.
     while i < s.len() {
         let n = width_at(s, i);
         if n == 0 {
             return false;
         }
         i += n;
+        if n == 1 {
+            i += plain(&s[i..]);
+        }
     }
     true
 }

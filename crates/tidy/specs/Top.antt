@@ -41,6 +41,12 @@ module _ (τ : Terms) (s t u : List ℕ) (q : Result ℕ Untidied) where
   pub restored_none : (why : Untidied) → q ≡ Err why → u ≡ replicate (length t) 0 → u ≡ restored τ s t q
   restored_none why k e = e ∙ sym (ap (restored τ s t) k)
 
+  pub restored_refused : (r : Refusal) (p : ℕ) → q ≡ Err (Q.Refused (record { refusal = r; place = p })) → u ≡ replicate (length t) 0 → u ≡ restored τ s t q
+  restored_refused r p = restored_none (Q.Refused (record { refusal = r; place = p }))
+
+  pub restored_full : (n : ℕ) → q ≡ Err (Q.OutFull n) → u ≡ replicate (length t) 0 → u ≡ restored τ s t q
+  restored_full n = restored_none (Q.OutFull n)
+
 -- ---- an accepted reading
 
 -- the stream s was read into a table that held t, which then held u and n bound rows
