@@ -40,7 +40,9 @@ fn width_at(s: &[u8], i: usize) -> usize
 }
 
 // How many bytes of row 1 s begins with, rounded down to a multiple of four: most texts have hardly any others, and this is the quick way through
-// them. The or of four bytes is as large as the largest, so one test does for four.
+// them. The or of four bytes is as large as the largest, so one test does for four. It is inlined always: called,
+// it would cost texts half as much again in which other scalars stand between single bytes.
+#[inline(always)]
 fn plain(s: &[u8]) -> usize
     ensures { (result ≤ length s.now) × (well_formed s.now ≡ well_formed (drop result s.now)) }
 {
