@@ -14,6 +14,7 @@ fn bytes_at<const N: usize>(s: &[u8], at: usize) -> Option<[u8; N]>
     fields::part_at(s, at, N)?.try_into().ok()
 }
 
+#[tactic(auto, using(crate::specs::Read::u16_short))]
 pub fn u16_at(s: &[u8], at: usize) -> Option<(u16, usize)>
     ensures { result ≡ u16_at s.now at }
 {
