@@ -125,7 +125,8 @@ fn with_list<F: FnOnce(&[u8])>(rt: &(impl Env + Files), i: usize, job: F)
     requires { F.IsAlwaysCallable job }
 {
     let mut space = io::large_buffer();
-    match files::load(rt, i, &mut space).and_then(|n| files::whole(&space, n)) {
+    let n = files::load(rt, i, &mut space).ok_or(Unusable::Unopened);
+    match n.and_then(|n| files::whole(&space, n)) {
         Ok(s) => job(s),
         Err(why) => unusable(rt, i, why),
     }

@@ -57,16 +57,16 @@ pub fn input(space: &mut [u8]) -> Option<&[u8]>
     whole(space, n).ok()
 }
 
-// Puts the bytes of the file that word i names into `space`, as many as it has room for, and answers how many: `whole` tells whether that is all. A name
-// that is not UTF-8 names no file that can be opened.
-pub fn load(rt: &(impl Env + Files), i: usize, space: &mut [u8]) -> Result<usize, Unusable>
-    ensures { IfOk result (λ n. n ≤ length space.new) }
+// Puts the bytes of the file that word i names into `space`, as many as it has room for, and answers how many: `whole` tells whether that is all. None
+// where the file cannot be opened. A name that is not UTF-8 names no such file.
+pub fn load(rt: &(impl Env + Files), i: usize, space: &mut [u8]) -> Option<usize>
+    ensures { IfSome result (λ n. n ≤ length space.new) }
 {
     let mut path = io::buffer();
     let n = rt.arg(i, &mut path).unwrap_or(0);
-    let name = str::from_utf8(&path[..n]).map_err(|_| Unusable::Unopened)?;
-    let mut file = File::open(rt, name).map_err(|_| Unusable::Unopened)?;
-    Ok(read_full(&mut file, space))
+    let name = str::from_utf8(&path[..n]).ok()?;
+    let mut file = File::open(rt, name).ok()?;
+    Some(read_full(&mut file, space))
 }
 
 // Says to an output that the class book which word i names cannot be used, and why.
@@ -92,7 +92,8 @@ pub fn with_book<F: FnOnce(&[u8])>(rt: &(impl Env + Files), to: Output, word: Op
         return;
     };
     let mut room: [u8; 1048576] = rooms::room(0);
-    match load(rt, i, &mut room).and_then(|n| whole(&room, n)) {
+    let n = load(rt, i, &mut room).ok_or(Unusable::Unopened);
+    match n.and_then(|n| whole(&room, n)) {
         Ok(book) => job(book),
         Err(why) => unusable_book(rt, to, i, why),
     }
