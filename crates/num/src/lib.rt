@@ -2,8 +2,7 @@
 // the place is.
 #![tactic(auto)]
 
-ghost use Rattle.std.specs.Prelude.{◌+◌, ◌≤◌, length, ◌≡◌, OnSome, IsNone, ◌↔◌, ◌<◌};
-ghost use Rattle.format.specs.Bytes.{part};
+ghost use Rattle.std.specs.Prelude.{◌+◌, ◌≤◌, ◌≡◌, ◌↔◌, ◌<◌};
 ghost use Rattle.format.specs.Numbers.{u16_at, u32_at, u64_at, negative};
 ghost use Rattle.num.specs.Read.{bytes_at};
 

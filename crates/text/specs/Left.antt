@@ -110,7 +110,7 @@ plain_rest s i a b c d =
     let l : i + 4 ≤ length s = omega (arith, t.0) in
     (l, plain_four s i l p.1.1 q.1.1 r.1.1 t.1.1)
 
--- the same, by the bytes' or, which is as large as each of them
+-- the same, by the bytes' or, which is at least as large as each of them
 low_four : (a b c d : ℕ) → bit_or (bit_or (bit_or a b) c) d ≤ 0x7F → (a ≤ 0x7F) × (b ≤ 0x7F) × (c ≤ 0x7F) × (d ≤ 0x7F)
 low_four a b c d h =
     let x = bit_or a b in

@@ -3,7 +3,7 @@
 
 ghost use Rattle.std.specs.Prelude.{◌≡◌, ◌≤◌, ◌<◌, length, drop};
 ghost use Rattle.format.specs.Text.{need_of, well_formed, text_at};
-ghost use Rattle.text.specs.Scalars.{has_at, width_of, width_at};
+ghost use Rattle.text.specs.Scalars.{width_at};
 
 use format::Refusal;
 
@@ -40,8 +40,8 @@ fn width_at(s: &[u8], i: usize) -> usize
 }
 
 // How many bytes of row 1 s begins with, rounded down to a multiple of four: most texts have hardly any others, and this is the quick way through
-// them. The or of four bytes is as large as the largest, so one test does for four. It is inlined always: called,
-// it would cost texts half as much again in which other scalars stand between single bytes.
+// them. The or of four bytes is over 7F exactly where one of them is, so one test does for four. It is inlined always: called, it would make texts
+// in which other scalars stand between single bytes take half as long again.
 #[inline(always)]
 fn plain(s: &[u8]) -> usize
     ensures { (result ≤ length s.now) × (well_formed s.now ≡ well_formed (drop result s.now)) }

@@ -1,5 +1,5 @@
 -- The bytes at the place say the number; where they are missing, there is none.
-use Rattle.std.proofs.Common.{sym, ap, ◌∙◌}
+use Rattle.std.proofs.Common.{sym, ◌∙◌}
 use Rattle.format.specs.Numbers.{u32_at}
 use Rattle.num.specs.Read.{no_bytes, bytes_there, four_bytes}
 use Rattle.num.proofs.u32_at.Goals as goal
